@@ -1,0 +1,2 @@
+pub mod LoadSegment
+pub mod LoadImage
