@@ -1,0 +1,23 @@
+//! A hart of RV32IM: its registers and pc, one instruction, and a segment of instructions up to a stop,
+//! over any memory (RISC-V Unprivileged ISA, document version 20191213, chapters 2 and 7).
+#![tactic(auto)]
+
+mod arithmetic;
+mod cause;
+mod control;
+mod execute;
+mod instruction;
+mod segment;
+mod state;
+mod stepped;
+mod stop;
+mod transfer;
+mod trap;
+
+pub use cause::Cause;
+pub use instruction::step;
+pub use segment::run_to_stop;
+pub use state::Hart;
+pub use stepped::Stepped;
+pub use stop::Stop;
+pub use trap::Trap;
