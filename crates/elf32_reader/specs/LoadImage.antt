@@ -1,8 +1,7 @@
-use Rattle.std.specs.Prelude.{◌≡◌, ℕ, ◌%◌, ◌<◌, ◌≤◌, ◌&&◌, true, false, IsTrue, if◌then◌else◌, Option, Some, List, [], ◌∷◌, find, sum_by, option_map}
+use Rattle.std.specs.Prelude.{◌≡◌, ℕ, ◌%◌, ◌<◌, ◌≤◌, ◌&&◌, true, false, IsTrue, if◌then◌else◌, Some, List, [], ◌∷◌, find, sum_by, option_map}
 use Rattle.std.specs.List.{list_any}
 use Rattle.guest_memory.specs.Memory.{Cell, Memory}
 use Rattle.guest_memory.specs.Layout.{is_in_stack}
-use Rattle.guest_memory.specs.declared.perm.Perm.{Perm}
 use Rattle.guest_memory.specs.declared.layout.TheConstants.{IMAGE_PAGES}
 use Rattle.elf32_reader.specs.LoadSegment.{LoadSegment, IsLoadable, first_page, last_page, page_count, covers, cell_at}
 

@@ -1,0 +1,303 @@
+use super::*;
+use guest_memory::Perm;
+use std::process::Abort;
+use std::test::Fail;
+
+/// A file with two segments, code at 0x00010000 and zeros at 0x00020000, whose code is the call of exit
+/// with the status 7.
+static SEVEN: [u8; 128] = [
+    0x7F, 0x45, 0x4C, 0x46, 1, 1, 1, 0, 0, 0, 0, 0, 0, 0, 0, 0, //
+    0x02, 0, 0xF3, 0, 1, 0, 0, 0, 0, 0, 1, 0, 0x34, 0, 0, 0, //
+    0, 0, 0, 0, 0, 0, 0, 0, 0x34, 0, 0x20, 0, 2, 0, 0, 0, //
+    0, 0, 0, 0, //
+    1, 0, 0, 0, 0x74, 0, 0, 0, 0, 0, 1, 0, 0, 0, 0, 0, //
+    0x0C, 0, 0, 0, 0x0C, 0, 0, 0, 5, 0, 0, 0, 0, 0, 0, 0, //
+    1, 0, 0, 0, 0x74, 0, 0, 0, 0, 0, 2, 0, 0, 0, 0, 0, //
+    0, 0, 0, 0, 0, 0x10, 0, 0, 6, 0, 0, 0, 0, 0, 0, 0, //
+    0x93, 0x08, 0x10, 0x00, 0x13, 0x05, 0x70, 0x00, 0x73, 0x00, 0x00, 0x00, //
+];
+
+/// One word of the file changed: its offset, the word, and the refusal's number, or 0 where it is read.
+static ONE_CHANGE: [(usize, u32, u8); 75] = [
+    // The identification: magic number, class, data encoding, version.
+    (0, 0x464C_457E, 3),
+    (0, 0x464C_447F, 3),
+    (0, 0x464D_457F, 3),
+    (0, 0x474C_457F, 3),
+    (4, 0x0001_0100, 4),
+    (4, 0x0001_0102, 4),
+    (4, 0x0001_0001, 5),
+    (4, 0x0001_0201, 5),
+    (4, 0x0000_0101, 6),
+    (4, 0x0002_0101, 6),
+    (4, 0xFF01_0101, 0),
+    (20, 0, 6),
+    (20, 2, 6),
+    (20, 257, 6),
+    // Type and machine, in one word.
+    (16, 0x00F3_0001, 7),
+    (16, 0x00F3_0003, 7),
+    (16, 0x00F2_0002, 8),
+    (16, 0x00F4_0002, 8),
+    // The entry.
+    (24, 0x0001_0001, 20),
+    (24, 0x0001_0002, 20),
+    (24, 0x0001_0004, 0),
+    (24, 0x0001_0FFC, 0),
+    (24, 0x0001_1000, 20),
+    (24, 0x0000_FFFC, 20),
+    (24, 0x0002_0000, 20),
+    // The table's offset. At 64 both headers have the type 0.
+    (28, 64, 20),
+    (28, 65, 12),
+    (28, 0xFFFF_FFC0, 12),
+    (28, 0xFFFF_FFE0, 12),
+    // The offset of the sections isn't looked at.
+    (32, 0xFFFF_FFFF, 0),
+    (36, 1, 9),
+    (36, 0x8000_0000, 9),
+    // The sizes of the header and of a program header.
+    (40, 0x0020_0033, 10),
+    (40, 0x0020_0035, 10),
+    (40, 0x001F_0034, 10),
+    (40, 0x0021_0034, 10),
+    // The number of program headers, and the size of a section header.
+    (44, 0, 20),
+    (44, 1, 0),
+    (44, 3, 12),
+    (44, 64, 12),
+    (44, 65, 11),
+    (44, 0xFFFF_0002, 0),
+    (48, 0xFFFF_FFFF, 0),
+    // The first segment.
+    (52, 0, 20),
+    (52, 2, 13),
+    (52, 3, 13),
+    (56, 115, 0),
+    (56, 117, 15),
+    (56, 0xFFFF_FFF8, 15),
+    (60, 0x0000_FFFC, 16),
+    (60, 0x0001_0FF4, 0),
+    (60, 0x0001_FFF5, 18),
+    (64, 0xFFFF_FFFF, 0),
+    (68, 11, 0),
+    (68, 13, 14),
+    (72, 11, 14),
+    (76, 1, 0),
+    (76, 3, 17),
+    (76, 4, 20),
+    (76, 7, 17),
+    (76, 0xFFFF_FFFD, 0),
+    (80, 3, 0),
+    // The second segment, which has no byte in the file.
+    (84, 3, 13),
+    (84, 0x6FFF_FFFF, 0),
+    (88, 128, 0),
+    (88, 129, 15),
+    (92, 0x0001_0800, 18),
+    (92, 0x0001_0FFF, 18),
+    (92, 0x0001_1000, 0),
+    (100, 4097, 14),
+    (104, 0x03FF_F000, 0),
+    (104, 0x03FF_F001, 19),
+    (104, 0x1FFE_0000, 19),
+    (104, 0x1FFE_0001, 16),
+    (104, 0xFFFF_F000, 16),
+];
+
+/// Two words changed.
+static TWO_CHANGES: [(usize, u32, usize, u32, u8); 17] = [
+    // The segment ends at the end of the image window, and one byte behind it.
+    (92, 0x1FFF_F000, 104, 0x1000, 0),
+    (92, 0x1FFF_F000, 104, 0x1001, 16),
+    (92, 0x1FFF_FFFF, 104, 1, 0),
+    (92, 0x2000_0000, 104, 1, 16),
+    (92, 0xFFFF_F000, 104, 0x1000, 16),
+    // A segment with no byte in memory is ignored, but for its sizes.
+    (104, 0, 92, 0, 0),
+    (104, 0, 92, 0x0001_0000, 0),
+    (104, 0, 88, 0xFFFF_FFFF, 0),
+    (104, 0, 108, 7, 0),
+    (104, 0, 100, 1, 14),
+    // The bytes of the file at its end.
+    (100, 12, 88, 116, 0),
+    (100, 13, 88, 116, 15),
+    // The lower number first.
+    (16, 0x00F2_0003, 36, 1, 7),
+    (36, 1, 44, 65, 9),
+    (24, 1, 104, 0x1FFE_0000, 19),
+    (100, 4097, 88, 0xFFFF_FFFF, 14),
+    // The first program header first.
+    (76, 7, 84, 3, 17),
+];
+
+/// The bytes with one word changed.
+fn with_word(bytes: &mut [u8], offset: usize, word: u32) {
+    let word = word.to_le_bytes();
+    for (place, byte) in bytes.iter_mut().enumerate() {
+        if offset <= place && place - offset < 4 {
+            *byte = word[place - offset];
+        }
+    }
+}
+
+/// The number of a file's refusal, or 0 where it is read.
+fn refusal(alloc: Global, file: &[u8]) -> u8 {
+    match read(alloc, file) {
+        Ok(_) => 0,
+        Err(fault) => fault.number(),
+    }
+}
+
+/// A file of these program headers with the entry 0x00010000: type, offset, address, size in the file,
+/// size in memory, flags.
+fn file_of(alloc: Global, headers: &[[u32; 6]], count: u16) -> Result<Vec<u8>, AllocError> {
+    let mut file = Vec::from_slice(alloc, &SEVEN[..44])?;
+    file.extend_from_slice(&count.to_le_bytes())?;
+    file.extend_from_slice(&[0; 6])?;
+    for header in headers {
+        let [kind, offset, vaddr, filesz, memsz, flags] = *header;
+        for word in [kind, offset, vaddr, 0, filesz, memsz, flags, 0] {
+            file.extend_from_slice(&word.to_le_bytes())?;
+        }
+    }
+    Ok(file)
+}
+
+#[test]
+fn reads_seven(rt: HostRuntime) -> Result<(), Fail> {
+    let image = read(rt.alloc(), &SEVEN)?;
+    assert_eq!(rt; image.entry(), 0x0001_0000);
+    let segments = image.segments();
+    assert_eq!(rt; segments.len(), 2);
+    assert_eq!(rt; segments[0].vaddr(), 0x0001_0000);
+    assert_eq!(rt; segments[0].memsz(), 12);
+    assert_eq!(rt;
+        segments[0].flags(),
+        Perm {
+            read: true,
+            write: false,
+            execute: true
+        }
+    );
+    assert_eq!(rt;
+        segments[0].bytes(),
+        [
+            0x93u8, 0x08, 0x10, 0x00, 0x13, 0x05, 0x70, 0x00, 0x73, 0x00, 0x00, 0x00
+        ]
+        .as_slice()
+    );
+    assert_eq!(rt; segments[1].vaddr(), 0x0002_0000);
+    assert_eq!(rt; segments[1].memsz(), 4096);
+    assert_eq!(rt; segments[1].flags(), Perm::READ_WRITE);
+    assert_eq!(rt; segments[1].bytes().len(), 0);
+    Ok(())
+}
+
+#[test]
+fn refuses_what_is_cut(rt: HostRuntime) {
+    for length in 0..128 {
+        let number = match length {
+            0..=51 => 2,
+            52..=115 => 12,
+            _ => 15,
+        };
+        assert_eq!(rt;
+            refusal(rt.alloc(), &SEVEN[..length]),
+            number,
+            "at {length}"
+        );
+    }
+}
+
+#[test]
+fn refuses_one_change(rt: HostRuntime) -> Result<(), Fail> {
+    for (offset, word, number) in ONE_CHANGE.iter() {
+        let mut file = Vec::from_slice(rt.alloc(), &SEVEN)?;
+        with_word(&mut file, *offset, *word);
+        assert_eq!(rt; refusal(rt.alloc(), &file), *number, "{word:x} at {offset}");
+    }
+    Ok(())
+}
+
+#[test]
+fn refuses_two_changes(rt: HostRuntime) -> Result<(), Fail> {
+    for (first, word, second, other, number) in TWO_CHANGES.iter() {
+        let mut file = Vec::from_slice(rt.alloc(), &SEVEN)?;
+        with_word(&mut file, *first, *word);
+        with_word(&mut file, *second, *other);
+        assert_eq!(rt;
+            refusal(rt.alloc(), &file),
+            *number,
+            "{word:x} at {first}, {other:x} at {second}"
+        );
+    }
+    Ok(())
+}
+
+#[test]
+fn header_alone(rt: HostRuntime) -> Result<(), Fail> {
+    let file = file_of(rt.alloc(), &[], 0)?;
+    assert_eq!(rt; file.len(), 52);
+    assert_eq!(rt; read(rt.alloc(), &file).err(), Some(ElfFault::BadEntry));
+    Ok(())
+}
+
+#[test]
+fn counts_segments(rt: HostRuntime) -> Result<(), Fail> {
+    let mut headers = Vec::new(rt.alloc());
+    for page in 16..80u32 {
+        headers.push([1, 0, page * 4096, 52, 4096, 5])?;
+    }
+    let file = file_of(rt.alloc(), &headers, 64)?;
+    let image = read(rt.alloc(), &file)?;
+    assert_eq!(rt; image.segments().len(), 64);
+    headers.push([1, 0, 80 * 4096, 52, 4096, 5])?;
+    let file = file_of(rt.alloc(), &headers, 65)?;
+    assert_eq!(rt;
+        read(rt.alloc(), &file).err(),
+        Some(ElfFault::TooManySegments)
+    );
+    Ok(())
+}
+
+#[test]
+fn ignores_empty_segments(rt: HostRuntime) -> Result<(), Fail> {
+    let between = [
+        [1, 0, 0x0001_0000, 4, 8, 5],
+        [1, 0, 0, 0, 0, 7],
+        [1, 0, 0x0001_1000, 4, 8, 6],
+    ];
+    let file = file_of(rt.alloc(), &between, 3)?;
+    let image = read(rt.alloc(), &file)?;
+    assert_eq!(rt; image.segments().len(), 2);
+    assert_eq!(rt; image.segments()[1].bytes(), b"\x7fELF".as_slice());
+    // The pages of the first and the last meet, over the empty one between them.
+    let meeting = [
+        [1, 0, 0x0001_0000, 4, 4097, 5],
+        [1, 0, 0x0002_0000, 0, 0, 6],
+        [1, 0, 0x0001_1800, 4, 8, 6],
+    ];
+    let file = file_of(rt.alloc(), &meeting, 3)?;
+    assert_eq!(rt; read(rt.alloc(), &file).err(), Some(ElfFault::SegmentOrder));
+    Ok(())
+}
+
+#[test]
+fn limits_the_size(rt: HostRuntime) -> Result<(), Fail> {
+    let mut file = Vec::from_slice(rt.alloc(), &SEVEN)?;
+    file.resize(67_108_864, 0)?;
+    assert_eq!(rt; refusal(rt.alloc(), &file), 0);
+    file.push(0)?;
+    assert_eq!(rt; read(rt.alloc(), &file).err(), Some(ElfFault::TooLarge));
+    Ok(())
+}
+
+#[test]
+fn tells_a_fault(rt: HostRuntime) -> Result<(), Fail> {
+    let text = format!(in rt.alloc(); "{}", ElfFault::Truncated)?;
+    assert_eq!(rt; text.as_str(), "2 Truncated");
+    let text = format!(in rt.alloc(); "{}", ElfFault::OutOfMemory)?;
+    assert_eq!(rt; text.as_str(), "21 OutOfMemory");
+    Ok(())
+}

@@ -1,0 +1,4 @@
+pub mod Accesses
+pub mod Among
+pub mod Loading
+pub mod Mapping
