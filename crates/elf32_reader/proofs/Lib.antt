@@ -1,3 +1,4 @@
 pub mod Accepted
+pub mod Apart
 pub mod Rows
 pub mod Summing

@@ -21,11 +21,11 @@ unfoldable pub first_applying : List Refusal → Option ElfFault
 first_applying [] = None
 first_applying (refusal ∷ refusals) = if refusal.1 then Some refusal.0 else first_applying refusals
 
--- of the file's size
+-- the refusals of a file for its size
 unfoldable pub size_refusals : List ℕ → List Refusal
 size_refusals file = (TooLarge, nat_lt FILE_LIMIT (length file)) ∷ (Truncated, nat_lt (length file) HEADER_SIZE) ∷ []
 
--- of the bytes that identify it as ELF, and its version (System V ABI, ELF identification)
+-- for the bytes that identify it as ELF, and its version (System V ABI, ELF identification)
 unfoldable pub ident_refusals : List ℕ → List Refusal
 ident_refusals file =
     (NotElf, not (starts_with nat_eq file (0x7F ∷ 0x45 ∷ 0x4C ∷ 0x46 ∷ [])))
@@ -34,7 +34,7 @@ ident_refusals file =
     ∷ (BadVersion, not (slice_index file 6 == EV_CURRENT && (file_header file).e_version == EV_CURRENT))
     ∷ []
 
--- of the header's fields (System V ABI, ELF header)
+-- for the fields of its header (System V ABI, ELF header)
 unfoldable pub header_refusals : List ℕ → List Refusal
 header_refusals file =
     let header = file_header file in
@@ -46,7 +46,7 @@ header_refusals file =
     ∷ (TableOutside, not (header.e_phnum == 0) && nat_lt (length file) (header.e_phoff + PROGRAM_HEADER_SIZE * header.e_phnum))
     ∷ []
 
--- of a program header that describes a segment, given the last page of the segment before it, if there is one
+-- for the segment that a program header describes, given the last page of the segment before it, if there is one
 abbrev pub segment_refusals : List ℕ → Option ℕ → ProgramHeader → List Refusal
 segment_refusals file before header =
     (SegmentOutsideFile, is_segment header && nat_lt (length file) (header.p_offset + header.p_filesz))
@@ -55,34 +55,34 @@ segment_refusals file before header =
     ∷ (SegmentOrder, is_segment header && option_map_or (λ page. nat_le (first_page (segment_of file header)) page) before false)
     ∷ []
 
--- of each program header
+-- for a program header, given the same
 abbrev pub program_refusals : List ℕ → Option ℕ → ProgramHeader → List Refusal
 program_refusals file before header =
     (Interpreter, header.p_type == PT_DYNAMIC || header.p_type == PT_INTERP)
     ∷ (SegmentSizes, is_load header && nat_lt header.p_memsz header.p_filesz)
     ∷ segment_refusals file before header
 
--- of the program header with a number; the segment before it is the last that the program headers before it describe
+-- for the program header with a number: the segment before it is the last that the program headers before it describe
 unfoldable pub row_refusals : List ℕ → ℕ → List Refusal
 row_refusals file row =
     program_refusals file (option_map last_page (last_or None (segments_before file row))) (program_header file row)
 
--- of the first count program headers, one after the other
+-- for the first count program headers, one after the other
 unfoldable pub table_refusals : List ℕ → ℕ → List Refusal
 table_refusals file count = flat_map (row_refusals file) (range_with_len 0 count)
 
--- of an image as a whole: its pages, and that its entry is a multiple of 4 on an executable page
+-- for its image as a whole: the number of its pages, and an entry that is no multiple of 4 or has no executable page
 unfoldable pub image_refusals : LoadImage → List Refusal
 image_refusals image =
     (TooManyPages, nat_lt IMAGE_PAGES (sum_by page_count image.segments))
     ∷ (BadEntry, not (image.entry % 4 == 0 && list_any (λ segment. covers image.entry segment && segment.perm.execute) image.segments))
     ∷ []
 
--- of the file and its header
+-- for the file and its header
 unfoldable pub file_refusals : List ℕ → List Refusal
 file_refusals file = size_refusals file ++ (ident_refusals file ++ header_refusals file)
 
--- all refusals of a file, in their order
+-- all refusals of a file, in the order in which they are tested
 abbrev pub refusals_of : List ℕ → List Refusal
 refusals_of file = file_refusals file ++ (table_refusals file (file_header file).e_phnum ++ image_refusals (image_of file))
 

@@ -7,7 +7,7 @@ use crate::fields::{half, word};
 use crate::program_header::{PROGRAM_HEADER_SIZE, ProgramHeader};
 
 /// The most bytes that a file may have.
-pub(crate) const FILE_LIMIT: usize = 67_108_864;
+pub const FILE_LIMIT: usize = 67_108_864;
 
 /// The bytes of a header.
 pub(crate) const HEADER_SIZE: usize = 52;

@@ -11,6 +11,7 @@ pub mod segment;
 mod summary;
 
 pub use fault::ElfFault;
+pub use file_header::FILE_LIMIT;
 pub use image::Image;
 pub use reader::read;
 pub use segment::Segment;

@@ -1,4 +1,4 @@
-ghost use Rattle.std.specs.Prelude.{◌≡◌, ◌≤◌, None, IfOk, IfErr};
+ghost use Rattle.std.specs.Prelude.{◌≡◌, ◌≢◌, ◌≤◌, Some, None, IfOk, IfErr};
 ghost use Rattle.elf32_reader.specs.Fields.{file_header, HasTable};
 ghost use Rattle.elf32_reader.specs.Segments.{segments_of, image_of};
 ghost use Rattle.elf32_reader.specs.Summaries.{summary_of};
@@ -11,13 +11,16 @@ use crate::segment::Segment;
 use crate::summary::Summary;
 use std::alloc::{AllocError, Global};
 
-/// Reads a file. No memory is taken for a file that is refused, and for another one it is in proportion
-/// to the file's size.
+/// Reads a file. No memory is taken for a file that is refused. For another one the bytes that it has of
+/// each segment are copied once.
+#[tactic(auto, using(crate::proofs::Apart::memory_apart))]
 pub fn read(alloc: Global, file: &[u8]) -> Result<Image, ElfFault>
-    // An image is given exactly where no refusal applies.
+    // An image is given only where no refusal applies, and is the one that the file describes.
     ensures ok { IfOk result (λ image. (first_refusal file.now ≡ None) × (image ≡ image_of file.now)) }
-    // The first refusal that applies is given, or OutOfMemory where none does.
+    // Else the first refusal that applies is given, or OutOfMemory where none does.
     ensures refused { IfErr result (IsFaultOf file.now) }
+    // OutOfMemory is no refusal.
+    ensures apart { first_refusal file.now ≢ Some ElfFault.OutOfMemory }
 {
     let header = FileHeader::read(file)?;
     let summary = survey(file, &header)?;

@@ -8,7 +8,7 @@ use Rattle.guest_memory.specs.declared.layout.TheConstants.{PAGE_SIZE}
 abbrev pub no_access : Perm
 no_access = record { read = false; write = false; execute = false }
 
--- which of the pages, counted from 1, an address's page number has in a table, and 0 where it has none
+-- which of the pages an address's page number has in a table, and 0 where it isn't mapped
 abbrev pub slot_of : List ℕ → ℕ → ℕ
 slot_of table address = slice_index table (page_of address)
 

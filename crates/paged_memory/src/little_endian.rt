@@ -1,11 +1,12 @@
-//! Numbers among bytes, the lowest byte first.
+//! Numbers among bytes, the lowest byte first. These are plainly `inline`, so that each is simplified to
+//! one load or store of its width before its caller looks at single bytes.
 #![tactic(auto, unfolding(crate::specs::Bytes::with_low_bytes))]
 
 ghost use Rattle.std.specs.Prelude.{◌≡◌, ◌+◌, ◌≤◌, length};
 ghost use Rattle.paged_memory.specs.Bytes.{number_from, with_low_bytes};
 
 /// The number of two bytes from an index on.
-#[inline(always)]
+#[inline]
 pub(crate) fn read16(bytes: &[u8], index: usize) -> u16
     requires { index + 2 ≤ length bytes.now }
     ensures { result ≡ number_from bytes.now 2 index }
@@ -14,7 +15,7 @@ pub(crate) fn read16(bytes: &[u8], index: usize) -> u16
 }
 
 /// The number of four bytes from an index on.
-#[inline(always)]
+#[inline]
 pub(crate) fn read32(bytes: &[u8], index: usize) -> u32
     requires { index + 4 ≤ length bytes.now }
     ensures { result ≡ number_from bytes.now 4 index }
@@ -28,7 +29,7 @@ pub(crate) fn read32(bytes: &[u8], index: usize) -> u32
 }
 
 /// Writes a number of two bytes from an index on.
-#[inline(always)]
+#[inline]
 pub(crate) fn write16(bytes: &mut [u8], index: usize, value: u16)
     requires { index + 2 ≤ length bytes.old }
     ensures { bytes.new ≡ with_low_bytes 2 bytes.old index value }
@@ -39,7 +40,7 @@ pub(crate) fn write16(bytes: &mut [u8], index: usize, value: u16)
 }
 
 /// Writes a number of four bytes from an index on.
-#[inline(always)]
+#[inline]
 pub(crate) fn write32(bytes: &mut [u8], index: usize, value: u32)
     requires { index + 4 ≤ length bytes.old }
     ensures { bytes.new ≡ with_low_bytes 4 bytes.old index value }

@@ -301,3 +301,19 @@ fn tells_a_fault(rt: HostRuntime) -> Result<(), Fail> {
     assert_eq!(rt; text.as_str(), "21 OutOfMemory");
     Ok(())
 }
+
+#[test]
+fn makes_an_image(rt: HostRuntime) -> Result<(), Fail> {
+    let code = Perm {
+        read: true,
+        write: false,
+        execute: true,
+    };
+    let segment = Segment::new(0x0001_0000, code, Vec::new(rt.alloc()), 4);
+    let mut segments = Vec::new(rt.alloc());
+    segments.push(segment)?;
+    let image = Image::new(0x0001_0000, segments);
+    assert_eq!(rt; image.entry(), 0x0001_0000);
+    assert_eq!(rt; image.segments().len(), 1);
+    Ok(())
+}
