@@ -1,0 +1,175 @@
+ghost use Rattle.std.specs.Prelude.{◌≡◌, ◌≢◌, ◌⊎◌, ◌+◌};
+ghost use Rattle.clap.specs.Values.{kind_of};
+ghost use Rattle.command.specs.Status.{answer_status, outcome_status};
+ghost use Rattle.command.specs.Taken.{TakesAtMost};
+
+use crate::command_line::parse;
+use crate::failure::Failure;
+use crate::files::Files;
+use crate::place::Place;
+use crate::read_fault::ReadFault;
+use crate::read_upto::read_upto;
+use crate::request::Request;
+use clap::Error;
+use clap::error::ErrorKind;
+use elf32_reader::FILE_LIMIT;
+use hart::Trap;
+use runtime::{Config, MAX_INPUT, RunOutcome};
+use std::alloc::Global;
+use std::convert::AsStr;
+use std::io;
+use std::io::{Read, Write};
+
+/// The status of a command line that could not be read.
+const WRONG_WORDS: u8 = 2;
+
+/// Does what the words of a command line ask for, the program's name being the first word, and answers
+/// the status that the program ends with. Where writing to `stderr` fails, the status stays.
+pub fn perform<S: AsStr, F: Files, R: Read, W: Write, E: Write>(
+    alloc: Global,
+    words: &[S],
+    files: &mut F,
+    stdin: &mut R,
+    stdout: &mut W,
+    stderr: &mut E,
+) -> u8
+    ensures { TakesAtMost (MAX_INPUT + 1) (R.remaining stdin.old) (R.remaining stdin.new) }
+{
+    match parse(alloc, words) {
+        Ok(request) => conclude(answer(alloc, &request, files, stdin), stderr),
+        Err(error) => refuse(&error, stdout, stderr),
+    }
+}
+
+/// Does what a request asks for.
+fn answer<'a, F: Files, R: Read>(
+    alloc: Global,
+    request: &Request<'a>,
+    files: &mut F,
+    stdin: &mut R,
+) -> Result<RunOutcome, Failure<'a>>
+    ensures input { TakesAtMost (MAX_INPUT + 1) (R.remaining stdin.old) (R.remaining stdin.new) }
+    ensures files { files.new ≡ files.old }
+{
+    match *request {
+        Request::Run {
+            file,
+            config,
+            trace: None,
+            report: None,
+        } => run_file(alloc, file, &config, files, stdin),
+        _ => Err(Failure::NotYet),
+    }
+}
+
+/// Runs the program of a file on the bytes of `stdin`.
+fn run_file<'a, F: Files, R: Read>(
+    alloc: Global,
+    file: &'a str,
+    config: &Config,
+    files: &F,
+    stdin: &mut R,
+) -> Result<RunOutcome, Failure<'a>>
+    ensures { TakesAtMost (MAX_INPUT + 1) (R.remaining stdin.old) (R.remaining stdin.new) }
+{
+    let elf = match files.read(alloc, file, FILE_LIMIT) {
+        Ok(elf) => elf,
+        Err(fault) => return Err(not_read(Place::Path(file), fault)),
+    };
+    let input = match read_upto(alloc, stdin, MAX_INPUT) {
+        Ok(input) => input,
+        Err(fault) => return Err(not_read(Place::StandardInput, fault)),
+    };
+    let report = runtime::run(alloc, elf.as_slice(), input.as_slice(), config)?;
+    Ok(report.outcome)
+}
+
+/// The failure that a fault at this place is.
+fn not_read(place: Place<'_>, fault: ReadFault) -> Failure<'_>
+    ensures failed { fault ≡ ReadFault.ReadFailed → result ≡ Failure.CannotRead place.entry }
+    ensures memory { fault ≡ ReadFault.OutOfMemory → result ≡ Failure.OutOfMemory }
+{
+    match fault {
+        ReadFault::ReadFailed => Failure::CannotRead(place),
+        ReadFault::OutOfMemory => Failure::OutOfMemory,
+    }
+}
+
+/// Says how a request ended, where there is more to say than its status, and answers the status.
+pub fn conclude<E: Write>(answer: Result<RunOutcome, Failure<'_>>, stderr: &mut E) -> u8
+    ensures { result ≡ answer_status answer.entry }
+{
+    match answer {
+        Ok(outcome) => {
+            let _ = write_outcome(outcome, stderr);
+            status_of(outcome)
+        }
+        Err(failure) => {
+            let _ = writeln!(stderr, "{failure}");
+            failure.status()
+        }
+    }
+}
+
+/// The status of a run that ended so.
+pub fn status_of(outcome: RunOutcome) -> u8
+    ensures { result ≡ outcome_status outcome }
+{
+    match outcome {
+        RunOutcome::Exit(status) | RunOutcome::Finished(status) => (status % 256) as u8,
+        RunOutcome::Trap { .. } => 120,
+        RunOutcome::Deadlock => 121,
+    }
+}
+
+/// Writes the line of an outcome that has one.
+fn write_outcome<E: Write>(outcome: RunOutcome, stderr: &mut E) -> io::Result<()> {
+    match outcome {
+        RunOutcome::Exit(_) | RunOutcome::Finished(_) => Ok(()),
+        RunOutcome::Trap { thread, pc, trap } => write_trap(thread, pc, trap, stderr),
+        RunOutcome::Deadlock => writeln!(stderr, "deadlock"),
+    }
+}
+
+fn write_trap<E: Write>(thread: u32, pc: u32, trap: Trap, stderr: &mut E) -> io::Result<()> {
+    let cause = trap.cause.number();
+    let value = trap.value;
+    writeln!(
+        stderr,
+        "trap thread={thread} pc={pc:08x} cause={cause} value={value:08x}"
+    )
+}
+
+/// Answers words that make no request: with help where they ask for it, and else with what is wrong.
+fn refuse<W: Write, E: Write>(error: &Error, stdout: &mut W, stderr: &mut E) -> u8
+    ensures memory { kind_of error.now ≡ ErrorKind.OutOfMemory → result ≡ 125 }
+    ensures help { (kind_of error.now ≡ ErrorKind.DisplayHelp) → (result ≡ 0) ⊎ (result ≡ 124) }
+    ensures wrong { kind_of error.now ≢ ErrorKind.OutOfMemory → kind_of error.now ≢ ErrorKind.DisplayHelp
+        → kind_of error.now ≢ ErrorKind.DisplayVersion → result ≡ WRONG_WORDS }
+{
+    if error.kind() == ErrorKind::OutOfMemory {
+        return conclude(Err(Failure::OutOfMemory), stderr);
+    }
+    if error.use_stderr() {
+        let _ = write!(stderr, "{error}");
+        return WRONG_WORDS;
+    }
+    match write_help(error, stdout) {
+        Ok(()) => 0,
+        Err(_) => conclude(Err(Failure::CannotWrite(Place::StandardOutput)), stderr),
+    }
+}
+
+fn write_help<W: Write>(help: &Error, stdout: &mut W) -> io::Result<()> {
+    write!(stdout, "{help}")?;
+    stdout.flush()
+}
+
+#[cfg(test)]
+mod performed;
+#[cfg(test)]
+mod program_file;
+#[cfg(test)]
+mod rows;
+#[cfg(test)]
+mod tests;

@@ -1,0 +1,327 @@
+//! What the program answers to its command line, without a run.
+
+use super::performed::Performed;
+use super::{conclude, perform};
+use crate::failure::Failure;
+use crate::fakes::{FailingReader, FailingWriter, OneFile};
+use crate::place::Place;
+use elf32_reader::ElfFault;
+use hart::{Cause, Trap};
+use runtime::RunOutcome;
+use std::io;
+use std::io::ErrorKind;
+use std::test::Fail;
+
+const NO_FILE: OneFile<'static> = OneFile {
+    path: "",
+    bytes: &[],
+};
+
+/// A reader whose first read fails.
+const NO_INPUT: FailingReader = FailingReader {
+    good_reads: 0,
+    kind: ErrorKind::Other,
+};
+
+#[test]
+fn wrong_words(rt: HostRuntime) {
+    let rows: [(&[&str], &str); 12] = [
+        (
+            &["dthreads"],
+            "error: 'dthreads' requires a subcommand but one was not provided\n  [subcommands: run, disasm, replay]\n\nUsage: dthreads <COMMAND>\n\nFor more information, try '--help'.\n",
+        ),
+        (
+            &["dthreads", "walk"],
+            "error: unrecognized subcommand 'walk'\n\nUsage: dthreads <COMMAND>\n\nFor more information, try '--help'.\n",
+        ),
+        (
+            &["dthreads", "run"],
+            "error: the following required arguments were not provided:\n  <FILE>\n\nUsage: dthreads run <FILE>\n\nFor more information, try '--help'.\n",
+        ),
+        (
+            &["dthreads", "run", "a", "b"],
+            "error: unexpected argument 'b' found\n\nUsage: dthreads run [OPTIONS] <FILE>\n\nFor more information, try '--help'.\n",
+        ),
+        (
+            &["dthreads", "run", "a", "--workers", "0"],
+            "error: invalid value '0' for '--workers <N>': 0 is not in 1..=64\n\nFor more information, try '--help'.\n",
+        ),
+        (
+            &["dthreads", "run", "a", "--workers", "65"],
+            "error: invalid value '65' for '--workers <N>': 65 is not in 1..=64\n\nFor more information, try '--help'.\n",
+        ),
+        (
+            &["dthreads", "run", "a", "--bound", "0"],
+            "error: invalid value '0' for '--bound <N>': 0 is not in 1..=1099511627776\n\nFor more information, try '--help'.\n",
+        ),
+        (
+            &["dthreads", "run", "a", "--bound", "1099511627777"],
+            "error: invalid value '1099511627777' for '--bound <N>': 1099511627777 is not in 1..=1099511627776\n\nFor more information, try '--help'.\n",
+        ),
+        (
+            &["dthreads", "run", "a", "--quantum", "0"],
+            "error: invalid value '0' for '--quantum <N>': 0 is not in 1..=1099511627776\n\nFor more information, try '--help'.\n",
+        ),
+        (
+            &["dthreads", "run", "a", "--workers", "2", "--workers", "2"],
+            "error: the argument '--workers <N>' cannot be used multiple times\n\nUsage: dthreads run [OPTIONS] <FILE>\n\nFor more information, try '--help'.\n",
+        ),
+        (
+            &["dthreads", "disasm", "a", "--workers", "2"],
+            "error: unexpected argument '--workers' found\n\n  tip: to pass '--workers' as a value, use '-- --workers'\n\nUsage: dthreads disasm <FILE>\n\nFor more information, try '--help'.\n",
+        ),
+        (
+            &["dthreads", "replay", "a", "s"],
+            "error: the following required arguments were not provided:\n  --workers <N>\n\nUsage: dthreads replay --workers <N> <FILE> <SCHEDULE>\n\nFor more information, try '--help'.\n",
+        ),
+    ];
+    for (words, text) in rows {
+        Performed::new(rt.alloc(), words, NO_FILE, NO_INPUT).assert_is(&rt, 2, "", text);
+    }
+}
+
+#[test]
+fn more_wrong_words(rt: HostRuntime) {
+    let rows: [&[&str]; 9] = [
+        &["dthreads", "help"],
+        &["dthreads", "run", "a", "--workers", "two"],
+        &["dthreads", "run", "a", "--workers"],
+        &["dthreads", "run", "a", "--quantum", "1099511627777"],
+        &["dthreads", "run", "a", "--fast"],
+        &["dthreads", "replay", "a", "s", "--workers", "65"],
+        &["dthreads", "replay", "a", "--workers", "2"],
+        &[
+            "dthreads",
+            "replay",
+            "a",
+            "s",
+            "--workers",
+            "2",
+            "--trace",
+            "t",
+        ],
+        &["dthreads", "--workers", "2", "run", "a"],
+    ];
+    for words in rows {
+        let performed = Performed::new(rt.alloc(), words, NO_FILE, NO_INPUT);
+        assert_eq!(rt; performed.status, 2, "at {words:?}");
+        assert!(rt; performed.stdout.is_empty(), "at {words:?}");
+        assert!(rt;
+            performed.stderr.as_slice().starts_with(b"error: "),
+            "at {words:?}"
+        );
+    }
+}
+
+#[test]
+fn help_is_printed(rt: HostRuntime) {
+    let text = "Runs multithreaded RV32IM programs with the same result each time
+
+Usage: dthreads <COMMAND>
+
+Commands:
+  run     Run a program, with standard input as its input
+  disasm  Print the instructions of a program
+  replay  Apply a schedule to a program and print the trace
+
+Options:
+  -h, --help  Print help
+";
+    for name in ["dthreads", "out/command", ""] {
+        let words = [name, "--help"];
+        Performed::new(rt.alloc(), &words, NO_FILE, NO_INPUT).assert_is(&rt, 0, text, "");
+    }
+    let text = "Run a program, with standard input as its input
+
+Usage: dthreads run [OPTIONS] <FILE>
+
+Arguments:
+  <FILE>  The program, an ELF file
+
+Options:
+      --workers <N>    How many workers there are, 1 to 64 [default: 4]
+      --bound <N>      How many instructions a thread may execute, 1 to 2^40 [default: 1000000000]
+      --quantum <N>    After how many instructions a thread's turn ends, 1 to 2^40 [default: none]
+      --trace <FILE>   Write a line for each turn to this file
+      --report <FILE>  Write the sharing of pages to this file
+  -h, --help           Print help
+";
+    let words = ["dthreads", "run", "--help"];
+    Performed::new(rt.alloc(), &words, NO_FILE, NO_INPUT).assert_is(&rt, 0, text, "");
+}
+
+#[test]
+fn what_is_not_made_yet_reads_nothing(rt: HostRuntime) {
+    let rows: [&[&str]; 4] = [
+        &["dthreads", "disasm", "a"],
+        &["dthreads", "replay", "a", "s", "--workers", "64"],
+        &["dthreads", "run", "a", "--trace", "t"],
+        &[
+            "dthreads",
+            "run",
+            "a",
+            "--report",
+            "r",
+            "--bound",
+            "1099511627776",
+        ],
+    ];
+    for words in rows {
+        Performed::new(rt.alloc(), words, NO_FILE, NO_INPUT).assert_is(&rt, 126, "", "not yet\n");
+    }
+}
+
+#[test]
+fn what_cannot_be_read_is_named(rt: HostRuntime) {
+    let words = ["dthreads", "run", "a.elf"];
+    let line = "cannot read a.elf\n";
+    Performed::new(rt.alloc(), &words, NO_FILE, NO_INPUT).assert_is(&rt, 124, "", line);
+    let file = OneFile {
+        path: "a.elf",
+        bytes: &[],
+    };
+    for good_reads in 0..3 {
+        let input = FailingReader {
+            good_reads,
+            kind: ErrorKind::OutOfMemory,
+        };
+        let line = "cannot read standard input\n";
+        Performed::new(rt.alloc(), &words, file, input).assert_is(&rt, 124, "", line);
+    }
+}
+
+#[test]
+fn outcomes_have_a_status_and_a_line(rt: HostRuntime) {
+    let breakpoint = RunOutcome::Trap {
+        thread: 1,
+        pc: 0x0001_0060,
+        trap: Trap {
+            cause: Cause::Breakpoint,
+            value: 0,
+        },
+    };
+    let bound = RunOutcome::Trap {
+        thread: 255,
+        pc: 0xffff_fffc,
+        trap: Trap {
+            cause: Cause::BoundReached,
+            value: 0xdead_beef,
+        },
+    };
+    let rows = [
+        (RunOutcome::Exit(7), 7, ""),
+        (RunOutcome::Exit(256), 0, ""),
+        (RunOutcome::Exit(0xffff_ffff), 255, ""),
+        (RunOutcome::Finished(2000), 208, ""),
+        (
+            breakpoint,
+            120,
+            "trap thread=1 pc=00010060 cause=3 value=00000000\n",
+        ),
+        (
+            bound,
+            120,
+            "trap thread=255 pc=fffffffc cause=16 value=deadbeef\n",
+        ),
+        (RunOutcome::Deadlock, 121, "deadlock\n"),
+    ];
+    for (outcome, status, line) in rows {
+        let mut stderr = Vec::new(rt.alloc());
+        assert_eq!(rt;
+            conclude(Ok(outcome), &mut stderr),
+            status,
+            "at {outcome:?}"
+        );
+        assert!(rt; stderr.as_slice() == line.as_bytes(), "at {outcome:?}");
+        assert_eq!(rt;
+            conclude(Ok(outcome), &mut FailingWriter),
+            status,
+            "at {outcome:?}"
+        );
+    }
+}
+
+#[test]
+fn failures_have_a_status_and_a_line(rt: HostRuntime) {
+    let rows = [
+        (
+            Failure::ElfRefused(ElfFault::BadEntry),
+            123,
+            "elf refused: 20 BadEntry\n",
+        ),
+        (Failure::InputTooLarge, 124, "input too large\n"),
+        (
+            Failure::CannotRead(Place::Path("a b")),
+            124,
+            "cannot read a b\n",
+        ),
+        (
+            Failure::CannotRead(Place::StandardInput),
+            124,
+            "cannot read standard input\n",
+        ),
+        (
+            Failure::CannotWrite(Place::Path("t")),
+            124,
+            "cannot write t\n",
+        ),
+        (
+            Failure::CannotWrite(Place::StandardOutput),
+            124,
+            "cannot write standard output\n",
+        ),
+        (Failure::OutOfMemory, 125, "out of memory\n"),
+        (Failure::NotYet, 126, "not yet\n"),
+    ];
+    for (failure, status, line) in rows {
+        let mut stderr = Vec::new(rt.alloc());
+        assert_eq!(rt;
+            conclude(Err(failure), &mut stderr),
+            status,
+            "at {failure:?}"
+        );
+        assert!(rt; stderr.as_slice() == line.as_bytes(), "at {failure:?}");
+        assert_eq!(rt;
+            conclude(Err(failure), &mut FailingWriter),
+            status,
+            "at {failure:?}"
+        );
+    }
+}
+
+#[test]
+fn a_status_stays_where_nothing_can_be_written(rt: HostRuntime) -> Result<(), Fail> {
+    let alloc = rt.alloc();
+    let rows: [(&[&str], u8); 4] = [
+        (&["dthreads", "walk"], 2),
+        (&["dthreads", "run", "a"], 124),
+        (&["dthreads", "disasm", "a"], 126),
+        (&["dthreads", "--help"], 124),
+    ];
+    for (words, wanted) in rows {
+        let mut files = NO_FILE;
+        let status = perform(
+            alloc,
+            words,
+            &mut files,
+            &mut io::empty(),
+            &mut FailingWriter,
+            &mut FailingWriter,
+        );
+        assert_eq!(rt; status, wanted, "at {words:?}");
+    }
+    let mut stderr = Vec::new(alloc);
+    let mut files = NO_FILE;
+    let words = ["dthreads", "--help"];
+    let mut stdout = FailingWriter;
+    perform(
+        alloc,
+        words.as_slice(),
+        &mut files,
+        &mut io::empty(),
+        &mut stdout,
+        &mut stderr,
+    );
+    assert!(rt; stderr.as_slice() == b"cannot write standard output\n".as_slice());
+    Ok(())
+}

@@ -1,0 +1,38 @@
+ghost use Rattle.std.specs.Prelude.{◌≡◌};
+ghost use Rattle.runtime.specs.Span as spec;
+
+use crate::limits::{MAX_BOUND, MAX_WORKERS};
+
+/// How a file is run.
+#[derive(Clone, Copy, Debug, PartialEq, Eq)]
+pub struct Config {
+    /// How many instructions each guest thread executes at most, 1 to 2^40.
+    pub bound: u64,
+    /// How many instructions a thread executes at most before it synchronises, 1 to 2^40, or none.
+    pub quantum: Option<u64>,
+    /// How many host threads work at most, 1 to 64. It changes no answer.
+    pub workers: u32,
+}
+
+impl Config {
+    ghost use Rattle.runtime.specs.Config.{is_valid};
+
+    /// Whether each number is in its range.
+    #[tactic(auto, unfolding(crate::specs::Config::is_valid))]
+    pub fn is_valid(&self) -> bool
+        ensures { result ≡ is_valid self.now }
+    {
+        let quantum = match self.quantum {
+            Some(quantum) => is_span(quantum),
+            None => true,
+        };
+        is_span(self.bound) && quantum && 1 <= self.workers && self.workers <= MAX_WORKERS
+    }
+}
+
+/// Whether a number of instructions is from 1 to 2^40.
+fn is_span(instructions: u64) -> bool
+    ensures { result ≡ spec.is_span instructions }
+{
+    1 <= instructions && instructions <= MAX_BOUND
+}
