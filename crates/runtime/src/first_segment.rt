@@ -2,9 +2,9 @@ ghost use Rattle.std.specs.Prelude.{◌≡◌};
 ghost use Rattle.runtime.specs.Run.{Ends, outcome_of, started};
 
 use crate::config::Config;
+use crate::report::Report;
 use crate::run_fault::RunFault;
 use crate::run_outcome::RunOutcome;
-use crate::report::Report;
 use elf32_reader::Image;
 use guest_memory::layout::STACK_POINTER;
 use hart::{Hart, Stop, run_to_stop};

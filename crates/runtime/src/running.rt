@@ -2,10 +2,10 @@ ghost use Rattle.std.specs.Prelude.{◌≡◌};
 ghost use Rattle.runtime.specs.Run.{Answers};
 
 use crate::config::Config;
-use crate::run_fault::RunFault;
 use crate::first_segment::first_segment;
 use crate::limits::MAX_INPUT;
 use crate::report::Report;
+use crate::run_fault::RunFault;
 use elf32_reader::{ElfFault, read};
 use std::alloc::Global;
 
