@@ -21,3 +21,6 @@ pub use state::Hart;
 pub use stepped::Stepped;
 pub use stop::Stop;
 pub use trap::Trap;
+
+#[cfg(test)]
+mod tests;
