@@ -1,6 +1,7 @@
 ghost use Rattle.std.specs.Prelude.{◌≡◌};
 
 use crate::place::Place;
+use crate::read_fault::ReadFault;
 use elf32_reader::ElfFault;
 use runtime::RunFault;
 use std::fmt;
@@ -21,6 +22,19 @@ pub enum Failure<'a> {
     CannotRead(Place<'a>),
     CannotWrite(Place<'a>),
     OutOfMemory,
+}
+
+impl<'a> Failure<'a> {
+    /// The failure that a fault at this place is.
+    pub fn of_read(place: Place<'a>, fault: ReadFault) -> Self
+        ensures failed { fault ≡ ReadFault.ReadFailed → result ≡ Failure.CannotRead place.entry }
+        ensures memory { fault ≡ ReadFault.OutOfMemory → result ≡ Failure.OutOfMemory }
+    {
+        match fault {
+            ReadFault::ReadFailed => Failure::CannotRead(place),
+            ReadFault::OutOfMemory => Failure::OutOfMemory,
+        }
+    }
 }
 
 impl Failure<'_> {

@@ -2,6 +2,7 @@
 #![tactic(auto)]
 
 mod command_line;
+mod disasm;
 mod failure;
 #[cfg(test)]
 mod fakes;

@@ -1,13 +1,13 @@
-ghost use Rattle.std.specs.Prelude.{◌≡◌, ◌≢◌, ◌⊎◌, ◌+◌};
+ghost use Rattle.std.specs.Prelude.{◌≡◌, ◌≢◌, ◌⊎◌, ◌+◌, IfErr, OnOk};
 ghost use Rattle.clap.specs.Values.{kind_of};
-ghost use Rattle.command.specs.Status.{answer_status, outcome_status};
+ghost use Rattle.command.specs.Status.{answer_status, failure_status, outcome_status};
 ghost use Rattle.command.specs.Taken.{TakesAtMost};
 
 use crate::command_line::parse;
+use crate::disasm::disasm;
 use crate::failure::Failure;
 use crate::files::Files;
 use crate::place::Place;
-use crate::read_fault::ReadFault;
 use crate::read_upto::read_upto;
 use crate::request::Request;
 use clap::Error;
@@ -36,6 +36,10 @@ pub fn perform<S: AsStr, F: Files, R: Read, W: Write, E: Write>(
     ensures { TakesAtMost (MAX_INPUT + 1) (R.remaining stdin.old) (R.remaining stdin.new) }
 {
     match parse(alloc, words) {
+        Ok(Request::Disasm { file }) => conclude_listing(
+            disasm(alloc, file, files, stdout),
+            stderr,
+        ),
         Ok(request) => conclude(answer(alloc, &request, files, stdin), stderr),
         Err(error) => refuse(&error, stdout, stderr),
     }
@@ -74,25 +78,14 @@ fn run_file<'a, F: Files, R: Read>(
 {
     let elf = match files.read(alloc, file, FILE_LIMIT) {
         Ok(elf) => elf,
-        Err(fault) => return Err(not_read(Place::Path(file), fault)),
+        Err(fault) => return Err(Failure::of_read(Place::Path(file), fault)),
     };
     let input = match read_upto(alloc, stdin, MAX_INPUT) {
         Ok(input) => input,
-        Err(fault) => return Err(not_read(Place::StandardInput, fault)),
+        Err(fault) => return Err(Failure::of_read(Place::StandardInput, fault)),
     };
     let report = runtime::run(alloc, elf.as_slice(), input.as_slice(), config)?;
     Ok(report.outcome)
-}
-
-/// The failure that a fault at this place is.
-fn not_read(place: Place<'_>, fault: ReadFault) -> Failure<'_>
-    ensures failed { fault ≡ ReadFault.ReadFailed → result ≡ Failure.CannotRead place.entry }
-    ensures memory { fault ≡ ReadFault.OutOfMemory → result ≡ Failure.OutOfMemory }
-{
-    match fault {
-        ReadFault::ReadFailed => Failure::CannotRead(place),
-        ReadFault::OutOfMemory => Failure::OutOfMemory,
-    }
 }
 
 /// Says how a request ended, where there is more to say than its status, and answers the status.
@@ -104,11 +97,27 @@ pub fn conclude<E: Write>(answer: Result<RunOutcome, Failure<'_>>, stderr: &mut 
             let _ = write_outcome(outcome, stderr);
             status_of(outcome)
         }
-        Err(failure) => {
-            let _ = writeln!(stderr, "{failure}");
-            failure.status()
-        }
+        Err(failure) => fail(failure, stderr),
     }
+}
+
+/// Says why there is no listing, and answers the status.
+fn conclude_listing<E: Write>(answer: Result<(), Failure<'_>>, stderr: &mut E) -> u8
+    ensures printed { OnOk answer.entry (result ≡ 0) }
+    ensures failed { IfErr answer.entry (λ failure. result ≡ failure_status failure) }
+{
+    let Err(failure) = answer else {
+        return 0;
+    };
+    fail(failure, stderr)
+}
+
+/// Writes the line of a failure, and answers its status.
+fn fail<E: Write>(failure: Failure<'_>, stderr: &mut E) -> u8
+    ensures { result ≡ failure_status failure.entry }
+{
+    let _ = writeln!(stderr, "{failure}");
+    failure.status()
 }
 
 /// The status of a run that ended so.
@@ -165,6 +174,8 @@ fn write_help<W: Write>(help: &Error, stdout: &mut W) -> io::Result<()> {
     stdout.flush()
 }
 
+#[cfg(test)]
+mod listings;
 #[cfg(test)]
 mod performed;
 #[cfg(test)]

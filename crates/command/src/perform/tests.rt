@@ -152,8 +152,7 @@ Options:
 
 #[test]
 fn what_is_not_made_yet_reads_nothing(rt: HostRuntime) {
-    let rows: [&[&str]; 4] = [
-        &["dthreads", "disasm", "a"],
+    let rows: [&[&str]; 3] = [
         &["dthreads", "replay", "a", "s", "--workers", "64"],
         &["dthreads", "run", "a", "--trace", "t"],
         &[
@@ -295,7 +294,7 @@ fn a_status_stays_where_nothing_can_be_written(rt: HostRuntime) -> Result<(), Fa
     let rows: [(&[&str], u8); 4] = [
         (&["dthreads", "walk"], 2),
         (&["dthreads", "run", "a"], 124),
-        (&["dthreads", "disasm", "a"], 126),
+        (&["dthreads", "disasm", "a"], 124),
         (&["dthreads", "--help"], 124),
     ];
     for (words, wanted) in rows {

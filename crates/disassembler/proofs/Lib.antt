@@ -1,0 +1,7 @@
+pub mod Assembling
+pub mod Distinct
+pub mod Hexadecimal
+pub mod Listings
+pub mod Numerals
+pub mod Separators
+pub mod Words

@@ -1,0 +1,5 @@
+pub mod Digits
+pub mod Instructions
+pub mod Listings
+pub mod Operands
+pub mod Texts
