@@ -32,8 +32,8 @@ impl Hart {
         Stepped::Next
     }
 
-    #[tactic(auto, unfolding(crate::specs::Next::jumps))]
     /// Jumps to a target, with the address of the next instruction in a register.
+    #[tactic(auto, unfolding(crate::specs::Next::jumps))]
     #[inline(always)]
     pub(crate) fn jump(&mut self, rd: Register, target: u32) -> Stepped
         ensures steps { (memory : Memory) → Steps result (jumps self.old memory rd target) self.old memory self.new memory }
@@ -48,8 +48,8 @@ impl Hart {
         Stepped::Next
     }
 
-    #[tactic(auto, unfolding(crate::specs::Next::branches, crate::specs::Arithmetic::sum))]
     /// Jumps where the branch is taken, and else goes on.
+    #[tactic(auto, unfolding(crate::specs::Next::branches, crate::specs::Arithmetic::sum))]
     #[inline(always)]
     pub(crate) fn branch(&mut self, taken: bool, offset: BranchOffset) -> Stepped
         ensures steps { (memory : Memory) → Steps result (branches self.old memory taken offset) self.old memory self.new memory }

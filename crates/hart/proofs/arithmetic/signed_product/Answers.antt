@@ -1,4 +1,4 @@
-use Rattle.std.proofs.Common.{rules, arith, ◌≡◌, ◌∙◌, ◌*ℤ◌, ℕ, ◌≤◌, ◌<◌, ◌*◌, ◌^◌, w32, w64, ℤ, FitsSigned, to_z, of_z, unsigned_abs, lit<}
+use Rattle.std.proofs.Common.{rules, arith, ◌≡◌, ◌∙◌, ◌*ℤ◌, ◌≤◌, w32, w64, ℤ, FitsSigned, unsigned_abs, lit<}
 use Rattle.std.proofs.lemmas.Int.{ints, to_z-of_z, fits_signed_mul}
 use Rattle.hart.proofs.arithmetic.signed_product.Goals as goal
 
