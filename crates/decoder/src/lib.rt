@@ -35,6 +35,3 @@ pub use field::{FenceField, Field, ShiftAmount};
 pub use instr::Instr;
 pub use register::Register;
 pub use signed_word::{BranchOffset, Immediate, JumpOffset, SignedWord, UpperImmediate};
-
-#[cfg(test)]
-mod tests;

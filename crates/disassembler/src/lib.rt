@@ -19,6 +19,3 @@ mod program;
 
 pub use disassembly::{distinct_texts, text};
 pub use program::listing;
-
-#[cfg(test)]
-mod tests;

@@ -66,6 +66,3 @@ fn load(alloc: Global, file: &[u8], header: &FileHeader) -> Result<Vec<Segment>,
     }
     Ok(segments)
 }
-
-#[cfg(test)]
-mod tests;

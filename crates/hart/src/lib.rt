@@ -21,6 +21,3 @@ pub use state::Hart;
 pub use stepped::Stepped;
 pub use stop::Stop;
 pub use trap::Trap;
-
-#[cfg(test)]
-mod tests;

@@ -1,6 +1,6 @@
-//! Tests that cross crates: whole files run from their bytes to the report, and a hart on the memory of an
-//! image. The programs' words were assembled by hand, and what they give was worked out from the RISC-V
-//! Unprivileged ISA, document version 20191213.
+//! The tests of the crates below the program: words decoded and encoded, files read, memories, harts and
+//! texts by table, and whole files run from their bytes to the report. The programs' words were assembled
+//! by hand, and what they give was worked out from the RISC-V Unprivileged ISA, document version 20191213.
 #![tactic(auto)]
 
 #[cfg(test)]
@@ -10,10 +10,20 @@ mod arithmetic;
 #[cfg(test)]
 mod control;
 #[cfg(test)]
+mod files;
+#[cfg(test)]
 mod fixtures;
+#[cfg(test)]
+mod harts;
+#[cfg(test)]
+mod memories;
 #[cfg(test)]
 mod runs;
 #[cfg(test)]
 mod segments;
 #[cfg(test)]
+mod texts;
+#[cfg(test)]
 mod traps;
+#[cfg(test)]
+mod words;

@@ -1,4 +1,4 @@
-use super::*;
+use hart::*;
 use std::process::Abort;
 
 /// Asserts what each register holds: 0, but for those that are listed with their values.

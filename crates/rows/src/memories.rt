@@ -1,5 +1,14 @@
-use super::*;
+use elf32_reader::{Image, Segment};
+use paged_memory::*;
+use std::alloc::{AllocError, Global};
 use std::test::Fail;
+
+/// A page that permits nothing.
+const NO_ACCESS: Perm = Perm {
+    read: false,
+    write: false,
+    execute: false,
+};
 
 const READ_EXECUTE: Perm = Perm {
     read: true,

@@ -1,5 +1,6 @@
-use super::*;
+use elf32_reader::*;
 use guest_memory::Perm;
+use std::alloc::{AllocError, Global};
 use std::process::Abort;
 use std::test::Fail;
 

@@ -1,4 +1,4 @@
-use super::*;
+use disassembler::*;
 use elf32_reader::{Image, Segment};
 use guest_memory::Perm;
 use std::alloc::{AllocError, Global};

@@ -1,6 +1,6 @@
 //! Words worked out by hand from the instruction listings of the RISC-V ISA, chapter 24.
 
-use super::*;
+use decoder::*;
 
 fn x(number: u8) -> Register {
     Register::new(number % 32)
