@@ -1,3 +1,4 @@
 pub mod Failure
+pub mod Serves
 pub mod Status
 pub mod Taken

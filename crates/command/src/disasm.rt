@@ -1,7 +1,8 @@
-ghost use Rattle.std.specs.Prelude.{◌≡◌, ◌+◌, IfOk, IfSome, take};
+ghost use Rattle.std.specs.Prelude.{◌≡◌, ℕ, List, None, OnOk, IfErr};
 ghost use Rattle.std.specs.String.{string_bytes};
-ghost use Rattle.elf32_reader.specs.Segments.{image_of};
-ghost use Rattle.disassembler.specs.Listings.{listing_of};
+ghost use Rattle.elf32_reader.specs.Refusals.{first_refusal};
+ghost use Rattle.std.specs.Io.KnownBytes.{Appends};
+ghost use Rattle.command.specs.Serves.{IsUnlisted, Lists, Prints};
 
 use crate::failure::Failure;
 use crate::files::Files;
@@ -9,6 +10,7 @@ use crate::place::Place;
 use disassembler::listing;
 use elf32_reader::{ElfFault, FILE_LIMIT, read};
 use std::alloc::Global;
+use std::io;
 use std::io::Write;
 
 /// Prints the listing of the program of a file.
@@ -17,18 +19,28 @@ pub fn disasm<'a, F: Files, W: Write>(
     file: &'a str,
     files: &F,
     stdout: &mut W,
-) -> Result<(), Failure<'a>> {
+) -> Result<(), Failure<'a>>
+    ensures printed { OnOk result (Prints (F.content files.now file.now) (W.contents stdout.old) (W.contents stdout.new)) }
+    ensures failed { IfErr result (IsUnlisted file.now (F.content files.now file.now)) }
+{
     let text = listed(alloc, file, files)?;
-    if stdout.write_all(text.as_bytes()).is_err() || stdout.flush().is_err() {
-        return Err(Failure::CannotWrite(Place::StandardOutput));
+    match print(text.as_bytes(), stdout) {
+        Ok(()) => Ok(()),
+        Err(_) => Err(Failure::CannotWrite(Place::StandardOutput)),
     }
-    Ok(())
+}
+
+/// Writes bytes to the last one.
+fn print<W: Write>(bytes: &[u8], stdout: &mut W) -> io::Result<()>
+    ensures { OnOk result (Appends (W.contents stdout.old) (W.contents stdout.new) bytes.now) }
+{
+    stdout.write_all(bytes)?;
+    stdout.flush()
 }
 
 /// The listing of the program of a file.
 fn listed<'a, F: Files>(alloc: Global, file: &'a str, files: &F) -> Result<String, Failure<'a>>
-    ensures { IfOk result (λ text. IfSome (F.content files.now file.now)
-        (λ all. string_bytes text ≡ listing_of (image_of (take (FILE_LIMIT + 1) all)))) }
+    ensures { Lists (λ text. string_bytes text) file.now (F.content files.now file.now) result }
 {
     let elf = match files.read(alloc, file, FILE_LIMIT) {
         Ok(elf) => elf,

@@ -13,6 +13,7 @@ mod place;
 mod read_fault;
 mod read_upto;
 mod request;
+mod running;
 mod words;
 mod write_fault;
 

@@ -1,5 +1,6 @@
 ghost use Rattle.std.specs.Prelude.{◌≡◌, ◌≢◌, ◌⊎◌, ◌+◌, IfErr, OnOk};
 ghost use Rattle.clap.specs.Values.{kind_of};
+ghost use Rattle.command.specs.Serves.{Serves};
 ghost use Rattle.command.specs.Status.{answer_status, failure_status, outcome_status};
 ghost use Rattle.command.specs.Taken.{TakesAtMost};
 
@@ -8,13 +9,12 @@ use crate::disasm::disasm;
 use crate::failure::Failure;
 use crate::files::Files;
 use crate::place::Place;
-use crate::read_upto::read_upto;
 use crate::request::Request;
+use crate::running::run_file;
 use clap::Error;
 use clap::error::ErrorKind;
-use elf32_reader::FILE_LIMIT;
 use hart::Trap;
-use runtime::{Config, MAX_INPUT, RunOutcome};
+use runtime::{MAX_INPUT, RunOutcome};
 use std::alloc::Global;
 use std::convert::AsStr;
 use std::io;
@@ -54,6 +54,7 @@ fn answer<'a, F: Files, R: Read>(
 ) -> Result<RunOutcome, Failure<'a>>
     ensures input { TakesAtMost (MAX_INPUT + 1) (R.remaining stdin.old) (R.remaining stdin.new) }
     ensures files { files.new ≡ files.old }
+    ensures answer { Serves (F.content files.old) (R.remaining stdin.old) request.now result }
 {
     match *request {
         Request::Run {
@@ -64,28 +65,6 @@ fn answer<'a, F: Files, R: Read>(
         } => run_file(alloc, file, &config, files, stdin),
         _ => Err(Failure::NotYet),
     }
-}
-
-/// Runs the program of a file on the bytes of `stdin`.
-fn run_file<'a, F: Files, R: Read>(
-    alloc: Global,
-    file: &'a str,
-    config: &Config,
-    files: &F,
-    stdin: &mut R,
-) -> Result<RunOutcome, Failure<'a>>
-    ensures { TakesAtMost (MAX_INPUT + 1) (R.remaining stdin.old) (R.remaining stdin.new) }
-{
-    let elf = match files.read(alloc, file, FILE_LIMIT) {
-        Ok(elf) => elf,
-        Err(fault) => return Err(Failure::of_read(Place::Path(file), fault)),
-    };
-    let input = match read_upto(alloc, stdin, MAX_INPUT) {
-        Ok(input) => input,
-        Err(fault) => return Err(Failure::of_read(Place::StandardInput, fault)),
-    };
-    let report = runtime::run(alloc, elf.as_slice(), input.as_slice(), config)?;
-    Ok(report.outcome)
 }
 
 /// Says how a request ended, where there is more to say than its status, and answers the status.
