@@ -24,6 +24,8 @@ mod segments;
 #[cfg(test)]
 mod texts;
 #[cfg(test)]
+mod threads;
+#[cfg(test)]
 mod traps;
 #[cfg(test)]
 mod words;

@@ -1,0 +1,335 @@
+//! The calls of a hart, and the table of threads: create, join, a thread's end and the lists.
+
+use calls::{Call, Code, Reply};
+use ecalls::{call_of, finish};
+use hart::Hart;
+use std::process::Abort;
+use thread_table::{Status, Thread, Threads};
+
+/// What x10, x11 and x12 hold at each call.
+const ARGUMENTS: [u32; 3] = [0xA000_0001, 0xB000_0002, 0xC000_0003];
+
+/// Each call's number, and the call.
+static CALLS: [(u32, Call); 19] = [
+    (0, Call::Unknown { number: 0 }),
+    (
+        1,
+        Call::Exit {
+            status: 0xA000_0001,
+        },
+    ),
+    (2, Call::ThreadExit { value: 0xA000_0001 }),
+    (
+        3,
+        Call::Create {
+            entry: 0xA000_0001,
+            argument: 0xB000_0002,
+            stack_pointer: 0xC000_0003,
+        },
+    ),
+    (
+        4,
+        Call::Join {
+            thread: 0xA000_0001,
+        },
+    ),
+    (5, Call::Lock { mutex: 0xA000_0001 }),
+    (6, Call::Unlock { mutex: 0xA000_0001 }),
+    (
+        7,
+        Call::Wait {
+            condition: 0xA000_0001,
+            mutex: 0xB000_0002,
+        },
+    ),
+    (
+        8,
+        Call::Signal {
+            condition: 0xA000_0001,
+        },
+    ),
+    (
+        9,
+        Call::Broadcast {
+            condition: 0xA000_0001,
+        },
+    ),
+    (
+        10,
+        Call::Barrier {
+            barrier: 0xA000_0001,
+            count: 0xB000_0002,
+        },
+    ),
+    (
+        11,
+        Call::Write {
+            address: 0xA000_0001,
+            length: 0xB000_0002,
+        },
+    ),
+    (
+        12,
+        Call::Read {
+            address: 0xA000_0001,
+            length: 0xB000_0002,
+        },
+    ),
+    (13, Call::Memory { pages: 0xA000_0001 }),
+    (14, Call::Sync),
+    (
+        15,
+        Call::Release {
+            address: 0xA000_0001,
+            pages: 0xB000_0002,
+        },
+    ),
+    (16, Call::Unknown { number: 16 }),
+    (260, Call::Unknown { number: 260 }),
+    (
+        0xFFFF_FFFF,
+        Call::Unknown {
+            number: 0xFFFF_FFFF,
+        },
+    ),
+];
+
+/// A code and a value, the old pc, and what x10, x11 and pc are behind the call. x11 was 0xB0000002.
+static FINISHES: [(Code, Option<u32>, u32, u32, u32, u32); 12] = [
+    (Code::Done, None, 0x0001_0008, 0, 0xB000_0002, 0x0001_000C),
+    (Code::Done, Some(7), 0x0001_0008, 0, 7, 0x0001_000C),
+    (Code::Done, Some(0), 0xFFFF_FFFC, 0, 0, 0),
+    (Code::NoSuchCall, None, 0xFFFF_FFFC, 1, 0xB000_0002, 0),
+    (Code::BadArgument, None, 0, 2, 0xB000_0002, 4),
+    (Code::BadAddress, None, 0, 3, 0xB000_0002, 4),
+    (Code::Limit, None, 0, 4, 0xB000_0002, 4),
+    (Code::NotHolder, None, 0, 5, 0xB000_0002, 4),
+    (Code::HoldsLock, None, 0, 6, 0xB000_0002, 4),
+    (Code::NoSuchThread, None, 0, 7, 0xB000_0002, 4),
+    (Code::AlreadyHeld, None, 0, 8, 0xB000_0002, 4),
+    (Code::CountDiffers, Some(0xFFFF_FFFF), 0, 9, 0xFFFF_FFFF, 4),
+];
+
+/// The threads of the tests below: of each its status, and the number and the first argument of the call
+/// that its hart makes.
+static THREADS: [(Status, u32, u32); 7] = [
+    (Status::Blocked, 4, 2),
+    (Status::Blocked, 4, 3),
+    (Status::Ready, 2, 0),
+    (Status::Ready, 4, 2),
+    (Status::Blocked, 4, 2),
+    (Status::Blocked, 10, 2),
+    (Status::Woken(63), 7, 2),
+];
+
+/// The caller, the thread that it names, whether it holds a mutex, the reply, and the caller's status
+/// behind it. Thread 2 is done with the value 0x80000000.
+static JOINS: [(u32, u32, bool, Reply, Status); 12] = [
+    (3, 3, false, NO_SUCH_THREAD, Status::Ready),
+    (3, 3, true, NO_SUCH_THREAD, Status::Ready),
+    (3, 7, false, NO_SUCH_THREAD, Status::Ready),
+    (3, 7, true, NO_SUCH_THREAD, Status::Ready),
+    (3, 256, false, NO_SUCH_THREAD, Status::Ready),
+    (3, 0xFFFF_FFFF, false, NO_SUCH_THREAD, Status::Ready),
+    // A thread that is done is answered ahead of a mutex that is held, and the caller's own ahead of both.
+    (3, 2, false, VALUE, Status::Ready),
+    (3, 2, true, VALUE, Status::Ready),
+    (2, 2, true, NO_SUCH_THREAD, Status::Done(0x8000_0000)),
+    (3, 0, true, HOLDS_LOCK, Status::Ready),
+    (3, 0, false, Reply::Waits, Status::Blocked),
+    (3, 6, false, Reply::Waits, Status::Blocked),
+];
+
+const NO_SUCH_THREAD: Reply = Reply::Completed {
+    code: Code::NoSuchThread,
+    value: None,
+};
+
+const HOLDS_LOCK: Reply = Reply::Completed {
+    code: Code::HoldsLock,
+    value: None,
+};
+
+const VALUE: Reply = Reply::Completed {
+    code: Code::Done,
+    value: Some(0x8000_0000),
+};
+
+/// A hart at a call with this number and these arguments.
+fn hart_at(number: u32, arguments: [u32; 3]) -> Hart {
+    let mut hart = Hart::new(0x0001_0008, 0x7FFF_FFF0, 0, 0);
+    hart.set_reg(17, number);
+    hart.set_reg(10, arguments[0]);
+    hart.set_reg(11, arguments[1]);
+    hart.set_reg(12, arguments[2]);
+    hart
+}
+
+/// A table of the threads `THREADS`.
+fn threads_of_table(rt: &impl Abort) -> Threads {
+    let mut threads = Threads::new();
+    for (status, call, argument) in THREADS {
+        let hart = hart_at(call, [argument, 0, 0]);
+        let number = threads.create(hart).expect(rt, "there is room");
+        let executed = u64::from(argument);
+        replace(
+            rt,
+            &mut threads,
+            number,
+            Thread {
+                status,
+                hart,
+                executed,
+            },
+        );
+    }
+    threads
+}
+
+/// Replaces a thread that is there.
+fn replace(rt: &impl Abort, threads: &mut Threads, n: u32, thread: Thread) {
+    assert!(rt; (n as usize) < threads.len(), "thread {n}");
+    threads.set(n, thread);
+}
+
+/// A thread that is there.
+fn thread_at(rt: &impl Abort, threads: &Threads, n: u32) -> Thread {
+    assert!(rt; (n as usize) < threads.len(), "thread {n}");
+    *threads.get(n)
+}
+
+/// Asserts that threads have these statuses, and else are as `THREADS` has them.
+fn assert_threads(rt: &impl Abort, threads: &Threads, statuses: &[Status]) {
+    assert_eq!(rt; threads.len(), statuses.len());
+    for (n, status) in statuses.iter().enumerate() {
+        let thread = thread_at(rt, threads, n as u32);
+        assert_eq!(rt; thread.status, *status, "{n}");
+        if let Some((_, call, argument)) = THREADS.get(n) {
+            assert_eq!(rt; thread.hart, hart_at(*call, [*argument, 0, 0]), "{n}");
+            assert_eq!(rt; thread.executed, u64::from(*argument), "{n}");
+        }
+    }
+}
+
+#[test]
+fn names_calls(rt: HostRuntime) {
+    for (number, call) in CALLS {
+        assert_eq!(rt; call_of(&hart_at(number, ARGUMENTS)), call, "{number}");
+    }
+}
+
+#[test]
+fn finishes_calls(rt: HostRuntime) {
+    for (code, value, pc, x10, x11, next_pc) in FINISHES {
+        let mut hart = hart_at(14, ARGUMENTS);
+        assert!(rt; pc % 4 == 0);
+        hart.set_pc(pc);
+        let mut wanted = hart;
+        finish(&mut hart, code, value);
+        wanted.set_reg(10, x10);
+        wanted.set_reg(11, x11);
+        assert!(rt; next_pc % 4 == 0);
+        wanted.set_pc(next_pc);
+        assert_eq!(rt; hart, wanted, "{code:?} {value:?} {pc:x}");
+    }
+}
+
+#[test]
+fn makes_256_threads(rt: HostRuntime) {
+    let mut threads = Threads::new();
+    assert!(rt; threads.is_empty());
+    for number in 0..256 {
+        let hart = Hart::new(4 * number, 0, 0, number);
+        assert_eq!(rt; threads.create(hart), Some(number));
+        assert_eq!(rt; threads.len(), number as usize + 1);
+    }
+    for _ in 0..2 {
+        assert_eq!(rt; threads.create(Hart::new(0, 0, 0, 0)), None);
+        assert_eq!(rt; threads.len(), 256);
+    }
+    for number in [0, 1, 63, 64, 65, 254, 255] {
+        let wanted = Thread {
+            status: Status::Ready,
+            hart: Hart::new(4 * number, 0, 0, number),
+            executed: 0,
+        };
+        assert_eq!(rt; thread_at(&rt, &threads, number), wanted, "{number}");
+    }
+    let numbers: [u32; 256] = std::array::from_fn(|n| n as u32);
+    assert_eq!(rt; threads.ready_list().as_slice(), numbers.as_slice());
+    assert_eq!(rt; threads.serial_list().as_slice(), numbers.as_slice());
+}
+
+#[test]
+fn joins(rt: HostRuntime) {
+    for (caller, n, holds_lock, reply, status) in JOINS {
+        let mut threads = threads_of_table(&rt);
+        assert!(rt; threads.len() == 7 && caller < 7);
+        threads.end(2, 0x8000_0000);
+        assert_eq!(rt;
+            threads.join(caller, n, holds_lock),
+            reply,
+            "{caller} {n} {holds_lock}"
+        );
+        assert_eq!(rt;
+            thread_at(&rt, &threads, caller).status,
+            status,
+            "{caller} {n} {holds_lock}"
+        );
+    }
+}
+
+#[test]
+fn ends_a_thread_that_is_joined(rt: HostRuntime) {
+    let mut threads = threads_of_table(&rt);
+    assert!(rt; threads.len() == 7);
+    assert_eq!(rt; threads.end(2, 9).as_slice(), [0, 4].as_slice());
+    let behind = [
+        Status::Ready,
+        Status::Blocked,
+        Status::Done(9),
+        Status::Ready,
+        Status::Ready,
+        Status::Blocked,
+        Status::Woken(63),
+    ];
+    assert_threads(&rt, &threads, &behind);
+    assert_eq!(rt; threads.end(3, 0).as_slice(), [1].as_slice());
+    assert_eq!(rt; thread_at(&rt, &threads, 1).status, Status::Ready);
+}
+
+#[test]
+fn ends_a_thread_that_none_joins(rt: HostRuntime) {
+    let mut threads = threads_of_table(&rt);
+    assert!(rt; threads.len() == 7);
+    assert!(rt; threads.end(6, 0xFFFF_FFFF).is_empty());
+    let mut behind = THREADS.map(|row| row.0);
+    behind[6] = Status::Done(0xFFFF_FFFF);
+    assert_threads(&rt, &threads, &behind);
+}
+
+#[test]
+fn tells_who_runs(rt: HostRuntime) {
+    for (status, is_ready, has_turn) in [
+        (Status::Ready, true, true),
+        (Status::Woken(0), false, true),
+        (Status::Blocked, false, false),
+        (Status::Done(0), false, false),
+    ] {
+        assert_eq!(rt; status.is_ready(), is_ready, "{status:?}");
+        assert_eq!(rt; status.has_turn(), has_turn, "{status:?}");
+    }
+}
+
+#[test]
+fn lists_threads(rt: HostRuntime) {
+    let mut threads = threads_of_table(&rt);
+    assert!(rt; threads.len() == 7);
+    assert_eq!(rt; threads.ready_list().as_slice(), [2, 3].as_slice());
+    assert_eq!(rt; threads.serial_list().as_slice(), [2, 3, 6].as_slice());
+    threads.end(2, 9);
+    assert_eq!(rt; threads.ready_list().as_slice(), [0, 3, 4].as_slice());
+    assert_eq!(rt; threads.serial_list().as_slice(), [0, 3, 4, 6].as_slice());
+    assert!(rt; Threads::new().ready_list().is_empty());
+    assert!(rt; Threads::new().serial_list().is_empty());
+}

@@ -1,0 +1,32 @@
+ghost use Rattle.std.specs.Prelude.{◌≡◌, ◌≤◌, Bool, length};
+ghost use Rattle.std.specs.Fn.{FnReturnsAt};
+ghost use Rattle.thread_table.specs.declared.thread.Thread.{Thread as Row};
+ghost use Rattle.thread_table.specs.Threads as spec;
+
+use crate::thread::Thread;
+use arrayvec::ArrayVec;
+use calls::limits::THREADS;
+
+/// How many threads a table has room for.
+pub const CAPACITY: usize = THREADS as usize;
+
+/// Numbers of threads, ascending. It takes no memory.
+pub type ThreadNumbers = ArrayVec<u32, CAPACITY>;
+
+/// The numbers of the threads of which a test holds.
+pub(crate) fn numbers_where<F: Fn(&Thread) -> bool>(threads: &[Thread], test: F) -> ThreadNumbers
+    ghost holds: { Row → Bool }
+    requires room { length threads.now ≤ CAPACITY }
+    requires callable { F.IsAlwaysCallable test }
+    requires tells { (thread : Row) (answer : Bool) → FnReturnsAt F.Fn test thread answer → answer ≡ holds thread }
+    ensures list { result.items ≡ spec.numbers_where holds threads.now }
+    ensures numbers { spec.AreNumbersOf threads.now result.items }
+{
+    let mut numbers = ArrayVec::new();
+    for (number, thread) in threads.iter().enumerate() {
+        if test(thread) {
+            numbers.push(number as u32);
+        }
+    }
+    numbers
+}
