@@ -3,7 +3,8 @@ use Rattle.std.proofs.lemmas.Bool.{cases_eq, cases_lt, cases_order, ne_eqb, and_
 use Rattle.std.proofs.lemmas.List.{get_or-set_same, get_or-set_other, take_at}
 use Rattle.std.proofs.Math.Nat.{div-div-eq-div-mul}
 use Rattle.std.proofs.Math.Path.{fun_ext}
-use Rattle.paged_memory.proofs.Among.{is_among, is_among-inside, is_among-outside, is_among-same}
+use Rattle.paged_memory.specs.Mapping.{is_among}
+use Rattle.paged_memory.proofs.Among.{is_among-inside, is_among-outside, is_among-same}
 use Rattle.paged_memory.specs.Bytes.{number_from, with_low_bytes}
 use Rattle.std.specs.Prelude.{slice_set, Ok, Err, slice_index, slice_index_or}
 use Rattle.guest_memory.specs.Memory.{Cell, Memory, permitted, number_at, loaded, fetched, with_number, stored}
@@ -27,10 +28,10 @@ number_at-present get bytes (suc count) address index present =
     rw (here, rest)
 
 -- addresses of one page
-page-same : (address k : ℕ) → address % 4096 + k < 4096 → page_of (address + k) ≡ page_of address
+pub page-same : (address k : ℕ) → address % 4096 + k < 4096 → page_of (address + k) ≡ page_of address
 page-same address k inside = omega arith
 
-offset-same : (address k : ℕ) → address % 4096 + k < 4096 → (address + k) % 4096 ≡ address % 4096 + k
+pub offset-same : (address k : ℕ) → address % 4096 + k < 4096 → (address + k) % 4096 ≡ address % 4096 + k
 offset-same address k inside = omega arith
 
 module _ (table : List ℕ) (perms : List Perm) (bytes : List ℕ) where
@@ -132,7 +133,7 @@ byte-later number k j e = rw (e, div-div-eq-div-mul number 256 (256 ^ k)) (ap (�
 byte-first : (number k : ℕ) → k ≡ 0 → number / 256 ^ k % 256 ≡ number % 256
 byte-first number k e = rw e (grind arith)
 
-slice_index-with_low_bytes : (count : ℕ) (bytes : List ℕ) (index number place : ℕ) → index + count ≤ length bytes →
+pub slice_index-with_low_bytes : (count : ℕ) (bytes : List ℕ) (index number place : ℕ) → index + count ≤ length bytes →
     slice_index (with_low_bytes count bytes index number) place
     ≡ cond (is_among index count place) (number / 256 ^ (place - index) % 256) (slice_index bytes place)
 unfolding with_low_bytes
@@ -187,7 +188,7 @@ module _ (slot page slot' page' offset count offset' : ℕ) (inside : offset + c
       let e : slot ≡ slot' = there f in omega arith
 
 -- the cell of a byte, or the one that a write makes of it
-cell-written : (test : Bool) (perm : Perm) (new old : ℕ) →
+pub cell-written : (test : Bool) (perm : Perm) (new old : ℕ) →
     ◌≡◌ {A = Cell} (record { perm = perm; byte = cond test new old }) (cond test (record { perm = perm; byte = new }) (record { perm = perm; byte = old }))
 cell-written true perm new old = refl
 cell-written false perm new old = refl

@@ -1,9 +1,6 @@
-use Rattle.std.proofs.Common.{◌≡◌, ℕ, ◌+◌, ◌<◌, ◌≤◌, Bool, true, false, ◌&&◌, nat_le, nat_lt, sym, ◌∙◌, arith, inl, inr}
+use Rattle.std.proofs.Common.{◌≡◌, ℕ, ◌+◌, ◌<◌, ◌≤◌, true, false, nat_le, nat_lt, sym, ◌∙◌, arith, inl, inr}
 use Rattle.std.proofs.lemmas.Bool.{cases_lt, and_from, and_left, and_right, le-leb, lt-leb, lt-ltb, le-ltb}
-
--- whether an index is one of the count from another on
-abbrev pub is_among : ℕ → ℕ → ℕ → Bool
-is_among low count index = nat_le low index && nat_lt index (low + count)
+use Rattle.paged_memory.specs.Mapping.{is_among}
 
 pub is_among-inside : (low count index : ℕ) → low ≤ index → index < low + count → is_among low count index ≡ true
 is_among-inside low count index above below = and_from (nat_le low index) (nat_lt index (low + count)) (le-leb low index above) (lt-ltb index (low + count) below)

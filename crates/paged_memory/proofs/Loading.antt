@@ -9,8 +9,8 @@ use Rattle.guest_memory.specs.Memory.{Memory}
 use Rattle.guest_memory.specs.Layout.{page_of}
 use Rattle.elf32_reader.specs.LoadSegment.{LoadSegment, IsLoadable, first_page, last_page, page_count, covers, cell_at}
 use Rattle.elf32_reader.specs.LoadImage.{LoadImage, AreOrdered, memory_of}
-use Rattle.paged_memory.specs.Mapping.{with_zeros, with_bytes, with_segment, memory_of_segments}
-use Rattle.paged_memory.proofs.Among.{is_among, is_among-inside, is_among-outside, is_among-apart}
+use Rattle.paged_memory.specs.Mapping.{is_among, with_cells, with_zeros, with_bytes, with_segment, memory_of_segments}
+use Rattle.paged_memory.proofs.Among.{is_among-inside, is_among-outside, is_among-apart}
 use Rattle.paged_memory.proofs.Mapping.{option_map-same, written}
 
 -- whether a page is one of a segment's
@@ -45,7 +45,7 @@ module _ (segment : LoadSegment) (memory : Memory) (loadable : IsLoadable segmen
 
   -- a segment's pages are zeros with its bytes written
   pub with_segment-mapped : with_bytes segment.vaddr segment.bytes (with_zeros (first_page segment) (page_count segment) segment.perm memory) ≡ with_segment segment memory
-  unfolding with_bytes with_zeros with_segment
+  unfolding with_bytes with_cells with_segment
   with_segment-mapped = fun_ext (λ x.
       elim (cases_lt (page_of x) (first_page segment)) [
         | inl below ↦ outside x (λ above. absurd (omega arith))
@@ -63,6 +63,24 @@ module _ (segment : LoadSegment) (memory : Memory) (loadable : IsLoadable segmen
       outside x apart =
           rw (is_among-apart (first_page segment) (page_count segment) (page_of x) (λ above below. (let past : last_page segment < page_of x = apart above in absurd (omega arith))), covers-outside x segment apart)
           (option_map-same (memory x) (written segment.vaddr segment.bytes x) (λ cell. rw (untouched x apart)))
+
+-- a segment's pages are the cells that it has
+pub with_segment-cells : (segment : LoadSegment) (memory : Memory) → IsLoadable segment →
+    with_cells (first_page segment) (page_count segment) (λ address. Some (cell_at address segment)) memory ≡ with_segment segment memory
+unfolding with_cells with_segment
+with_segment-cells segment memory loadable =
+    let some : 0 < segment.memsz = loadable.not_empty in
+    fun_ext (λ x.
+    elim (cases_lt (page_of x) (first_page segment)) [
+      | inl below ↦
+          rw (is_among-outside (first_page segment) (page_count segment) (page_of x) (λ above. absurd (omega arith)), covers-outside x segment (λ above. absurd (omega arith)))
+      | inr above ↦ elim (cases_lt (last_page segment) (page_of x)) [
+        | inl past ↦
+            rw (is_among-outside (first_page segment) (page_count segment) (page_of x) (λ _. omega arith), covers-outside x segment (λ _. past))
+        | inr within ↦
+            rw (is_among-inside (first_page segment) (page_count segment) (page_of x) above (omega arith), covers-inside x segment above within)
+      ]
+    ])
 
 -- the segments of an image lie on pages of their own, in order
 AreOrdered-rest : (segment : LoadSegment) (segments : List LoadSegment) → AreOrdered (segment ∷ segments) → AreOrdered segments
@@ -116,7 +134,7 @@ segments-none = refl
 -- the stack's pages on top of the segments are the memory of the image
 pub memory_of-mapped : (image : LoadImage) →
     with_zeros 524224 64 (record { read = true; write = true; execute = false }) (memory_of_segments image.segments) ≡ memory_of image
-unfolding with_zeros memory_of_segments
+unfolding with_cells memory_of_segments
 memory_of-mapped image = fun_ext (λ x.
     elim (cases_lt x 2147221504) [
       | inl below ↦ rw (is_among-outside 524224 64 (page_of x) (λ above. absurd (omega arith)), is_among-outside 2147221504 262144 x (λ above. absurd (omega arith)))

@@ -7,10 +7,10 @@ use Rattle.guest_memory.specs.Memory.{Cell, Memory, with_number}
 use Rattle.guest_memory.specs.Layout.{page_of}
 use Rattle.guest_memory.specs.declared.perm.Perm.{Perm}
 use Rattle.paged_memory.specs.Pages.{no_access, slot_of, place_of, cells_in, AreSound}
-use Rattle.paged_memory.specs.Mapping.{with_zeros, with_bytes}
+use Rattle.paged_memory.specs.Mapping.{is_among, with_cells, with_zeros, with_bytes}
 use Rattle.paged_memory.proofs.Accesses.{cells_in-mapped, cells_in-unmapped, cells_in-written}
 use Rattle.paged_memory.specs.Bytes.{with_low_bytes}
-use Rattle.paged_memory.proofs.Among.{is_among, is_among-inside, is_among-outside, is_among-apart}
+use Rattle.paged_memory.proofs.Among.{is_among-inside, is_among-outside, is_among-apart}
 
 module _ (table : List ℕ) (perms : List Perm) (bytes : List ℕ) (sound : AreSound table perms bytes)
     (page : ℕ) (perm : Perm) (longer : List ℕ) (number : page < 2 ^ 20)
@@ -64,7 +64,7 @@ module _ (table : List ℕ) (perms : List Perm) (bytes : List ℕ) (sound : AreS
   }
 
   pub cells_in-mapped_page : cells_in (slice_set table page (length perms)) (perms ++ perm ∷ []) longer ≡ with_zeros page 1 perm (cells_in table perms bytes)
-  unfolding with_zeros
+  unfolding with_cells
   cells_in-mapped_page = fun_ext (λ x.
       elim (cases_eq (page_of x) page) [
         | inl same ↦
@@ -84,11 +84,11 @@ module _ (table : List ℕ) (perms : List Perm) (bytes : List ℕ) (sound : AreS
             ])
       ])
 
--- one more page of zeros, and none
-pub with_zeros-more : (first count : ℕ) (perm : Perm) (memory : Memory) →
-    with_zeros (first + count) 1 perm (with_zeros first count perm memory) ≡ with_zeros first (count + 1) perm memory
-unfolding with_zeros
-with_zeros-more first count perm memory = fun_ext (λ x.
+-- the cells of one more page replaced, and of none
+pub with_cells-more : (first count : ℕ) (cells : ℕ → Option Cell) (memory : Memory) →
+    with_cells (first + count) 1 cells (with_cells first count cells memory) ≡ with_cells first (count + 1) cells memory
+unfolding with_cells
+with_cells-more first count cells memory = fun_ext (λ x.
     elim (cases_lt (page_of x) first) [
       | inl below ↦
           rw (is_among-outside (first + count) 1 (page_of x) (λ above. omega arith), is_among-outside first count (page_of x) (λ above. omega arith), is_among-outside first (count + 1) (page_of x) (λ above. omega arith))
@@ -103,9 +103,9 @@ with_zeros-more first count perm memory = fun_ext (λ x.
       ]
     ])
 
-pub with_zeros-none : (first : ℕ) (perm : Perm) (memory : Memory) → with_zeros first 0 perm memory ≡ memory
-unfolding with_zeros
-with_zeros-none first perm memory = fun_ext (λ x. rw (is_among-outside first 0 (page_of x) (λ above. omega arith)))
+pub with_cells-none : (first : ℕ) (cells : ℕ → Option Cell) (memory : Memory) → with_cells first 0 cells memory ≡ memory
+unfolding with_cells
+with_cells-none first cells memory = fun_ext (λ x. rw (is_among-outside first 0 (page_of x) (λ above. omega arith)))
 
 -- a write of one byte, as a number and as a list
 pub with_number-one : (memory : Memory) (address value : ℕ) → value < 256 → with_number 1 memory address value ≡ with_bytes address (value ∷ []) memory
@@ -175,4 +175,4 @@ cells_in-byte table perms bytes sound address value small =
     cells_in-written table perms bytes sound 1 address value (omega arith) in
     (rw whole at written) ∙ with_number-one (cells_in table perms bytes) address value small
 
-pub ruleset mapping = (cells_in-mapped, cells_in-unmapped, cells_in-mapped_page, cells_in-byte, with_zeros-more, with_zeros-none, with_bytes-more, with_bytes-none)
+pub ruleset mapping = (cells_in-mapped, cells_in-unmapped, cells_in-mapped_page, cells_in-byte, with_cells-more, with_cells-none, with_bytes-more, with_bytes-none)

@@ -1,6 +1,11 @@
 pub mod Bytes
 pub mod Mapping
+pub mod Number
+pub mod Page
+pub mod PageMap
+pub mod PageTable
 pub mod Pages
+pub mod Snapshot
 pub mod WholeMemory
 pub use Rattle.guest_memory.specs.Layout
 pub use Rattle.guest_memory.specs.Memory

@@ -1,9 +1,21 @@
 //! Guest memory in pages.
 #![tactic(auto)]
 
+pub mod access;
+mod change;
+mod level;
 mod little_endian;
+mod node;
+pub mod number;
+pub mod page;
+pub mod page_memory;
+pub mod snapshot;
 pub mod whole_memory;
 mod zeros;
 
 pub use guest_memory::{AccessFault, GuestMemory, Perm, StoreFault};
+pub use number::Number;
+pub use page::Page;
+pub use page_memory::{PageMemory, PageStore};
+pub use snapshot::Snapshot;
 pub use whole_memory::WholeMemory;

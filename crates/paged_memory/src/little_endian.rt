@@ -28,6 +28,15 @@ pub(crate) fn read32(bytes: &[u8], index: usize) -> u32
     ])
 }
 
+/// Writes a number of one byte at an index.
+#[inline]
+pub(crate) fn write8(bytes: &mut [u8], index: usize, value: u8)
+    requires { index + 1 ≤ length bytes.old }
+    ensures { bytes.new ≡ with_low_bytes 1 bytes.old index value }
+{
+    bytes[index] = value;
+}
+
 /// Writes a number of two bytes from an index on.
 #[inline]
 pub(crate) fn write16(bytes: &mut [u8], index: usize, value: u16)

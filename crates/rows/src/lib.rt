@@ -18,9 +18,13 @@ mod harts;
 #[cfg(test)]
 mod memories;
 #[cfg(test)]
+mod objects;
+#[cfg(test)]
 mod runs;
 #[cfg(test)]
 mod segments;
+#[cfg(test)]
+mod snapshots;
 #[cfg(test)]
 mod texts;
 #[cfg(test)]

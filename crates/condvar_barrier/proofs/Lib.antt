@@ -1,0 +1,4 @@
+pub mod Apart
+pub mod Leaving
+pub mod Scan
+pub mod Waking

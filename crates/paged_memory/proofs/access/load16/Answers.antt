@@ -1,0 +1,9 @@
+use Rattle.std.proofs.Common.{arith, sym, ap}
+use Rattle.std.specs.Prelude.{Ok}
+use Rattle.paged_memory.proofs.PageAccesses.{loaded-page}
+use Rattle.paged_memory.proofs.access.load16.Goals as goal
+
+pub returns-in-Some : goal.returns-in-Some
+returns-in-Some g c =
+    rw (loaded-page (g.M.PageMemory.pages c.args.memory.now) c.args.address 2 c.in-Some.page.now (sym c.in-Some.ensures) c.if-address-ne0.false (omega arith))
+    (ap Ok c.read16.ensures)

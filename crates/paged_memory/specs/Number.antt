@@ -1,0 +1,15 @@
+use Rattle.std.specs.Prelude.{ℕ}
+use Rattle.paged_memory.specs.declared.number.Number.{Number}
+use Rattle.paged_memory.specs.declared.number.Number.TheVariants.{Byte, Half, Word}
+
+-- how many bytes a number has
+abbrev pub width_of : Number → ℕ
+width_of (Byte value) = 1
+width_of (Half value) = 2
+width_of (Word value) = 4
+
+-- what a number is
+abbrev pub value_of : Number → ℕ
+value_of (Byte value) = value
+value_of (Half value) = value
+value_of (Word value) = value

@@ -1,0 +1,37 @@
+use Rattle.std.specs.Prelude.{◌≡◌, ℕ, ◌%◌, ◌==◌, if◌then◌else◌, Option, Some, None, MatchOption, Bool, length, slice_index, option_map}
+use Rattle.std.specs.Option.{option_and_then}
+use Rattle.guest_memory.specs.Memory.{Memory}
+use Rattle.guest_memory.specs.Layout.{page_of}
+use Rattle.guest_memory.specs.declared.perm.Perm.{Perm}
+use Rattle.guest_memory.specs.declared.layout.TheConstants.{PAGE_SIZE}
+use Rattle.paged_memory.specs.Page.{PageValue}
+use Rattle.paged_memory.specs.Bytes.{with_low_bytes}
+
+-- which page each page number has, or none where it isn't mapped
+abbrev pub PageMap : Type 0
+PageMap = ℕ → Option PageValue
+
+-- the memory of these pages
+unfoldable pub memory_of_pages : PageMap → Memory
+memory_of_pages pages address =
+    option_map (λ page. record { perm = page.perm; byte = slice_index page.bytes (address % PAGE_SIZE) }) (pages (page_of address))
+
+-- the pages with what one number has replaced by what is made of it
+unfoldable pub with_page : ℕ → (Option PageValue → Option PageValue) → PageMap → PageMap
+with_page number made pages other = if number == other then made (pages other) else pages other
+
+-- a page with the count bytes from an offset on replaced by those of a number, the lowest first
+abbrev pub with_number_in : ℕ → ℕ → ℕ → PageValue → PageValue
+with_number_in count offset number page = record { perm = page.perm; bytes = with_low_bytes count page.bytes offset number }
+
+-- the pages with the count bytes from an address on replaced, all of one page
+abbrev pub with_number_at : ℕ → ℕ → ℕ → PageMap → PageMap
+with_number_at count address number = with_page (page_of address) (option_map (with_number_in count (address % PAGE_SIZE) number))
+
+-- the page of an address, where it permits the access
+unfoldable pub permitted_page : (Perm → Bool) → PageMap → ℕ → Option PageValue
+permitted_page may pages address = option_and_then (λ page. if may page.perm then Some page else None) (pages (page_of address))
+
+-- whether an address's page permits stores, and has its bytes
+abbrev pub IsWritable : PageMap → ℕ → Type 0
+IsWritable pages address = MatchOption (permitted_page (λ perm. perm.write) pages address) ⊥ (λ page. length page.bytes ≡ PAGE_SIZE)
