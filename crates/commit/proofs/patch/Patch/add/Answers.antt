@@ -1,0 +1,44 @@
+use Rattle.std.proofs.Common.{◌≡◌, ◌%◌, ◌^◌, ◌≤◌, ◌∷◌, [], ◌++◌, length, refl, ap, sym, ◌∙◌, arith}
+use Rattle.std.specs.Arc.{arc_value}
+use Rattle.paged_memory.specs.Page.{PageValue}
+use Rattle.commit.specs.Bytes.{differing_count}
+use Rattle.commit.specs.Merge.{changed_byte}
+use Rattle.std.specs.Prelude.{slice_index}
+use Rattle.commit.specs.Changed.{addresses_of}
+use Rattle.commit.specs.Patched.{PageChange, patched}
+use Rattle.commit.proofs.Growing.{IsPatch-more, patched-more, changed_byte-none, length-addresses_of}
+use Rattle.commit.proofs.Comparing.{patched-same}
+use Rattle.commit.proofs.patch.Patch.add.Goals as goal
+
+pub overflow_add-self : goal.overflow_add-self
+overflow_add-self c =
+    let all : length (addresses_of (patched c.self.inside.pages.items)) ≤ 2 ^ 32 = length-addresses_of (patched c.self.inside.pages.items) in
+    record { fits = omega arith }
+
+pub invariant_of-self-then-count-gt0 : goal.invariant_of-self-then-count-gt0
+invariant_of-self-then-count-gt0 c =
+    let change : PageChange = record { number = c.args.number; copy = (arc_value c.args.copy.now).bytes; mine = c.args.mine.now.bytes } in
+    let page : c.new-page.result ≡ change = rw (c.new-page.ensures, c.in_ok-try_clone.ensures, c.in_ok-mine.ensures.ok, c.in_ok-clone.ensures.cases) refl in
+    let items : c.push.new.self.items ≡ c.self.inside.pages.items ++ change ∷ [] =
+    c.in_ok-push.ensures.items ∙ ap (λ (one : PageChange). c.self.inside.pages.items ++ one ∷ []) page in
+    let copied : c.bytes.result.now ≡ change.copy = c.bytes.ensures.bytes ∙ ap (λ (value : PageValue). value.bytes) c.deref.ensures in
+    let count : c.from.result ≡ differing_count change.copy change.mine = rw (c.from.ensures, c.count_page-count.ensures, copied, c.bytes-2.ensures.bytes) refl in
+    rw (items, count)
+    (IsPatch-more c.self.inside.pages.items change c.self.inside.count c.self.invariant (rw c.self.view_is c.requires.below) c.requires.number
+    (rw (← c.deref.ensures) c.bytes.ensures.size) c.bytes-2.ensures.size)
+
+pub returns-in_ok-push-clause-added : goal.returns-in_ok-push-clause-added
+returns-in_ok-push-clause-added c address =
+    let change : PageChange = record { number = c.args.number; copy = (arc_value c.args.copy.now).bytes; mine = c.args.mine.now.bytes } in
+    let page : c.new-page.result ≡ change = rw (c.new-page.ensures, c.in_ok-try_clone.ensures, c.in_ok-mine.ensures.ok, c.in_ok-clone.ensures.cases) refl in
+    let items : c.push.new.self.items ≡ c.self.inside.pages.items ++ change ∷ [] =
+    c.in_ok-push.ensures.items ∙ ap (λ (one : PageChange). c.self.inside.pages.items ++ one ∷ []) page in
+    rw (items, ← c.self.view_is) (patched-more c.self.inside.pages.items change (rw c.self.view_is c.requires.below) address)
+
+pub returns-else-count-gt0-clause-added : goal.returns-else-count-gt0-clause-added
+returns-else-count-gt0-clause-added c address =
+    let copied : c.bytes.result.now ≡ (arc_value c.args.copy.now).bytes = c.bytes.ensures.bytes ∙ ap (λ (value : PageValue). value.bytes) c.deref.ensures in
+    let none : differing_count (arc_value c.args.copy.now).bytes c.args.mine.now.bytes ≡ 0 = rw (← copied, ← c.bytes-2.ensures.bytes) (omega arith) in
+    let size : length (arc_value c.args.copy.now).bytes ≡ 4096 = rw (← c.deref.ensures) c.bytes.ensures.size in
+    patched-same c.args.self.now c.args.number (λ place. changed_byte (slice_index (arc_value c.args.copy.now).bytes (place % 4096)) (slice_index c.args.mine.now.bytes (place % 4096)))
+    c.requires.below (λ place here. changed_byte-none (arc_value c.args.copy.now).bytes c.args.mine.now.bytes (size ∙ sym c.bytes-2.ensures.size) none (place % 4096)) address

@@ -1,0 +1,4 @@
+pub mod Bytes
+pub mod Changed
+pub mod Merge
+pub mod Patched

@@ -1,0 +1,12 @@
+//! The commit of a thread's private memory: which bytes it changed, and how they are merged into the
+//! shared memory.
+#![tactic(auto)]
+
+mod changed_page;
+pub mod kernels;
+pub mod merging;
+pub mod patch;
+
+pub use kernels::{count_page, merge_page};
+pub use merging::apply;
+pub use patch::{Patch, changed, changed_addresses};

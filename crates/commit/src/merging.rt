@@ -1,0 +1,22 @@
+ghost use Rattle.std.specs.Prelude.{◌≡◌, OnOk, OnErr};
+ghost use Rattle.commit.specs.Merge.{with_changes};
+ghost use Rattle.commit.specs.Patched.{patched};
+ghost use Rattle.paged_memory.specs.Snapshot.{cells_of};
+
+use crate::patch::Patch;
+use paged_memory::Snapshot;
+use std::alloc::AllocError;
+
+/// Merges a patch into a snapshot: each byte of the patch that the snapshot maps becomes the patch's, and all
+/// else stays. It looks at the pages of the patch alone. Nothing changes where memory is wanting.
+pub fn apply(snapshot: &mut Snapshot, patch: &Patch) -> Result<(), AllocError>
+    ensures merged { OnOk result (cells_of snapshot.new ≡ with_changes (patched patch.now) (cells_of snapshot.old)) }
+    ensures kept { OnErr result (snapshot.new ≡ snapshot.old) }
+{
+    let mut merged = snapshot.try_clone()?;
+    for page in patch.pages() {
+        page.merge_into(&mut merged)?;
+    }
+    *snapshot = merged;
+    Ok(())
+}

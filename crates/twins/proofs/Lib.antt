@@ -1,0 +1,5 @@
+pub mod Listed
+pub mod Places
+pub mod PrivatePages
+pub mod Views
+pub mod ViewStores

@@ -1,0 +1,6 @@
+pub mod Listed
+pub mod PlaceTable
+pub mod Places
+pub mod PrivatePages
+pub mod Twins
+pub mod View

@@ -1,0 +1,10 @@
+//! Views of a snapshot: what a guest thread's segment runs on.
+#![tactic(auto)]
+
+mod place_table;
+mod private_page;
+mod private_pages;
+pub mod view;
+
+pub use private_page::PrivatePage;
+pub use view::View;
