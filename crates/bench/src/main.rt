@@ -1,20 +1,29 @@
-//! Measures how many guest instructions a second a hart executes on a whole memory.
+//! Measures how many guest instructions a second a hart executes on a whole memory and on a view of a
+//! snapshot, and what single accesses and the opening of a view take.
 //!
-//! `bench FILE INSTRUCTIONS` runs thread 0 of a file up to its first stop or that many instructions. With
-//! no words it prints nothing.
+//! `bench FILE INSTRUCTIONS` runs thread 0 of a file up to its first stop or that many instructions, on a
+//! whole memory and then on a view. With a third word it measures parts, each so many times: `accesses` to a
+//! whole memory and to a view, `opens` of views, `merges` of pages, and `commits` of patches. With no words
+//! it prints nothing.
 #![tactic(auto)]
 
+mod accesses;
+mod commits;
+mod timing;
+
+use accesses::{measure_accesses, measure_opens};
 use anyhow::{Context, Result, anyhow};
-use elf32_reader::read;
+use commits::{measure_commits, measure_merges};
+use elf32_reader::{Image, read};
+use guest_memory::GuestMemory;
+use guest_memory::layout::STACK_POINTER;
 use hart::{Hart, run_to_stop};
-use paged_memory::WholeMemory;
+use paged_memory::{Snapshot, WholeMemory};
 use std::alloc::Global;
-use std::rt::{Clock, Env, Files};
+use std::rt::{Clock, Env};
 use std::time::{Duration, Instant};
 use std::{env, fs};
-
-/// Where thread 0's stack pointer stands at the start.
-const STACK_POINTER: u32 = 0x7FFF_FFF0;
+use twins::View;
 
 fn main(rt: HostRuntime) -> Result<()> {
     let words: Vec<String> = env::args(&rt)?.collect(rt.alloc())?;
@@ -22,25 +31,47 @@ fn main(rt: HostRuntime) -> Result<()> {
         return Ok(());
     }
     let bound = words[2].as_str().parse::<u64>()?;
-    measure(&rt, words[1].as_str(), bound)
+    let file = fs::read(&rt, words[1].as_str()).context(words[1].as_str())?;
+    let image = read(rt.alloc(), &file).map_err(|fault| anyhow!("elf refused: {fault}"))?;
+    match words.get(3).map(|word| word.as_str()) {
+        None => measure(&rt, rt.alloc(), &image, bound),
+        Some("accesses") => measure_accesses(&rt, rt.alloc(), &image, bound),
+        Some("opens") => measure_opens(&rt, rt.alloc(), &image, bound),
+        Some("merges") => measure_merges(&rt, bound),
+        Some("commits") => measure_commits(&rt, rt.alloc(), &image, bound),
+        Some(word) => Err(anyhow!("{word}: none of accesses, opens, merges and commits")),
+    }
 }
 
-/// Runs a file, and prints how many instructions a second it executed.
-fn measure<R: AllocGlobal + Files + Clock + Print>(rt: &R, path: &str, bound: u64) -> Result<()> {
-    let file = fs::read(rt, path).context(path)?;
-    let (count, time) = timed(rt, rt.alloc(), &file, bound)?;
+/// Runs an image on a whole memory and on a view, and prints how many instructions a second were executed.
+fn measure<R: Clock + Print>(rt: &R, alloc: Global, image: &Image, bound: u64) -> Result<()> {
+    let mut whole = WholeMemory::of_image(alloc, image)?;
+    let (count, time) = timed(rt, image, &mut whole, bound)?;
+    report(rt, "whole memory", count, time)?;
+    let mut view = View::open(Snapshot::of_image(alloc, image)?);
+    let (count, time) = timed(rt, image, &mut view, bound)?;
+    report(rt, "view", count, time)
+}
+
+/// Prints how many instructions a second were executed.
+fn report<R: Print>(rt: &R, memory: &str, count: u64, time: Duration) -> Result<()> {
     let micros = time.as_micros().max(1);
     let rate = u128::from(count) / micros;
-    println!(rt; "{path}: {count} instructions in {micros} microseconds: {rate} million a second")?;
+    println!(rt;
+        "{memory}: {count} instructions in {micros} microseconds: {rate} million a second"
+    )?;
     Ok(())
 }
 
-/// How many instructions of a file were executed, and in what time.
-fn timed<R: Clock>(rt: &R, alloc: Global, file: &[u8], bound: u64) -> Result<(u64, Duration)> {
-    let image = read(alloc, file).map_err(|fault| anyhow!("elf refused: {fault}"))?;
-    let mut memory = WholeMemory::of_image(alloc, &image)?;
+/// How many instructions of an image were executed on a memory, and in what time.
+fn timed<R: Clock, M: GuestMemory>(
+    rt: &R,
+    image: &Image,
+    memory: &mut M,
+    bound: u64,
+) -> Result<(u64, Duration)> {
     let mut hart = Hart::new(image.entry(), STACK_POINTER, 0, 0);
     let start = Instant::now(rt)?;
-    let (_, count) = run_to_stop(&mut hart, &mut memory, bound, None)?;
+    let (_, count) = run_to_stop(&mut hart, memory, bound, None)?;
     Ok((count, start.elapsed(rt)?))
 }

@@ -17,8 +17,8 @@ use std::marker::Model;
 /// A page of a guest's memory: what it permits, and its 4096 bytes.
 #[derive(Drop)]
 pub struct Page {
-    perm: Perm,
     bytes: [u8; PAGE_SIZE as usize],
+    perm: Perm,
 }
 
 impl Model for Page {

@@ -8,6 +8,8 @@ mod accesses;
 #[cfg(test)]
 mod arithmetic;
 #[cfg(test)]
+mod commits;
+#[cfg(test)]
 mod control;
 #[cfg(test)]
 mod files;
@@ -31,5 +33,7 @@ mod texts;
 mod threads;
 #[cfg(test)]
 mod traps;
+#[cfg(test)]
+mod views;
 #[cfg(test)]
 mod words;

@@ -68,10 +68,26 @@ fn maps_an_image_as_a_whole_memory_does(rt: HostRuntime) -> Result<(), Fail> {
     let whole = WholeMemory::of_image(rt.alloc(), &image)?;
     for address in PLACES {
         let cell = (snapshot.byte(address), snapshot.perm(address));
-        assert_eq!(rt; cell, (whole.byte(address), whole.perm(address)), "{address:x}");
-        assert_eq!(rt; snapshot.load8(address), whole.load8(address), "{address:x}");
-        assert_eq!(rt; snapshot.load16(address), whole.load16(address), "{address:x}");
-        assert_eq!(rt; snapshot.load32(address), whole.load32(address), "{address:x}");
+        assert_eq!(rt;
+            cell,
+            (whole.byte(address), whole.perm(address)),
+            "{address:x}"
+        );
+        assert_eq!(rt;
+            snapshot.load8(address),
+            whole.load8(address),
+            "{address:x}"
+        );
+        assert_eq!(rt;
+            snapshot.load16(address),
+            whole.load16(address),
+            "{address:x}"
+        );
+        assert_eq!(rt;
+            snapshot.load32(address),
+            whole.load32(address),
+            "{address:x}"
+        );
     }
     assert_eq!(rt; snapshot.byte(0x0002_0FFE), Some(1));
     assert_eq!(rt; snapshot.byte(0x0002_1000), Some(3));
@@ -162,10 +178,22 @@ fn refuses_as_a_whole_memory_does(rt: HostRuntime) -> Result<(), Fail> {
     let image = sample(rt.alloc())?;
     let mut memory = Snapshot::of_image(rt.alloc(), &image)?;
     for address in [0x0001_0000, 0x0002_3FFC, 0x0002_4000, 0x8000_0000] {
-        assert!(rt; is_refused(memory.store8(address, 7), AccessFault::Denied), "{address:x}");
-        assert!(rt; is_refused(memory.store32(address, 7), AccessFault::Denied), "{address:x}");
-        assert!(rt; is_refused(memory.store16(address + 1, 7), AccessFault::Misaligned), "{address:x}");
-        assert!(rt; is_refused(memory.store32(address + 2, 7), AccessFault::Misaligned), "{address:x}");
+        assert!(rt;
+            is_refused(memory.store8(address, 7), AccessFault::Denied),
+            "{address:x}"
+        );
+        assert!(rt;
+            is_refused(memory.store32(address, 7), AccessFault::Denied),
+            "{address:x}"
+        );
+        assert!(rt;
+            is_refused(memory.store16(address + 1, 7), AccessFault::Misaligned),
+            "{address:x}"
+        );
+        assert!(rt;
+            is_refused(memory.store32(address + 2, 7), AccessFault::Misaligned),
+            "{address:x}"
+        );
     }
     assert_eq!(rt; memory.load32(0x0001_0000), Ok(0x02A0_0513));
     Ok(())

@@ -1,0 +1,10 @@
+pub mod Complete
+pub mod Followers
+pub mod GoesOn
+pub mod InOrder
+pub mod OneHistory
+pub mod OneStep
+pub mod SegmentEnd
+pub mod Serial
+pub mod Statuses
+pub mod Versions

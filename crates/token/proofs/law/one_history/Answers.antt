@@ -1,0 +1,16 @@
+use Rattle.token.proofs.Complete.{nothing_follows, one_answer}
+use Rattle.token.proofs.GoesOn.{some_follows}
+use Rattle.token.proofs.OneHistory.{one_beginning}
+use Rattle.token.proofs.law.one_history.Goals as goal
+
+pub returns-clause-beginning : goal.returns-clause-beginning
+returns-clause-beginning c = one_beginning
+
+pub returns-clause-follows : goal.returns-clause-follows
+returns-clause-follows c = nothing_follows
+
+pub returns-clause-goes_on : goal.returns-clause-goes_on
+returns-clause-goes_on c = some_follows
+
+pub returns-clause-answer : goal.returns-clause-answer
+returns-clause-answer c = one_answer

@@ -1,0 +1,30 @@
+-- The law of one history.
+use Rattle.std.specs.Prelude.{◌≡◌, ◌⊎◌, Some, None, List, ◌++◌}
+use Rattle.token.specs.State.{Setup}
+use Rattle.token.specs.Turns.{Step}
+use Rattle.token.specs.History.{History, Follows, IsLegal, outcome}
+use Rattle.token.specs.declared.outcome.RunOutcome.{RunOutcome}
+
+-- one history is a beginning of another: that has newer steps before it
+abbrev pub IsBeginning : History → History → Type 0
+IsBeginning one other = (newer : List Step) × (other ≡ newer ++ one)
+
+-- Of two legal histories of one setup one is a beginning of the other.
+abbrev pub OneBeginning : Type 0
+OneBeginning = (setup : Setup) (one other : History) → IsLegal setup one → IsLegal setup other → IsBeginning one other ⊎ IsBeginning other one
+
+-- Nothing follows a history that has an outcome.
+abbrev pub NothingFollows : Type 0
+NothingFollows =
+    (setup : Setup) (history : History) (step : Step) (ends : RunOutcome) → IsLegal setup history → outcome setup history ≡ Some ends → Follows setup history step → ⊥
+
+-- A step follows a legal history that has no outcome.
+abbrev pub SomeFollows : Type 0
+SomeFollows = (setup : Setup) (history : History) → IsLegal setup history → outcome setup history ≡ None → (step : Step) × Follows setup history step
+
+-- Two complete legal histories of one setup are one history and have one answer: outcome, turns, what each changed, and the last
+-- version with its memory and output.
+abbrev pub OneAnswer : Type 0
+OneAnswer =
+    (setup : Setup) (one other : History) (ends other_ends : RunOutcome) → IsLegal setup one → IsLegal setup other →
+    outcome setup one ≡ Some ends → outcome setup other ≡ Some other_ends → (one ≡ other) × (ends ≡ other_ends)

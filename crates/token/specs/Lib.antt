@@ -1,0 +1,5 @@
+pub mod Effects
+pub mod History
+pub mod Law
+pub mod State
+pub mod Turns

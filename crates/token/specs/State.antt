@@ -1,0 +1,61 @@
+-- The state of a run between two turns, whole.
+use Rattle.std.specs.Prelude.{ℕ, ◌+◌, ◌*◌, Option, Some, None, List, [], ◌∷◌, slice_get, slice_set}
+use Rattle.guest_memory.specs.Memory.{Memory}
+use Rattle.guest_memory.specs.declared.layout.TheConstants.{PAGE_SIZE, HEAP_START, STACK_POINTER}
+use Rattle.elf32_reader.specs.LoadImage.{LoadImage, memory_of}
+use Rattle.hart.specs.HartState.{HartState, started_registers}
+use Rattle.thread_table.specs.Thread.{started}
+use Rattle.thread_table.specs.declared.thread.Thread.{Thread}
+use Rattle.condvar_barrier.specs.Objects.{ObjectState, all_free}
+
+-- what a run is given: where thread 0 begins, the memory at the start, the input, how many instructions each thread may execute, and
+-- the quantum
+pub record Setup : Type 0 where
+  pub entry : ℕ
+  pub memory : Memory
+  pub input : List ℕ
+  pub bound : ℕ
+  pub quantum : Option ℕ
+
+-- What stands between two turns: the shared memory, the threads, the objects, how many pages the heap was ever given, what is left
+-- of the input, and the output.
+pub record State : Type 0 where
+  pub memory : Memory
+  pub threads : List Thread
+  pub objects : ObjectState
+  pub heap_pages : ℕ
+  pub rest : List ℕ
+  pub output : List ℕ
+
+-- what the run of an image is given
+abbrev pub setup_of : LoadImage → List ℕ → ℕ → Option ℕ → Setup
+setup_of image input bound quantum =
+    record { entry = image.entry; memory = memory_of image; input = input; bound = bound; quantum = quantum }
+
+-- a thread's hart at its start
+abbrev pub hart_at : ℕ → ℕ → ℕ → ℕ → HartState
+hart_at entry stack_pointer argument number = record { registers = started_registers stack_pointer argument number; pc = entry }
+
+-- version 0: the memory at the start, with thread 0 ready
+unfoldable pub first_state : Setup → State
+first_state setup =
+    record {
+      memory = setup.memory;
+      threads = started (hart_at setup.entry STACK_POINTER 0 0) ∷ [];
+      objects = all_free;
+      heap_pages = 0;
+      rest = setup.input;
+      output = [];
+    }
+
+-- the address behind the pages that the heap was ever given
+abbrev pub heap_top : State → ℕ
+heap_top state = HEAP_START + PAGE_SIZE * state.heap_pages
+
+-- the threads with one of them replaced by what is made of it, as they were where there is no such thread
+abbrev pub with_thread_by : List Thread → ℕ → (Thread → Thread) → Option Thread → List Thread
+with_thread_by threads n made None = threads
+with_thread_by threads n made (Some thread) = slice_set threads n (made thread)
+
+unfoldable pub with_thread : List Thread → ℕ → (Thread → Thread) → List Thread
+with_thread threads n made = with_thread_by threads n made (slice_get threads n)

@@ -1,0 +1,10 @@
+//! The serial state of a run: turns, taken in token order, and the history that they make.
+#![tactic(auto)]
+
+pub mod law;
+pub mod outcome;
+pub mod turn;
+
+pub use law::one_history;
+pub use outcome::RunOutcome;
+pub use turn::{Turn, TurnStop};
