@@ -1,9 +1,13 @@
+pub mod ByObjects
+pub mod Calls
 pub mod Complete
 pub mod Followers
 pub mod GoesOn
 pub mod InOrder
 pub mod OneHistory
 pub mod OneStep
+pub mod Parked
+pub mod Ranges
 pub mod SegmentEnd
 pub mod Serial
 pub mod Statuses

@@ -1,5 +1,9 @@
+pub mod Called
 pub mod Effects
 pub mod History
 pub mod Law
+pub mod Parts
+pub mod Shared
 pub mod State
 pub mod Turns
+pub mod Waiting

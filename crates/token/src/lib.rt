@@ -3,8 +3,11 @@
 
 pub mod law;
 pub mod outcome;
+mod parts;
+pub mod shared_state;
 pub mod turn;
 
 pub use law::one_history;
 pub use outcome::RunOutcome;
+pub use shared_state::SharedState;
 pub use turn::{Turn, TurnStop};
