@@ -35,7 +35,7 @@ use Rattle.token.specs.declared.parts.Parts.{Parts}
 use Rattle.token.specs.Effects as effects
 use Rattle.token.specs.Effects.{Effect, effect, settled, behind_reply, call_finished, completed, with_outcome, by_objects, let_pass, wake_up, create_numbered, is_permitted_range, is_page_count, is_mapped_heap}
 use Rattle.token.specs.Waiting.{is_join, waits_at_object, is_parked, are_parked}
-use Rattle.token.proofs.Parked.{parked-kept, parked-elsewhere, parked_fewer, not_among, among_fewer, apart, left, not_listed, with_thread-other, with_status-other, let_pass-other, wake_up-other}
+use Rattle.token.proofs.Parked.{slice_get-other, parked-kept, parked-elsewhere, parked_fewer, not_among, among_fewer, apart, left, not_listed, with_thread-other, with_status-other, let_pass-other, wake_up-other}
 
 -- behind a reply
 behind : (threads : List Thread) (thread : ℕ) (reply : Reply) (waiters : List Waiter) → is_among thread waiters ≡ false → are_parked threads waiters ≡ true
@@ -337,6 +337,16 @@ parked-woken before thread mutex threads objects put took woken parked =
     rw (put, took)
     (parked-elsewhere before.threads (with_thread before.threads thread (completed None)) before.objects.waiters
     (λ m among. with_thread-other before.threads thread m (completed None) (apart thread m before.objects.waiters idle among)) parked)
+
+-- where a ready thread has another row
+pub parked-set : (before : Parts) (thread : ℕ) (row : Thread) (threads : List Thread) → threads ≡ slice_set before.threads thread row
+    → is_ready (row_of (state_in before) thread).status ≡ true → are_parked before.threads before.objects.waiters ≡ true → are_parked threads before.objects.waiters ≡ true
+unfolding state_in
+parked-set before thread row threads put ready parked =
+    let idle : is_among thread before.objects.waiters ≡ false = waits_nowhere (state_in before) thread (not_blocked (row_of (state_in before) thread).status ready) parked in
+    rw put
+    (parked-elsewhere before.threads (slice_set before.threads thread row) before.objects.waiters
+    (λ m among. slice_get-other before.threads thread m row (apart thread m before.objects.waiters idle among)) parked)
 
 -- nobody waits at first
 pub parked-free : (threads : List Thread) (free : ObjectState) → free ≡ objects.all_free → are_parked threads free.waiters ≡ true

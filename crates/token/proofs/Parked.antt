@@ -36,7 +36,7 @@ or-later true other h = refl
 or-later false other h = h
 
 -- another place of a list is as it was
-slice_get-other : {X : Type 0} (xs : List X) (n m : ℕ) (x : X) → (n == m) ≡ false → slice_get (slice_set xs n x) m ≡ slice_get xs m
+pub slice_get-other : {X : Type 0} (xs : List X) (n m : ℕ) (x : X) → (n == m) ≡ false → slice_get (slice_set xs n x) m ≡ slice_get xs m
 slice_get-other [] n m x differs = refl
 slice_get-other (y ∷ ys) zero zero x differs = absurd (cc)
 slice_get-other (y ∷ ys) zero (suc m) x differs = refl

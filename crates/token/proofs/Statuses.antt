@@ -68,7 +68,7 @@ turn_of_others zero (suc m) (row ∷ threads) made allows has =
 turn_of_others (suc n) (suc m) (row ∷ threads) made allows has =
     subst (λ rows. turn_at rows (suc n) ≡ true) (sym (with_thread-cons row threads m made)) (turn_of_others n m threads made (λ same. allows (ap suc same)) has)
 
-length-with_thread : (threads : List Thread) (n : ℕ) (made : Thread → Thread) → length (with_thread threads n made) ≡ length threads
+pub length-with_thread : (threads : List Thread) (n : ℕ) (made : Thread → Thread) → length (with_thread threads n made) ≡ length threads
 unfolding with_thread
 length-with_thread threads n made = by_place (slice_get threads n)
   where
@@ -204,7 +204,7 @@ settled_kept n thread outcome other = reply_kept n outcome.state.threads thread 
 
 -- a turn
 
-after_stop_kept : (n : ℕ) (state : State) (thread : ℕ) (hart : HartState) (stop : Stop) → n ≢ thread → Keeps n state.threads (after_stop state thread hart stop).state.threads
+pub after_stop_kept : (n : ℕ) (state : State) (thread : ℕ) (hart : HartState) (stop : Stop) → n ≢ thread → Keeps n state.threads (after_stop state thread hart stop).state.threads
 unfolding after_stop
 after_stop_kept n state thread hart (stopped.Trap trap) other = as_it_was n state.threads
 after_stop_kept n state thread hart stopped.Quantum other = as_it_was n state.threads

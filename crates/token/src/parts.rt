@@ -15,11 +15,13 @@ mod transfer_calls;
 use crate::parts::replies::answered;
 use crate::parts::threads_change::{complete, finish_call, set_status};
 use calls::{Call, Code, Reply};
+use commit::{Patch, apply};
 use condvar_barrier::Objects;
 use ecalls::call_of;
+use hart::Hart;
 use paged_memory::Snapshot;
 use std::alloc::AllocError;
-use thread_table::{Status, Threads};
+use thread_table::{Status, Thread, Threads};
 
 /// What the calls of a run work on: the state of a run, of which nothing holds but its limits.
 #[derive(Drop)]
@@ -39,7 +41,9 @@ pub(crate) struct Parts {
 }
 
 impl Parts {
-    ghost use Rattle.std.specs.Prelude.{◌≡◌, ◌<◌, true, false, IfOk, OnOk, OnErr, length};
+    ghost use Rattle.std.specs.Prelude.{◌≡◌, ◌<◌, true, false, IfOk, OnOk, OnErr, length, slice_set};
+    ghost use Rattle.commit.specs.Patched.{patched};
+    ghost use Rattle.paged_memory.specs.Snapshot.{cells_of};
     ghost use Rattle.condvar_barrier.specs.Objects.{is_waiting};
     ghost use Rattle.thread_table.specs.Status.{is_ready};
     ghost use Rattle.thread_table.specs.declared.status.Status.TheVariants.{Woken};
@@ -49,6 +53,7 @@ impl Parts {
     ghost use Rattle.token.specs.Waiting.{are_parked};
     ghost use Rattle.token.specs.Turns.{after_wake};
     ghost use Rattle.token.specs.Parts.{state_in, came_to};
+    ghost use Rattle.token.specs.Shared.{committed_bytes};
 
     /// Carries out the call that the hart of a ready thread makes, and answers what it came to. Nothing changes
     /// where memory is wanting.
@@ -61,6 +66,7 @@ impl Parts {
         ensures settled { OnOk result (state_in self.new ≡ settled thread (called (state_in self.old) thread)) }
         ensures kept { OnErr result (state_in self.new ≡ state_in self.old) }
         ensures parked { are_parked self.new.threads self.new.objects.waiters ≡ true }
+        ensures input { self.new.input ≡ self.old.input }
     {
         prove!((thread as usize) < self.threads.len());
         let call = call_of(&self.threads.get(thread).hart);
@@ -78,6 +84,7 @@ impl Parts {
         requires idle { is_waiting self.old.objects thread ≡ false }
         ensures done { IfOk result (λ reply. came_to reply self.new ≡ effect (state_in self.old) thread call) }
         ensures kept { OnErr result (state_in self.new ≡ state_in self.old) }
+        ensures input { self.new.input ≡ self.old.input }
     {
         match call {
             Call::Exit { .. } => Ok(Reply::Ends),
@@ -107,7 +114,8 @@ impl Parts {
     /// blocked.
     #[tactic(auto, unfolding(crate::specs::Parts::state_in, crate::specs::Effects::settled))]
     fn settle(&mut self, thread: u32, reply: Reply)
-        ensures { state_in self.new ≡ settled thread (came_to reply self.old) }
+        ensures done { state_in self.new ≡ settled thread (came_to reply self.old) }
+        ensures input { self.new.input ≡ self.old.input }
     {
         match reply {
             Reply::Completed { code, value } => {
@@ -124,9 +132,54 @@ impl Parts {
         requires parked { are_parked self.old.threads self.old.objects.waiters ≡ true }
         ensures state { state_in self.new ≡ after_wake (state_in self.old) thread mutex }
         ensures parked { are_parked self.new.threads self.new.objects.waiters ≡ true }
+        ensures input { self.new.input ≡ self.old.input }
     {
         prove!((thread as usize) < self.threads.len());
         self.objects.take_back(thread, mutex);
         complete(&mut self.threads, thread, None);
+    }
+
+    /// Commits what a ready thread changed. It has this hart and this count of executed instructions then. Nothing
+    /// changes where memory is wanting.
+    #[tactic(auto, unfolding(crate::specs::Parts::state_in, crate::specs::Shared::committed_bytes, crate::specs::State::with_thread))]
+    pub(crate) fn commit(
+        &mut self,
+        thread: u32,
+        patch: &Patch,
+        hart: Hart,
+        executed: u64,
+    ) -> Result<(), AllocError>
+        requires made { thread < length self.old.threads }
+        requires ready { is_ready (row_of (state_in self.old) thread).status ≡ true }
+        requires parked { are_parked self.old.threads self.old.objects.waiters ≡ true }
+        ensures committed { OnOk result (state_in self.new ≡ committed_bytes (state_in self.old) thread (patched patch.now) hart executed) }
+        ensures kept { OnErr result (state_in self.new ≡ state_in self.old) }
+        ensures parked { are_parked self.new.threads self.new.objects.waiters ≡ true }
+        ensures input { self.new.input ≡ self.old.input }
+    {
+        apply(&mut self.memory, patch)?;
+        let row = *self.threads.get(thread);
+        self.threads.set(
+            thread,
+            Thread {
+                hart,
+                executed,
+                ..row
+            },
+        );
+        Ok(())
+    }
+
+    /// Takes a memory, and the row of a ready thread.
+    pub(crate) fn restore(&mut self, memory: Snapshot, thread: u32, row: Thread)
+        requires made { thread < length self.old.threads }
+        requires ready { is_ready (row_of (state_in self.old) thread).status ≡ true }
+        requires parked { are_parked self.old.threads self.old.objects.waiters ≡ true }
+        ensures restored { state_in self.new ≡ record (state_in self.old) { memory = cells_of memory; threads = slice_set self.old.threads thread row } }
+        ensures parked { are_parked self.new.threads self.new.objects.waiters ≡ true }
+        ensures input { self.new.input ≡ self.old.input }
+    {
+        self.memory = memory;
+        self.threads.set(thread, row);
     }
 }

@@ -20,6 +20,7 @@ impl Parts {
     pub(super) fn new_pages(&mut self, count: u32) -> Result<Reply, AllocError>
         ensures done { IfOk result (λ reply. came_to reply self.new ≡ effects.new_pages (state_in self.old) count) }
         ensures kept { OnErr result (state_in self.new ≡ state_in self.old) }
+        ensures input { self.new.input ≡ self.old.input }
     {
         if !is_page_count(count) {
             return Ok(answered(Code::BadArgument));
@@ -38,6 +39,7 @@ impl Parts {
     pub(super) fn release(&mut self, address: u32, count: u32) -> Result<Reply, AllocError>
         ensures done { IfOk result (λ reply. came_to reply self.new ≡ effects.release (state_in self.old) address count) }
         ensures kept { OnErr result (state_in self.new ≡ state_in self.old) }
+        ensures input { self.new.input ≡ self.old.input }
     {
         if !is_page_count(count) || address % PAGE_SIZE != 0 {
             return Ok(answered(Code::BadArgument));

@@ -15,13 +15,15 @@ use thread_table::Status;
 impl Parts {
     pub(super) fn lock(&mut self, thread: u32, mutex: u32) -> Reply
         requires { thread < 256 }
-        ensures { came_to result self.new ≡ by_objects (λ objects. row.lock objects thread mutex) (state_in self.old) }
+        ensures done { came_to result self.new ≡ by_objects (λ objects. row.lock objects thread mutex) (state_in self.old) }
+        ensures input { self.new.input ≡ self.old.input }
     {
         self.objects.lock(thread, mutex)
     }
 
     pub(super) fn unlock(&mut self, thread: u32, mutex: u32) -> Reply
-        ensures { came_to result self.new ≡ by_objects (λ objects. row.unlock objects thread mutex) (state_in self.old) }
+        ensures done { came_to result self.new ≡ by_objects (λ objects. row.unlock objects thread mutex) (state_in self.old) }
+        ensures input { self.new.input ≡ self.old.input }
     {
         self.objects.unlock(thread, mutex)
     }
@@ -29,13 +31,15 @@ impl Parts {
     pub(super) fn wait(&mut self, thread: u32, condition: u32, mutex: u32) -> Reply
         requires number { thread < 256 }
         requires idle { is_waiting self.old.objects thread ≡ false }
-        ensures { came_to result self.new ≡ by_objects (λ objects. row.wait objects thread condition mutex) (state_in self.old) }
+        ensures done { came_to result self.new ≡ by_objects (λ objects. row.wait objects thread condition mutex) (state_in self.old) }
+        ensures input { self.new.input ≡ self.old.input }
     {
         self.objects.wait(thread, condition, mutex)
     }
 
     pub(super) fn signal(&mut self, condition: u32) -> Reply
-        ensures { came_to result self.new ≡ by_objects (λ objects. row.signal objects condition) (state_in self.old) }
+        ensures done { came_to result self.new ≡ by_objects (λ objects. row.signal objects condition) (state_in self.old) }
+        ensures input { self.new.input ≡ self.old.input }
     {
         let answer = self.objects.signal(condition);
         if let Some(woken) = answer.let_go {
@@ -46,7 +50,8 @@ impl Parts {
     }
 
     pub(super) fn broadcast(&mut self, condition: u32) -> Reply
-        ensures { came_to result self.new ≡ by_objects (λ objects. row.broadcast objects condition) (state_in self.old) }
+        ensures done { came_to result self.new ≡ by_objects (λ objects. row.broadcast objects condition) (state_in self.old) }
+        ensures input { self.new.input ≡ self.old.input }
     {
         let answer = self.objects.broadcast(condition);
         wake_up(&mut self.threads, answer.let_go.as_slice());
@@ -56,7 +61,8 @@ impl Parts {
     pub(super) fn barrier(&mut self, thread: u32, number: u32, count: u32) -> Reply
         requires number { thread < 256 }
         requires idle { is_waiting self.old.objects thread ≡ false }
-        ensures { came_to result self.new ≡ by_objects (λ objects. row.barrier objects thread number count) (state_in self.old) }
+        ensures done { came_to result self.new ≡ by_objects (λ objects. row.barrier objects thread number count) (state_in self.old) }
+        ensures input { self.new.input ≡ self.old.input }
     {
         let answer = self.objects.barrier(thread, number, count);
         let_arrived_pass(&mut self.threads, answer.let_go.as_slice());

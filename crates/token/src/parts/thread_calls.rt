@@ -15,7 +15,8 @@ impl Parts {
     #[tactic(auto, unfolding(crate::specs::Parts::state_in, crate::specs::Effects::thread_exit))]
     pub(super) fn thread_exit(&mut self, thread: u32, value: u32) -> Reply
         requires { thread < length self.old.threads }
-        ensures { came_to result self.new ≡ effects.thread_exit (state_in self.old) thread value }
+        ensures done { came_to result self.new ≡ effects.thread_exit (state_in self.old) thread value }
+        ensures input { self.new.input ≡ self.old.input }
     {
         self.objects.release_all(thread);
         let joiners = self.threads.end(thread, value);
@@ -25,7 +26,8 @@ impl Parts {
 
     #[tactic(auto, unfolding(crate::specs::Parts::state_in, crate::specs::Effects::create))]
     pub(super) fn create(&mut self, entry: u32, argument: u32, stack_pointer: u32) -> Reply
-        ensures { came_to result self.new ≡ effects.create (state_in self.old) entry argument stack_pointer }
+        ensures done { came_to result self.new ≡ effects.create (state_in self.old) entry argument stack_pointer }
+        ensures input { self.new.input ≡ self.old.input }
     {
         if entry % 4 != 0 {
             return answered(Code::BadArgument);
@@ -43,7 +45,8 @@ impl Parts {
     #[tactic(auto, unfolding(crate::specs::Parts::state_in, crate::specs::Effects::join))]
     pub(super) fn join(&mut self, thread: u32, n: u32) -> Reply
         requires { thread < length self.old.threads }
-        ensures { came_to result self.new ≡ effects.join (state_in self.old) thread n }
+        ensures done { came_to result self.new ≡ effects.join (state_in self.old) thread n }
+        ensures input { self.new.input ≡ self.old.input }
     {
         let holds_lock = self.objects.holds(thread);
         self.threads.join(thread, n, holds_lock)

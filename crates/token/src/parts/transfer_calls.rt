@@ -21,6 +21,7 @@ impl Parts {
     pub(super) fn write(&mut self, address: u32, count: u32) -> Result<Reply, AllocError>
         ensures done { IfOk result (λ reply. came_to reply self.new ≡ effects.write (state_in self.old) address count) }
         ensures kept { OnErr result (state_in self.new ≡ state_in self.old) }
+        ensures input { self.new.input ≡ self.old.input }
     {
         if count > TRANSFER {
             return Ok(answered(Code::BadArgument));
@@ -39,6 +40,7 @@ impl Parts {
     pub(super) fn read(&mut self, address: u32, count: u32) -> Result<Reply, AllocError>
         ensures done { IfOk result (λ reply. came_to reply self.new ≡ effects.read (state_in self.old) address count) }
         ensures kept { OnErr result (state_in self.new ≡ state_in self.old) }
+        ensures input { self.new.input ≡ self.old.input }
     {
         if count > TRANSFER {
             return Ok(answered(Code::BadArgument));
