@@ -7,7 +7,6 @@ ghost use Rattle.token.specs.Point as point;
 
 use crate::need::{Need, Work};
 use crate::outcome::RunOutcome;
-use commit::changed_addresses;
 use crate::phase::Phase;
 use crate::segment_end::SegmentEnd;
 use crate::segment_turn::run_on;
@@ -15,6 +14,7 @@ use crate::shared_state::SharedState;
 use crate::turn::{Turn, TurnStop};
 use crate::turn_change::TurnChange;
 use crate::verdict::{keeper_behind, mutex_of, outcome_of_stop, quiet_outcome};
+use commit::changed_addresses;
 use paged_memory::Snapshot;
 use std::alloc::{AllocError, Global};
 use thread_table::{CAPACITY, Status, Thread};
