@@ -35,7 +35,7 @@ use Rattle.token.specs.declared.parts.Parts.{Parts}
 use Rattle.token.specs.Effects as effects
 use Rattle.token.specs.Effects.{Effect, effect, settled, behind_reply, call_finished, completed, with_outcome, by_objects, let_pass, wake_up, create_numbered, is_permitted_range, is_page_count, is_mapped_heap}
 use Rattle.token.specs.Waiting.{is_join, waits_at_object, is_parked, are_parked}
-use Rattle.token.proofs.Parked.{slice_get-other, parked-kept, parked-elsewhere, parked_fewer, not_among, among_fewer, apart, left, not_listed, with_thread-other, with_status-other, let_pass-other, wake_up-other}
+use Rattle.token.proofs.Parked.{slice_get-itself, slice_get-other, parked-kept, parked-elsewhere, parked_fewer, not_among, among_fewer, apart, left, not_listed, with_thread-other, with_status-other, let_pass-other, wake_up-other}
 
 -- behind a reply
 behind : (threads : List Thread) (thread : ℕ) (reply : Reply) (waiters : List Waiter) → is_among thread waiters ≡ false → are_parked threads waiters ≡ true
@@ -58,11 +58,6 @@ one_more : (threads : List Thread) (thread : Thread) (m : ℕ) → is_parked (sl
 one_more [] thread m was = absurd (cc)
 one_more (first ∷ threads) thread zero was = was
 one_more (first ∷ threads) thread (suc m) was = one_more threads thread m was
-
-slice_get-itself : {X : Type 0} (xs : List X) (n : ℕ) (x y : X) → slice_get xs n ≡ Some y → slice_get (slice_set xs n x) n ≡ Some x
-slice_get-itself [] n x y is = absurd (cc)
-slice_get-itself (first ∷ xs) zero x y is = refl
-slice_get-itself (first ∷ xs) (suc n) x y is = slice_get-itself xs n x y is
 
 blocked : (threads : List Thread) (n : ℕ) (row : Thread) → slice_get threads n ≡ Some row → slice_get (with_status threads n Blocked) n ≡ Some (record row { status = Blocked })
 unfolding with_status

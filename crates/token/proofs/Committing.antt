@@ -1,4 +1,4 @@
--- A commit changes a thread's row, and can be taken back.
+-- A commit changes a thread's row alone of the threads, and can be taken back.
 use Rattle.std.proofs.Common.{◌≡◌, ℕ, zero, suc, ◌<◌, Bool, true, false, ◌&&◌, Option, Some, None, List, [], ◌∷◌, length, take, slice_get, slice_set, unwrap_or, refl, ap, sym, ◌∙◌, subst, arith}
 use Rattle.std.specs.List.{list_all}
 use Rattle.guest_memory.specs.Memory.{Memory}
@@ -11,12 +11,8 @@ use Rattle.token.specs.History.{row_of, is_done}
 use Rattle.token.specs.Shared.{committed_bytes}
 use Rattle.token.specs.Effects.{completed}
 use Rattle.token.specs.Turns.{after_stop, after_wake}
+use Rattle.token.proofs.Parked.{slice_get-itself}
 use Rattle.token.proofs.Statuses.{after_stop_kept, length-with_thread}
-
-set_there : (threads : List Thread) (n : ℕ) (row made : Thread) → slice_get threads n ≡ Some row → slice_get (slice_set threads n made) n ≡ Some made
-set_there [] n row made is = cc
-set_there (first ∷ threads) zero row made is = refl
-set_there (first ∷ threads) (suc n) row made is = set_there threads n row made is
 
 set_back : (threads : List Thread) (n : ℕ) (row made : Thread) → slice_get threads n ≡ Some row → slice_set (slice_set threads n made) n row ≡ threads
 set_back [] n row made is = cc
@@ -43,7 +39,7 @@ committed_row state thread bytes hart executed below =
     let found = row_there state.threads thread below in
     let made : Thread → Thread = λ row. record row { hart = hart; executed = executed } in
     ap (λ threads. unwrap_or (slice_get threads thread) blank) (with_thread_there state.threads thread found.0 made found.1)
-    ∙ ap (λ place. unwrap_or place blank) (set_there state.threads thread found.0 (made found.0) found.1)
+    ∙ ap (λ place. unwrap_or place blank) (slice_get-itself state.threads thread (made found.0) found.0 found.1)
     ∙ ap made (sym (row_is state thread found.0 found.1))
 
 pub committed_len : (state : State) (thread : ℕ) (bytes : ℕ → Option ℕ) (hart : HartState) (executed : ℕ)

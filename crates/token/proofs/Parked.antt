@@ -35,6 +35,12 @@ or-later : (one other : Bool) → other ≡ true → (one || other) ≡ true
 or-later true other h = refl
 or-later false other h = h
 
+-- a place of a list has what it is set to
+pub slice_get-itself : {X : Type 0} (xs : List X) (n : ℕ) (x y : X) → slice_get xs n ≡ Some y → slice_get (slice_set xs n x) n ≡ Some x
+slice_get-itself [] n x y is = absurd (cc)
+slice_get-itself (first ∷ xs) zero x y is = refl
+slice_get-itself (first ∷ xs) (suc n) x y is = slice_get-itself xs n x y is
+
 -- another place of a list is as it was
 pub slice_get-other : {X : Type 0} (xs : List X) (n m : ℕ) (x : X) → (n == m) ≡ false → slice_get (slice_set xs n x) m ≡ slice_get xs m
 slice_get-other [] n m x differs = refl

@@ -170,7 +170,7 @@ impl Parts {
         Ok(())
     }
 
-    /// Takes a memory, and the row of a ready thread.
+    /// Sets the shared memory, and the row of a ready thread. It takes back a commit.
     pub(crate) fn restore(&mut self, memory: Snapshot, thread: u32, row: Thread)
         requires made { thread < length self.old.threads }
         requires ready { is_ready (row_of (state_in self.old) thread).status ≡ true }

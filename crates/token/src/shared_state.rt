@@ -101,7 +101,7 @@ impl SharedState {
         self.parts.commit(thread, patch, hart, executed)
     }
 
-    /// Takes a memory, and the row of a ready thread.
+    /// Sets the shared memory, and the row of a ready thread. It takes back a commit.
     pub(crate) fn restore(&mut self, memory: Snapshot, thread: u32, row: Thread)
         requires made { thread < length (state_of self.old).threads }
         requires ready { is_ready (row_of (state_of self.old) thread).status ≡ true }
