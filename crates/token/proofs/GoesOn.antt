@@ -13,8 +13,8 @@ use Rattle.token.specs.Law.{SomeFollows}
 use Rattle.token.specs.declared.outcome.RunOutcome.{RunOutcome}
 use Rattle.token.proofs.Followers.{ready_follows, woken_follows}
 use Rattle.token.proofs.InOrder.{in_order, low_of}
-use Rattle.token.proofs.SegmentEnd.{some_end}
-use Rattle.token.proofs.Serial.{Rises, serial_list_rises}
+use Rattle.token.proofs.SegmentEnds.{some_end}
+use Rattle.token.proofs.SerialList.{Rises, serial_list_rises}
 use Rattle.token.proofs.Statuses.{HasTurnIn, turn_at}
 use Rattle.token.proofs.Versions.{heads_none, list_of_next}
 

@@ -5,7 +5,7 @@ use Rattle.thread_table.specs.Threads.{numbers_where}
 use Rattle.token.specs.State.{Setup, first_state}
 use Rattle.token.specs.Turns.{Step}
 use Rattle.token.specs.History.{History, Follows, IsLegal, IsDue, IsNextOfList, first_version, heads, keeps, list_of, phase_of, present, thread_of, version}
-use Rattle.token.proofs.Serial.{Rises, Rises-behind, Rises-like, serial_list_rises}
+use Rattle.token.proofs.SerialList.{Rises, Rises-behind, Rises-like, serial_list_rises}
 use Rattle.token.proofs.Statuses.{HasTurnIn, turn_kept}
 use Rattle.token.proofs.Versions.{heads_keeper, heads_next, list_of_kept, list_of_next}
 

@@ -9,7 +9,7 @@ use Rattle.token.specs.State.{Setup, State}
 use Rattle.token.specs.Turns.{Ran, Step, run_step, wake_step, after_stop}
 use Rattle.token.specs.declared.turn.Turn.{Turn}
 use Rattle.token.specs.History.{History, Follows, IsNextOfList, IsDue, RunsPrivately, step_of, is_wake, base_of, phase_of, list_of, heads, keeps, present, version, row_of}
-use Rattle.token.proofs.SegmentEnd.{one_end}
+use Rattle.token.proofs.SegmentEnds.{one_end}
 
 -- the next of a list is determined
 same_next : (list front : List ℕ) (one other : ℕ) (rest more : List ℕ) → list ≡ front ++ one ∷ rest → list ≡ front ++ other ∷ more → one ≡ other

@@ -5,7 +5,7 @@ use Rattle.calls.specs.declared.call.Call.{Call}
 use Rattle.calls.specs.declared.call.Call.TheVariants as call
 use Rattle.calls.specs.declared.reply.Reply.{Reply}
 use Rattle.calls.specs.declared.reply.Reply.TheVariants.{Completed, Waits, Ends}
-use Rattle.condvar_barrier.specs.Objects.{ObjectState}
+use Rattle.condvar_barrier.specs.Objects.{ObjectState, holds}
 use Rattle.condvar_barrier.specs.Rows.{Outcome}
 use Rattle.condvar_barrier.specs.declared.woken.Woken.{Woken as WokenThread}
 use Rattle.hart.specs.HartState.{HartState}
@@ -13,7 +13,8 @@ use Rattle.hart.specs.declared.stop.Stop.{Stop}
 use Rattle.hart.specs.declared.stop.Stop.TheVariants as stopped
 use Rattle.thread_table.specs.Status.{has_turn}
 use Rattle.thread_table.specs.Thread.{blank, is_joiner_of, let_go, started}
-use Rattle.thread_table.specs.Threads.{ended, joiners, new_number, with_status, with_status_of}
+use Rattle.thread_table.specs.Threads as table
+use Rattle.thread_table.specs.Threads.{ended, join_reply, joiners, new_number, with_status, with_status_of}
 use Rattle.thread_table.specs.declared.status.Status.{Status}
 use Rattle.thread_table.specs.declared.status.Status.TheVariants.{Ready, Blocked}
 use Rattle.thread_table.specs.declared.thread.Thread.{Thread}
@@ -22,7 +23,7 @@ use Rattle.guest_memory.specs.Memory.{Memory}
 use Rattle.token.specs.State.{Setup, State, hart_at, with_thread, with_thread_by}
 use Rattle.token.specs.History.{History, Follows, present, row_of, step_of, version}
 use Rattle.token.specs.Turns.{Ran, Step, after_stop, committed, run_step, wake_step}
-use Rattle.token.specs.Effects.{Effect, behind_reply, by_objects, create, create_numbered, effect, join, let_pass, new_pages, read, read_upto, release, settled, thread_exit, wake_up, write, write_bytes}
+use Rattle.token.specs.Effects.{Effect, behind_reply, by_objects, create, create_numbered, effect, join, let_pass, new_pages, read, release, settled, thread_exit, wake_up, write}
 
 -- whether a thread has a turn
 abbrev pub turn_at : List Thread → ℕ → Bool
@@ -67,7 +68,7 @@ turn_of_others zero (suc m) (row ∷ threads) made allows has =
 turn_of_others (suc n) (suc m) (row ∷ threads) made allows has =
     subst (λ rows. turn_at rows (suc n) ≡ true) (sym (with_thread-cons row threads m made)) (turn_of_others n m threads made (λ same. allows (ap suc same)) has)
 
-length-with_thread : (threads : List Thread) (n : ℕ) (made : Thread → Thread) → length (with_thread threads n made) ≡ length threads
+pub length-with_thread : (threads : List Thread) (n : ℕ) (made : Thread → Thread) → length (with_thread threads n made) ≡ length threads
 unfolding with_thread
 length-with_thread threads n made = by_place (slice_get threads n)
   where
@@ -147,16 +148,12 @@ create_kept n state entry argument stack_pointer =
     either_kept n state.threads (entry % 4 == 0) (create_numbered state entry argument stack_pointer (new_number state.threads)) _
     (numbered_kept n state entry argument stack_pointer (new_number state.threads)) (as_it_was n state.threads)
 
-bytes_kept : (n : ℕ) (state : State) (count : ℕ) (bytes : Option (List ℕ)) → Keeps n state.threads (write_bytes state count bytes).state.threads
-bytes_kept n state count None = as_it_was n state.threads
-bytes_kept n state count (Some bytes) = either_kept n state.threads _ _ _ (as_it_was n state.threads) (as_it_was n state.threads)
-
 write_kept : (n : ℕ) (state : State) (address count : ℕ) → Keeps n state.threads (write state address count).state.threads
 unfolding write
-write_kept n state address count = search (as_it_was, either_kept, bytes_kept)
+write_kept n state address count = search (as_it_was, either_kept)
 
 read_kept : (n : ℕ) (state : State) (address count : ℕ) → Keeps n state.threads (read state address count).state.threads
-unfolding read read_upto
+unfolding read
 read_kept n state address count = search (as_it_was, either_kept)
 
 new_pages_kept : (n : ℕ) (state : State) (count : ℕ) → Keeps n state.threads (new_pages state count).state.threads
@@ -167,12 +164,22 @@ release_kept : (n : ℕ) (state : State) (address count : ℕ) → Keeps n state
 unfolding release
 release_kept n state address count = search (as_it_was, either_kept)
 
+-- the caller of join is blocked where it waits
+waiting_kept : (n : ℕ) (threads : List Thread) (thread : ℕ) (reply : Reply) → n ≢ thread → Keeps n threads (table.behind_reply threads thread reply)
+waiting_kept n threads thread (Completed code value) other = as_it_was n threads
+waiting_kept n threads thread Waits other = status_kept n thread threads Blocked (λ same. absurd (other same))
+waiting_kept n threads thread Ends other = as_it_was n threads
+
+join_kept : (n : ℕ) (state : State) (thread number : ℕ) → n ≢ thread → Keeps n state.threads (join state thread number).state.threads
+unfolding join
+join_kept n state thread number other = waiting_kept n state.threads thread (join_reply state.threads thread number (holds state.objects thread)) other
+
 effect_kept : (n : ℕ) (state : State) (thread : ℕ) (made : Call) → n ≢ thread → Keeps n state.threads (effect state thread made).state.threads
-unfolding effect join
+unfolding effect
 effect_kept n state thread (call.Exit status) other = as_it_was n state.threads
 effect_kept n state thread (call.ThreadExit value) other = thread_exit_kept n state thread value other
 effect_kept n state thread (call.Create entry argument stack_pointer) other = create_kept n state entry argument stack_pointer
-effect_kept n state thread (call.Join number) other = as_it_was n state.threads
+effect_kept n state thread (call.Join number) other = join_kept n state thread number other
 effect_kept n state thread (call.Lock mutex) other = by_objects_kept n _ state
 effect_kept n state thread (call.Unlock mutex) other = by_objects_kept n _ state
 effect_kept n state thread (call.Wait condition mutex) other = by_objects_kept n _ state
@@ -197,7 +204,7 @@ settled_kept n thread outcome other = reply_kept n outcome.state.threads thread 
 
 -- a turn
 
-after_stop_kept : (n : ℕ) (state : State) (thread : ℕ) (hart : HartState) (stop : Stop) → n ≢ thread → Keeps n state.threads (after_stop state thread hart stop).state.threads
+pub after_stop_kept : (n : ℕ) (state : State) (thread : ℕ) (hart : HartState) (stop : Stop) → n ≢ thread → Keeps n state.threads (after_stop state thread hart stop).state.threads
 unfolding after_stop
 after_stop_kept n state thread hart (stopped.Trap trap) other = as_it_was n state.threads
 after_stop_kept n state thread hart stopped.Quantum other = as_it_was n state.threads

@@ -1,5 +1,5 @@
 -- What each call makes of the state: the call table, a row each.
-use Rattle.std.specs.Prelude.{ℕ, zero, suc, ◌+◌, ◌*◌, ◌%◌, ◌^◌, Bool, true, false, ◌&&◌, ◌||◌, not, ◌==◌, nat_le, nat_lt, min, if◌then◌else◌, Option, Some, None, option_map, option_and_then, is_some, List, [], ◌∷◌, ◌++◌, length, take, drop}
+use Rattle.std.specs.Prelude.{ℕ, zero, suc, ◌+◌, ◌*◌, ◌%◌, ◌^◌, Bool, true, false, ◌&&◌, ◌||◌, not, ◌==◌, nat_le, nat_lt, min, if◌then◌else◌, Option, Some, None, option_map, unwrap_or, is_some, List, [], ◌∷◌, ◌++◌, length, take, drop}
 use Rattle.guest_memory.specs.Memory.{Memory, permitted}
 use Rattle.guest_memory.specs.Layout.{page_of}
 use Rattle.guest_memory.specs.declared.layout.TheConstants.{PAGE_SIZE, HEAP_START, HEAP_PAGES}
@@ -13,7 +13,7 @@ use Rattle.calls.specs.declared.reply.Reply.{Reply}
 use Rattle.calls.specs.declared.reply.Reply.TheVariants.{Completed, Waits, Ends}
 use Rattle.calls.specs.declared.limits.TheConstants.{TRANSFER, CALL_PAGES, OUTPUT}
 use Rattle.ecalls.specs.Answer.{finished}
-use Rattle.thread_table.specs.Threads.{new_number, created, join_reply, joiners, ended, with_status}
+use Rattle.thread_table.specs.Threads.{new_number, created, join_reply, joined, joiners, ended, with_status}
 use Rattle.thread_table.specs.declared.thread.Thread.{Thread}
 use Rattle.thread_table.specs.declared.status.Status.TheVariants.{Ready, Woken, Blocked}
 use Rattle.condvar_barrier.specs.Objects.{ObjectState, holds}
@@ -48,11 +48,14 @@ unfoldable pub wake_up : List WokenThread → List Thread → List Thread
 wake_up [] threads = threads
 wake_up (woken ∷ rest) threads = wake_up rest (with_status threads woken.thread (Woken woken.mutex))
 
--- a call of the objects: they are as it leaves them, and the threads that it lets go are woken, or pass with the value 0
-unfoldable pub by_objects : (ObjectState → Outcome) → State → Effect
-by_objects row state =
-    let outcome : Outcome = row state.objects in
+-- what the objects come to: they are so then, and the threads that are let go are woken, or pass with the value 0
+abbrev pub with_outcome : Outcome → State → Effect
+with_outcome outcome state =
     record { reply = outcome.reply; state = record state { objects = outcome.objects; threads = let_pass 0 outcome.passed (wake_up outcome.woken state.threads) } }
+
+-- a call of the objects
+unfoldable pub by_objects : (ObjectState → Outcome) → State → Effect
+by_objects row state = with_outcome (row state.objects) state
 
 -- thread_exit(value): the thread's mutexes are free, and its joiners pass with the value
 unfoldable pub thread_exit : State → ℕ → ℕ → Effect
@@ -72,41 +75,45 @@ unfoldable pub create : State → ℕ → ℕ → ℕ → Effect
 create state entry argument stack_pointer =
     if entry % 4 == 0 then create_numbered state entry argument stack_pointer (new_number state.threads) else answered BadArgument state
 
--- join(n): the state is as it was, but for a caller that waits
+-- join(n): the caller is blocked where it waits
 unfoldable pub join : State → ℕ → ℕ → Effect
-join state thread n = record { reply = join_reply state.threads thread n (holds state.objects thread); state = state }
+join state thread n =
+    let holds_lock : Bool = holds state.objects thread in
+    record { reply = join_reply state.threads thread n holds_lock; state = record state { threads = joined state.threads thread n holds_lock } }
 
--- the bytes of a range of addresses, where each is permitted
-unfoldable pub range_bytes : (Perm → Bool) → Memory → ℕ → ℕ → Option (List ℕ)
-range_bytes may memory address zero = Some []
-range_bytes may memory address (suc count) =
-    option_and_then (λ byte. option_map (λ rest. byte ∷ rest) (range_bytes may memory (address + 1) count)) (permitted may memory address)
+-- whether each address of a range is permitted
+unfoldable pub all_permitted : (Perm → Bool) → Memory → ℕ → ℕ → Bool
+all_permitted may memory address zero = true
+all_permitted may memory address (suc count) = is_some (permitted may memory address) && all_permitted may memory (address + 1) count
 
--- the bytes of a range that ends within the addresses
-unfoldable pub permitted_range : (Perm → Bool) → Memory → ℕ → ℕ → Option (List ℕ)
-permitted_range may memory address count = if nat_le (address + count) (2 ^ 32) then range_bytes may memory address count else None
+-- whether a range ends within the addresses and is permitted
+abbrev pub is_permitted_range : (Perm → Bool) → Memory → ℕ → ℕ → Bool
+is_permitted_range may memory address count = nat_le (address + count) (2 ^ 32) && all_permitted may memory address count
 
--- write(address, count), by the bytes of the range
-abbrev pub write_bytes : State → ℕ → Option (List ℕ) → Effect
-write_bytes state count None = answered BadAddress state
-write_bytes state count (Some bytes) =
-    if nat_lt OUTPUT (length state.output + count) then answered Limit state else answered_with count (record state { output = state.output ++ bytes })
+-- the byte at an address, 0 where it isn't mapped
+abbrev pub byte_at : Memory → ℕ → ℕ
+byte_at memory address = unwrap_or (option_map (λ cell. cell.byte) (memory address)) 0
 
+-- the bytes of a range
+unfoldable pub bytes_of : Memory → ℕ → ℕ → List ℕ
+bytes_of memory address zero = []
+bytes_of memory address (suc count) = byte_at memory address ∷ bytes_of memory (address + 1) count
+
+-- write(address, count)
 unfoldable pub write : State → ℕ → ℕ → Effect
 write state address count =
     if nat_lt TRANSFER count then answered BadArgument state
-    else write_bytes state count (permitted_range (λ perm. perm.read) state.memory address count)
+    else (if not (is_permitted_range (λ perm. perm.read) state.memory address count) then answered BadAddress state
+    else (if nat_lt OUTPUT (length state.output + count) then answered Limit state
+    else answered_with count (record state { output = state.output ++ bytes_of state.memory address count })))
 
 -- read(address, count): the next bytes of the input, as many as there are and as the caller asks for, go to shared memory
-unfoldable pub read_upto : State → ℕ → ℕ → Effect
-read_upto state address count =
-    answered_with (min count (length state.rest))
-    (record state { memory = with_bytes address (take count state.rest) state.memory; rest = drop count state.rest })
-
 unfoldable pub read : State → ℕ → ℕ → Effect
 read state address count =
     if nat_lt TRANSFER count then answered BadArgument state
-    else (if is_some (permitted_range (λ perm. perm.write) state.memory address count) then read_upto state address count else answered BadAddress state)
+    else (if not (is_permitted_range (λ perm. perm.write) state.memory address count) then answered BadAddress state
+    else answered_with (min count (length state.rest))
+    (record state { memory = with_bytes address (take count state.rest) state.memory; rest = drop count state.rest }))
 
 -- whether a call may name so many pages
 abbrev pub is_page_count : ℕ → Bool
@@ -125,13 +132,17 @@ unfoldable pub are_mapped : Memory → ℕ → ℕ → Bool
 are_mapped memory page zero = true
 are_mapped memory page (suc count) = is_some (memory (PAGE_SIZE * page)) && are_mapped memory (page + 1) count
 
+-- whether so many pages from an address on are the heap's and mapped
+abbrev pub is_mapped_heap : State → ℕ → ℕ → Bool
+is_mapped_heap state address count =
+    nat_le HEAP_START address && nat_le (address + PAGE_SIZE * count) (heap_top state) && are_mapped state.memory (page_of address) count
+
 -- release(address, count): a page of the heap that isn't mapped was released before
 unfoldable pub release : State → ℕ → ℕ → Effect
 release state address count =
     if not (is_page_count count) || not (address % PAGE_SIZE == 0) then answered BadArgument state
-    else (if nat_le HEAP_START address && nat_le (address + PAGE_SIZE * count) (heap_top state) && are_mapped state.memory (page_of address) count
-    then answered Done (record state { memory = without_pages (page_of address) count state.memory })
-    else answered BadAddress state)
+    else (if not (is_mapped_heap state address count) then answered BadAddress state
+    else answered Done (record state { memory = without_pages (page_of address) count state.memory }))
 
 -- the call table: what thread's call makes of the state
 unfoldable pub effect : State → ℕ → Call → Effect
@@ -152,9 +163,13 @@ effect state thread call.Sync = answered Done state
 effect state thread (call.Release address count) = release state address count
 effect state thread (call.Unknown number) = answered NoSuchCall state
 
+-- a thread whose call is finished, with its status as it was
+abbrev pub call_finished : Code → Option ℕ → Thread → Thread
+call_finished code value thread = record thread { hart = finished thread.hart code value }
+
 -- the threads behind a call that came to this for its caller: a completed call is finished in its hart, and who waits is blocked
 abbrev pub behind_reply : List Thread → ℕ → Reply → List Thread
-behind_reply threads thread (Completed code value) = with_thread threads thread (λ row. record row { hart = finished row.hart code value })
+behind_reply threads thread (Completed code value) = with_thread threads thread (call_finished code value)
 behind_reply threads thread Waits = with_status threads thread Blocked
 behind_reply threads thread Ends = threads
 

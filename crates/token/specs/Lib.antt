@@ -1,5 +1,13 @@
+pub mod Called
+pub mod Change
 pub mod Effects
 pub mod History
 pub mod Law
+pub mod Parts
+pub mod Point
+pub mod Progress
+pub mod Serial
+pub mod Shared
 pub mod State
 pub mod Turns
+pub mod Waiting

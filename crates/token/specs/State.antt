@@ -36,17 +36,21 @@ setup_of image input bound quantum =
 abbrev pub hart_at : ℕ → ℕ → ℕ → ℕ → HartState
 hart_at entry stack_pointer argument number = record { registers = started_registers stack_pointer argument number; pc = entry }
 
--- version 0: the memory at the start, with thread 0 ready
-unfoldable pub first_state : Setup → State
-first_state setup =
+-- the state where thread 0 is about to begin at an entry, with this memory and this input
+abbrev pub started_state : ℕ → Memory → List ℕ → State
+started_state entry memory input =
     record {
-      memory = setup.memory;
-      threads = started (hart_at setup.entry STACK_POINTER 0 0) ∷ [];
+      memory = memory;
+      threads = started (hart_at entry STACK_POINTER 0 0) ∷ [];
       objects = all_free;
       heap_pages = 0;
-      rest = setup.input;
+      rest = input;
       output = [];
     }
+
+-- version 0
+unfoldable pub first_state : Setup → State
+first_state setup = started_state setup.entry setup.memory setup.input
 
 -- the address behind the pages that the heap was ever given
 abbrev pub heap_top : State → ℕ

@@ -62,11 +62,16 @@ run_step state phase thread base copy executed ran =
       after = end.state;
     }
 
--- the turn of a woken thread: it takes the mutex of its wait, and the wait is done
+-- the state behind the turn of a woken thread: it takes the mutex of its wait, and the wait is done
+abbrev pub after_wake : State → ℕ → ℕ → State
+after_wake state thread mutex =
+    record state { objects = take_back state.objects thread mutex; threads = with_thread state.threads thread (completed None) }
+
+-- the turn of a woken thread
 unfoldable pub wake_step : State → ℕ → ℕ → ℕ → ℕ → Step
 wake_step state phase thread base mutex =
     record {
       turn = record { phase = phase; thread = thread; base = base; stop = Wake mutex; changed = 0; ran = 0 };
       changes = [];
-      after = record state { objects = take_back state.objects thread mutex; threads = with_thread state.threads thread (completed None) };
+      after = after_wake state thread mutex;
     }

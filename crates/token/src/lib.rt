@@ -2,9 +2,25 @@
 #![tactic(auto)]
 
 pub mod law;
+pub mod need;
 pub mod outcome;
+mod parts;
+mod phase;
+pub mod progress;
+mod segment;
+pub mod segment_end;
+mod segment_turn;
+pub mod serial;
+pub mod shared_state;
 pub mod turn;
+pub mod turn_change;
+mod verdict;
 
 pub use law::one_history;
+pub use need::{Need, Work};
 pub use outcome::RunOutcome;
+pub use segment_end::SegmentEnd;
+pub use serial::Serial;
+pub use shared_state::SharedState;
 pub use turn::{Turn, TurnStop};
+pub use turn_change::TurnChange;

@@ -1,0 +1,296 @@
+-- A run that stands behind a history stands behind the longer one once its next step is made.
+use Rattle.std.proofs.Common.{◌≡◌, ℕ, zero, suc, ◌+◌, ◌<◌, ◌≤◌, ◌^◌, Bool, true, false, not, ◌||◌, ◌==◌, nat_lt, if◌then◌else◌, Option, Some, None, is_some, List, [], ◌∷◌, ◌++◌, length, take, refl, ap, sym, ◌∙◌, subst, inl, inr, arith, length-append}
+use Rattle.std.proofs.lemmas.Bool.{and_left, and_right, eq-eqb, eqb-false, ne_eqb, ltb-true, ltb-false, not_from_true}
+use Rattle.std.proofs.lemmas.List.{take_more, length-take-le}
+use Rattle.thread_table.specs.Threads.{serial_list}
+use Rattle.thread_table.specs.declared.thread.Thread.{Thread}
+use Rattle.token.specs.History.{History, Follows, IsLegal, first_version, heads, is_quiet, keeps, last_outcome, list_of, outcome, phase_of, present, quiet_outcome, thread_of, turns_of, version}
+use Rattle.token.specs.Point.{Point, behind, change_of, due_at, due_by, keeper_behind, moved, next_phase, passed_on, recorded}
+use Rattle.token.specs.Serial.{StandsBehind, changes_of, keeper_of}
+use Rattle.token.specs.State.{Setup, State}
+use Rattle.token.specs.Turns.{Step}
+use Rattle.token.specs.declared.outcome.RunOutcome.{RunOutcome}
+use Rattle.token.proofs.Outputs.{output_grows}
+use Rattle.token.proofs.Versions.{first_version_kept, first_version_next, first_version_within, heads_keeper, heads_next, heads_none, version_last, version_older}
+
+-- a run stands behind a history in the phase of its last turn
+pub record StandsIn (point : Point) (history : History) : Type 0 where
+  pub legal : IsLegal point.setup history
+  pub turns : turns_of history ≡ point.turns
+  pub changes : changes_of history ≡ point.changes
+  pub state : present point.setup history ≡ point.state
+  pub first : first_version history point.phase ≡ point.first
+  pub base : (version point.setup history point.first).memory ≡ point.base
+  pub base_threads : (version point.setup history point.first).threads ≡ point.base_threads
+  pub list : serial_list point.base_threads ≡ point.list
+  pub heads : heads history point.phase ≡ take point.given point.list
+  pub within : point.given ≤ length point.list
+  pub keeper : keeper_of history ≡ point.keeper
+  pub ended : last_outcome history ≡ point.ended
+  pub phase : point.phase ≡ phase_of history
+  pub number : point.phase ≤ length point.turns
+  pub bound : point.setup.bound ≤ 2 ^ 40
+  pub fresh : point.fresh_from ≤ length point.state.output
+
+-- the keeper
+
+kept_if : (keeps : Bool) (thread keeper : ℕ) → (if keeps then Some thread else None) ≡ Some keeper → (keeps ≡ true) × (thread ≡ keeper)
+kept_if true thread keeper is = (refl, cc)
+kept_if false thread keeper is = cc
+
+free_if : (keeps : Bool) (thread : ℕ) → (if keeps then Some thread else None) ≡ None → keeps ≡ false
+free_if true thread is = cc
+free_if false thread is = refl
+
+pub keeper_is : (history : History) (keeper : ℕ) → keeper_of history ≡ Some keeper → (keeps history ≡ true) × (thread_of history ≡ keeper)
+keeper_is history keeper is = kept_if (keeps history) (thread_of history) keeper is
+
+pub no_keeper : (history : History) → keeper_of history ≡ None → keeps history ≡ false
+no_keeper history is = free_if (keeps history) (thread_of history) is
+
+-- the list
+
+pub list_is : (setup : Setup) (history : History) (phase first : ℕ) (threads : List Thread) (list : List ℕ) → first_version history phase ≡ first
+    → (version setup history first).threads ≡ threads → serial_list threads ≡ list → list_of setup history phase ≡ list
+unfolding list_of
+list_is setup history phase first threads list begins has lists =
+    ap (λ number. serial_list (version setup history number).threads) begins ∙ ap serial_list has ∙ lists
+
+pub turns_len : (history : History) → length (turns_of history) ≡ length history
+unfolding turns_of
+turns_len [] = refl
+turns_len (step ∷ before) = let rest = turns_len before in length-append (turns_of before) (step.turn ∷ []) ∙ omega arith
+
+-- one step
+
+heads_behind : (history : History) (step : Step) (phase given : ℕ) (list : List ℕ) (keeper : Option ℕ) → keeper_of history ≡ keeper → heads history phase ≡ take given list
+    → step.turn.phase ≡ phase → step.turn.thread ≡ due_by keeper list given → (keeper ≡ None → given < length list)
+    → heads (step ∷ history) phase ≡ take (if is_some keeper then given else given + 1) list
+heads_behind history step phase given list (Some keeper) keeps now same thread listed = heads_keeper history step phase (keeper_is history keeper keeps).0 ∙ now
+heads_behind history step phase given list None keeps now same thread listed =
+    let more = subst (λ p. heads (step ∷ history) p ≡ heads history p ++ step.turn.thread ∷ []) same (heads_next history step (no_keeper history keeps)) in
+    more ∙ ap (λ front. front ++ step.turn.thread ∷ []) now ∙ ap (λ n. take given list ++ n ∷ []) thread ∙ sym (take_more list given 0 (listed refl))
+
+within_behind : (given : ℕ) (list : List ℕ) (keeper : Option ℕ) → given ≤ length list → (keeper ≡ None → given < length list) → (if is_some keeper then given else given + 1) ≤ length list
+within_behind given list (Some keeper) within listed = within
+within_behind given list None within listed = let below = listed refl in omega arith
+
+keeper_made : (history : History) (step : Step) → keeper_of (step ∷ history) ≡ keeper_behind step.after step.turn.thread step.turn.stop
+unfolding keeps last_outcome thread_of keeper_behind
+keeper_made history step = refl
+
+stands_in : (point : Point) (history : History) (step : Step) → StandsBehind point history → Follows point.setup history step → step.turn.phase ≡ point.phase
+    → step.turn.thread ≡ due_at point → (point.keeper ≡ None → point.given < length point.list) → StandsIn (behind point step) (step ∷ history)
+unfolding behind recorded IsLegal turns_of changes_of present last_outcome phase_of due_at
+stands_in point history step stands follows same thread listed =
+    let begins : first_version (step ∷ history) point.phase ≡ point.first = first_version_kept history step point.phase (omega arith) ∙ stands.first in
+    let first : point.first ≤ length history = subst (λ n. n ≤ length history) stands.first (first_version_within history point.phase) in
+    let base = version_older point.setup history step point.first first in
+    let grows = output_grows point.setup history step follows in
+    record {
+      legal = (follows, stands.legal);
+      turns = ap (λ turns. turns ++ step.turn ∷ []) stands.turns;
+      changes = ap (λ changes. changes ++ change_of step ∷ []) stands.changes;
+      state = refl;
+      first = begins;
+      base = ap (λ state. state.memory) base ∙ stands.base;
+      base_threads = ap (λ state. state.threads) base ∙ stands.base_threads;
+      list = stands.list;
+      heads = heads_behind history step point.phase point.given point.list point.keeper stands.keeper stands.heads same thread listed;
+      within = within_behind point.given point.list point.keeper stands.within listed;
+      keeper = keeper_made history step;
+      ended = refl;
+      phase = sym same;
+      number = simp length-append (omega (arith, stands.number));
+      bound = stands.bound;
+      fresh = output_within point.setup history step.after point.state stands.state grows.more grows.is;
+    }
+  where
+    output_within : (setup : Setup) (history : History) (after state : State) → present setup history ≡ state → (more : List ℕ)
+        → after.output ≡ (present setup history).output ++ more → length state.output ≤ length after.output
+    output_within setup history after state is more output =
+        let long = ap length output ∙ length-append (present setup history).output more in
+        let same = ap (λ state. length state.output) is in
+        omega arith
+
+-- whether the phase goes on
+
+outcome_of_last : (last : Option RunOutcome) (quiet : Bool) (there : RunOutcome) → (last ≡ None → quiet ≡ false) → (if is_some last then last else (if quiet then Some there else None)) ≡ last
+outcome_of_last (Some ends) quiet there lively = refl
+outcome_of_last None quiet there lively = rw (lively refl) refl
+
+left_over : (ended : Option RunOutcome) (keeper : Option ℕ) (below : Bool) → (is_some ended || is_some keeper || below) ≡ true → ended ≡ None → keeper ≡ None → below ≡ true
+left_over None None below goes running free = goes
+left_over (Some ends) keeper below goes running free = cc
+left_over None (Some thread) below goes running free = cc
+
+used_up : (ended : Option RunOutcome) (keeper : Option ℕ) (below : Bool) → (is_some ended || is_some keeper || below) ≡ false → (ended ≡ None) × (keeper ≡ None) × (below ≡ false)
+used_up None None below goes = (refl, refl, goes)
+used_up (Some ends) keeper below goes = cc
+used_up None (Some thread) below goes = cc
+
+-- whether a phase goes on
+abbrev goes_on : Point → Bool
+goes_on point = is_some point.ended || is_some point.keeper || nat_lt point.given (length point.list)
+
+-- the heads of the last phase and its list
+heads_len : (point : Point) (history : History) → StandsIn point history → length (heads history (phase_of history)) ≡ point.given
+heads_len point history stands =
+    subst (λ phase. length (heads history phase) ≡ point.given) stands.phase (ap length stands.heads ∙ length-take-le point.given point.list stands.within)
+
+last_list : (point : Point) (history : History) → StandsIn point history → list_of point.setup history (phase_of history) ≡ point.list
+last_list point history stands =
+    subst (λ phase. list_of point.setup history phase ≡ point.list) stands.phase
+    (list_is point.setup history point.phase point.first point.base_threads point.list stands.first stands.base_threads stands.list)
+
+lively_by : (point : Point) (history : History) → StandsIn point history → goes_on point ≡ true → (keeper : Bool) → keeps history ≡ keeper → last_outcome history ≡ None
+    → is_quiet point.setup history ≡ false
+unfolding is_quiet
+lively_by point history stands goes true keeper running = and_left (not (keeps history)) _ (not_from_true (keeps history) keeper)
+lively_by point history stands goes false keeper running =
+    let free : point.keeper ≡ None = sym stands.keeper ∙ ap (λ keeper. if keeper then Some (thread_of history) else None) keeper in
+    let below = ltb-true point.given (length point.list) (left_over point.ended point.keeper _ goes (sym stands.ended ∙ running) free) in
+    let given = heads_len point history stands in
+    let list = ap length (last_list point history stands) in
+    and_right (not (keeps history)) _ (and_left (length (heads history (phase_of history)) == length (list_of point.setup history (phase_of history))) _ (ne_eqb _ _ (λ same. omega arith)))
+
+goes : (point : Point) (history : History) → StandsIn point history → goes_on point ≡ true → StandsBehind point history
+unfolding outcome
+goes point history stands on =
+    record {
+      legal = stands.legal;
+      turns = stands.turns;
+      changes = stands.changes;
+      state = stands.state;
+      first = stands.first;
+      base = stands.base;
+      base_threads = stands.base_threads;
+      list = stands.list;
+      heads = stands.heads;
+      within = stands.within;
+      keeper = stands.keeper;
+      ended = outcome_of_last (last_outcome history) (is_quiet point.setup history) _ (lively_by point history stands on (keeps history) refl) ∙ stands.ended;
+      phase = inl stands.phase;
+      next = λ running free. ltb-true point.given (length point.list) (left_over point.ended point.keeper _ on running free);
+      number = let number = stands.number in omega arith;
+      bound = stands.bound;
+      fresh = stands.fresh;
+    }
+
+quiet_if : (point : Point) (history : History) → StandsIn point history → keeps history ≡ false → length point.list ≤ point.given → (empty : Bool)
+    → (length (serial_list point.state.threads) == 0) ≡ empty → is_quiet point.setup history ≡ empty
+unfolding is_quiet
+quiet_if point history stands free used empty is =
+    let given = heads_len point history stands in
+    let list = ap length (last_list point history stands) in
+    let within = stands.within in
+    let same : (length (heads history (phase_of history)) == length (list_of point.setup history (phase_of history))) ≡ true = eq-eqb _ _ (omega arith) in
+    let there : (length (serial_list (present point.setup history).threads) == 0) ≡ empty = ap (λ state. length (serial_list state.threads) == 0) stands.state ∙ is in
+    rw (free, same) there
+
+-- the run ends
+ends : (point : Point) (history : History) → StandsIn point history → point.ended ≡ None → is_quiet point.setup history ≡ true
+    → StandsBehind (record point { ended = Some (quiet_outcome point.state) }) history
+unfolding outcome
+ends point history stands running quiet =
+    let last : last_outcome history ≡ None = stands.ended ∙ running in
+    record {
+      legal = stands.legal;
+      turns = stands.turns;
+      changes = stands.changes;
+      state = stands.state;
+      first = stands.first;
+      base = stands.base;
+      base_threads = stands.base_threads;
+      list = stands.list;
+      heads = stands.heads;
+      within = stands.within;
+      keeper = stands.keeper;
+      ended = rw (last, quiet) (ap (λ state. Some (quiet_outcome state)) stands.state);
+      phase = inl stands.phase;
+      next = λ more free. cc;
+      number = let number = stands.number in omega arith;
+      bound = stands.bound;
+      fresh = stands.fresh;
+    }
+
+-- the next phase begins
+begins : (point : Point) (history : History) → StandsIn point history → point.ended ≡ None → point.keeper ≡ None → length point.list ≤ point.given
+    → is_quiet point.setup history ≡ false → (length (serial_list point.state.threads) == 0) ≡ false
+    → StandsBehind
+    (record point { phase = point.phase + 1; first = length point.turns; base = point.state.memory; base_threads = point.state.threads; list = serial_list point.state.threads; given = 0 })
+    history
+unfolding outcome
+begins point history stands running free used lively filled =
+    let phase : point.phase + 1 ≡ suc (phase_of history) = let same = stands.phase in omega arith in
+    let above : phase_of history < point.phase + 1 = omega arith in
+    let number : length history ≡ length point.turns = sym (turns_len history) ∙ ap length stands.turns in
+    let last : last_outcome history ≡ None = stands.ended ∙ running in
+    let there : version point.setup history (length point.turns) ≡ point.state =
+    ap (version point.setup history) (sym number) ∙ version_last point.setup history ∙ stands.state in
+    let some : length (serial_list point.state.threads) ≡ 0 → ⊥ = eqb-false _ _ filled in
+    let all : take point.given point.list ≡ point.list = take_all point.given point.list used in
+    record {
+      legal = stands.legal;
+      turns = stands.turns;
+      changes = stands.changes;
+      state = stands.state;
+      first = first_version_next point.setup history (point.phase + 1) stands.legal above ∙ number;
+      base = ap (λ state. state.memory) there;
+      base_threads = ap (λ state. state.threads) there;
+      list = refl;
+      heads = heads_none point.setup history (point.phase + 1) stands.legal above;
+      within = omega arith;
+      keeper = stands.keeper;
+      ended = rw (last, lively) (sym running);
+      phase = inr (
+        phase,
+        no_keeper history (stands.keeper ∙ free),
+        last_list point history stands ∙ sym all ∙ subst (λ phase. take point.given point.list ≡ heads history phase) stands.phase (sym stands.heads),
+      );
+      next = λ more none. omega (arith, some);
+      number = let number = stands.number in omega arith;
+      bound = stands.bound;
+      fresh = stands.fresh;
+    }
+  where
+    take_all : (n : ℕ) (list : List ℕ) → length list ≤ n → take n list ≡ list
+    take_all n [] within = take_none n
+      where
+        take_none : (n : ℕ) → let none : List ℕ = [] in take n none ≡ none
+        take_none zero = refl
+        take_none (suc n) = refl
+    take_all zero (m ∷ list) within = absurd (omega arith)
+    take_all (suc n) (m ∷ list) within = ap (λ rest. m ∷ rest) (take_all n list (omega arith))
+
+next_stands : (point : Point) (history : History) → StandsIn point history → goes_on point ≡ false → StandsBehind (next_phase point (serial_list point.state.threads)) history
+unfolding next_phase
+next_stands point history stands over =
+    let parts = used_up point.ended point.keeper (nat_lt point.given (length point.list)) over in
+    by_list point history stands parts.0 parts.1 (ltb-false _ _ parts.2) (length (serial_list point.state.threads) == 0) refl
+  where
+    by_list : (point : Point) (history : History) → StandsIn point history → point.ended ≡ None → point.keeper ≡ None → length point.list ≤ point.given → (empty : Bool)
+        → (length (serial_list point.state.threads) == 0) ≡ empty
+        → StandsBehind
+        (if empty then record point { ended = Some (quiet_outcome point.state) }
+        else record point { phase = point.phase + 1; first = length point.turns; base = point.state.memory; base_threads = point.state.threads; list = serial_list point.state.threads; given = 0 })
+        history
+    by_list point history stands running free used true is =
+        ends point history stands running (quiet_if point history stands (no_keeper history (stands.keeper ∙ free)) used true is)
+    by_list point history stands running free used false is =
+        begins point history stands running free used (quiet_if point history stands (no_keeper history (stands.keeper ∙ free)) used false is) is
+
+-- behind a step in its phase the run passes on
+pub passes_on : (point : Point) (history : History) → StandsIn point history → StandsBehind (passed_on point) history
+unfolding passed_on
+passes_on point history stands = by_test (goes_on point) refl
+  where
+    by_test : (on : Bool) → goes_on point ≡ on → StandsBehind (if on then point else next_phase point (serial_list point.state.threads)) history
+    by_test true is = goes point history stands is
+    by_test false is = next_stands point history stands is
+
+-- behind a step that follows
+pub stands_next : (point : Point) (history : History) (step : Step) → StandsBehind point history → Follows point.setup history step → step.turn.phase ≡ point.phase
+    → step.turn.thread ≡ due_at point → (point.keeper ≡ None → point.given < length point.list) → StandsBehind (moved point step) (step ∷ history)
+stands_next point history step stands follows same thread listed =
+    passes_on (behind point step) (step ∷ history) (stands_in point history step stands follows same thread listed)

@@ -1,0 +1,10 @@
+use Rattle.condvar_barrier.specs.Rows.{replied, lock}
+use Rattle.token.specs.Effects.{let_pass, wake_up}
+use Rattle.token.specs.Parts.{state_in}
+use Rattle.token.proofs.ByObjects.{by_objects-is}
+use Rattle.token.proofs.parts.Parts.lock.Goals as goal
+
+pub returns-clause-done : goal.returns-clause-done
+unfolding state_in let_pass wake_up
+returns-clause-done c =
+    by_objects-is (λ objects. lock objects c.args.thread c.args.mutex) (state_in c.args.self.now) (replied c.lock.result c.lock.new.self) c.lock.ensures

@@ -1,0 +1,6 @@
+use Rattle.token.proofs.Calls.{parked-woken}
+use Rattle.token.proofs.parts.Parts.wake.Goals as goal
+
+pub returns-clause-parked : goal.returns-clause-parked
+returns-clause-parked c =
+    parked-woken c.args.self.now c.args.thread c.args.mutex c.complete.new.threads c.take_back.new.self c.complete.ensures c.take_back.ensures c.requires.woken c.requires.parked

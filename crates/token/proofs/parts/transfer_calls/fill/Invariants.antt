@@ -1,0 +1,7 @@
+use Rattle.std.proofs.Common.{◌≡◌, take}
+use Rattle.paged_memory.specs.Mapping.{with_bytes}
+use Rattle.paged_memory.specs.Snapshot.{cells_of}
+use Rattle.token.proofs.parts.transfer_calls.fill.Given as goal
+
+abbrev pub invariant-loop-done : goal.invariant-loop-done
+invariant-loop-done l = cells_of l.memory ≡ with_bytes l.address (take l.done l.bytes) (cells_of l.fn.memory)

@@ -1,0 +1,13 @@
+use Rattle.token.specs.Progress.{point_of}
+use Rattle.std.proofs.Common.{subst}
+use Rattle.token.specs.Serial.{IsAskedFor}
+use Rattle.token.proofs.Duties.{has_due}
+use Rattle.token.proofs.Longer.{asked_for}
+use Rattle.token.proofs.serial.Serial.need.Goals as goal
+
+pub need-requires : goal.need-requires
+unfolding point_of
+need-requires c = λ going. has_due (point_of c.self.inside.progress) c.self.invariant.0 c.self.invariant.1 going
+
+pub returns-clause-follows : goal.returns-clause-follows
+returns-clause-follows c = subst IsAskedFor c.self.view_is (asked_for c.self.inside.progress c.self.invariant)

@@ -1,0 +1,73 @@
+-- What holds of a serial state: its turns are a legal history.
+use Rattle.std.specs.Prelude.{◌≡◌, ◌⊎◌, ℕ, suc, ◌+◌, ◌<◌, ◌≤◌, ◌^◌, false, if◌then◌else◌, Option, Some, None, List, [], ◌∷◌, ◌++◌, length, drop, take}
+use Rattle.thread_table.specs.Threads.{serial_list}
+use Rattle.token.specs.Change.{Change}
+use Rattle.token.specs.History.{History, IsLegal, Follows, turns_of, present, version, first_version, heads, list_of, phase_of, thread_of, keeps, outcome}
+use Rattle.token.specs.Point.{Point, change_of, IsNeededAt, step_at}
+use Rattle.token.specs.declared.turn.Turn.{Turn}
+use Rattle.token.specs.Progress.{point_of}
+use Rattle.token.specs.State.{Setup}
+use Rattle.token.specs.declared.progress.Progress.{Progress}
+use Rattle.token.specs.declared.segment_end.SegmentEnd.{SegmentEnd}
+
+-- the changes of a history, the first one first
+unfoldable pub changes_of : History → List Change
+changes_of [] = []
+changes_of (step ∷ before) = changes_of before ++ change_of step ∷ []
+
+-- who keeps the token behind a history
+abbrev pub keeper_of : History → Option ℕ
+keeper_of history = if keeps history then Some (thread_of history) else None
+
+-- A phase is the one that the next turn is of: that of the last turn, or the one behind it where its list is used up.
+abbrev pub IsNextPhase : Setup → History → ℕ → Type 0
+IsNextPhase setup history phase =
+    (phase ≡ phase_of history)
+    ⊎ ((phase ≡ suc (phase_of history)) × (keeps history ≡ false) × (list_of setup history (phase_of history) ≡ heads history (phase_of history)))
+
+-- a run stands behind this history
+pub record StandsBehind (point : Point) (history : History) : Type 0 where
+  pub legal : IsLegal point.setup history
+  pub turns : turns_of history ≡ point.turns
+  pub changes : changes_of history ≡ point.changes
+  pub state : present point.setup history ≡ point.state
+  pub first : first_version history point.phase ≡ point.first
+  pub base : (version point.setup history point.first).memory ≡ point.base
+  pub base_threads : (version point.setup history point.first).threads ≡ point.base_threads
+  pub list : serial_list point.base_threads ≡ point.list
+  pub heads : heads history point.phase ≡ take point.given point.list
+  pub within : point.given ≤ length point.list
+  pub keeper : keeper_of history ≡ point.keeper
+  pub ended : outcome point.setup history ≡ point.ended
+  pub phase : IsNextPhase point.setup history point.phase
+  pub next : point.ended ≡ None → point.keeper ≡ None → point.given < length point.list
+  pub number : point.phase ≤ length point.turns + 1
+  pub bound : point.setup.bound ≤ 2 ^ 40
+  pub fresh : point.fresh_from ≤ length point.state.output
+
+-- There is a legal history behind which the run stands.
+abbrev pub IsLawful : Progress → Type 0
+IsLawful run = (history : History) × StandsBehind (point_of run) history
+
+-- the end is what the next turn needs
+abbrev pub IsNeeded : Progress → Option SegmentEnd → Type 0
+IsNeeded run end = IsNeededAt (point_of run) end
+
+-- the bytes by which the last turn lengthened the output
+abbrev pub fresh_at : Point → List ℕ
+fresh_at point = drop point.fresh_from point.state.output
+
+-- There is a legal history behind which the run stands, and each step made of what the next turn needs follows it.
+abbrev pub IsAskedFor : Progress → Type 0
+IsAskedFor run =
+    (history : History) × StandsBehind (point_of run) history
+    × ((end : Option SegmentEnd) → IsNeeded run end → Follows (point_of run).setup history (step_at (point_of run) end))
+
+-- A run is one turn longer than it was, of what it was given, and its output by the fresh bytes.
+pub record IsLonger (old new : Point) : Type 0 where
+  pub setup : new.setup ≡ old.setup
+  pub turn : Turn
+  pub turns : new.turns ≡ old.turns ++ turn ∷ []
+  pub change : Change
+  pub changes : new.changes ≡ old.changes ++ change ∷ []
+  pub output : new.state.output ≡ old.state.output ++ fresh_at new

@@ -1,0 +1,31 @@
+use crate::outcome::RunOutcome;
+use hart::Hart;
+
+/// A segment that is to be executed.
+#[derive(Clone, Copy, Debug, PartialEq, Eq)]
+pub struct Work {
+    /// The thread's number.
+    pub thread: u32,
+    /// The hart that it begins with.
+    pub hart: Hart,
+    /// How many instructions the thread may still execute.
+    pub left: u64,
+    /// After how many instructions it ends at the latest, where it has a quantum.
+    pub quantum: Option<u64>,
+}
+
+/// What the next turn of a run needs.
+#[derive(Clone, Copy, Debug, PartialEq, Eq)]
+pub enum Need {
+    /// This segment on the memory at the phase's start.
+    Segment(Work),
+    /// This segment of the thread that keeps the token, on the present memory.
+    Keeper(Work),
+    /// Nothing: it is the turn of a woken thread.
+    Wake {
+        /// The thread's number.
+        thread: u32,
+    },
+    /// There is no further turn.
+    Ended(RunOutcome),
+}

@@ -1,0 +1,180 @@
+#![tactic(auto, unfolding(crate::specs::Progress::point_of))]
+
+ghost use Rattle.std.specs.Prelude.{◌≡◌, ◌≤◌, ◌^◌, ◌++◌, ◌<◌, [], ◌∷◌, None, Some, OnOk, OnErr, IfOk, IfSome, option_map};
+
+use crate::need::Need;
+use crate::outcome::RunOutcome;
+use crate::phase::Phase;
+use crate::progress::Progress;
+use crate::segment_end::SegmentEnd;
+use crate::shared_state::SharedState;
+use crate::turn::Turn;
+use crate::turn_change::TurnChange;
+use elf32_reader::Image;
+use paged_memory::Snapshot;
+use std::alloc::{AllocError, Global};
+use std::marker::Model;
+use thread_table::Threads;
+
+/// The serial state of a run: what it was given, the turns that it has done, and what stands behind them. Its
+/// turns are a legal history.
+#[derive(Drop)]
+pub struct Serial {
+    progress: Progress,
+}
+
+impl Model for Serial {
+    ghost use Rattle.token.specs.declared.progress.Progress.{Progress as Run};
+
+    ghost Value = { Run };
+
+    ghost use Rattle.token.specs.Serial.{IsLawful};
+
+    ghost view = { λ s. s.progress };
+
+    ghost invariant = { λ s. IsLawful s.progress };
+}
+
+impl Serial {
+    ghost use Rattle.elf32_reader.specs.LoadImage.{memory_of};
+    ghost use Rattle.paged_memory.specs.Snapshot.{cells_of};
+    ghost use Rattle.token.specs.History.{History};
+    ghost use Rattle.token.specs.Point.{need_at, moved, step_at};
+    ghost use Rattle.token.specs.Progress.{point_of};
+    ghost use Rattle.token.specs.Serial.{IsAskedFor, IsLawful, IsLonger, IsNeeded, fresh_at};
+    ghost use Rattle.token.specs.State.{setup_of};
+
+    /// A run of a program with this input, in which each thread may execute `bound` instructions, and a
+    /// segment ends after `quantum` instructions at the latest. No turn is done.
+    pub fn open(
+        alloc: Global,
+        image: &Image,
+        input: &[u8],
+        bound: u64,
+        quantum: Option<u64>,
+    ) -> Result<Self, AllocError>
+        requires bound { bound ≤ 2 ^ 40 }
+        requires some { 0 < bound }
+        requires quantum { IfSome quantum (λ quantum. quantum ≤ 2 ^ 40) }
+        requires some_quantum { IfSome quantum (λ quantum. 0 < quantum) }
+        ensures setup { IfOk result (λ serial. (point_of serial).setup ≡ setup_of image.now input.now bound quantum) }
+        ensures turns { IfOk result (λ serial. (point_of serial).turns ≡ []) }
+    {
+        let first = Snapshot::of_image(alloc, image)?;
+        let input = Vec::from_slice(alloc, input)?;
+        let entry = image.entry();
+        let shared = SharedState::new(alloc, first.try_clone()?, entry, input);
+        let mut threads = Threads::new();
+        threads.copy_from(shared.threads());
+        let list = threads.serial_list();
+        let phase = Phase {
+            number: 1,
+            first: 0,
+            base: None,
+            threads,
+            list,
+            given: 0,
+        };
+        Ok(Serial {
+            progress: Progress {
+                alloc,
+                entry,
+                first,
+                bound,
+                quantum,
+                phase,
+                shared,
+                keeper: None,
+                outcome: None,
+                turns: Vec::new(alloc),
+                changes: Vec::new(alloc),
+                fresh_from: 0,
+            },
+        })
+    }
+
+    /// What the next turn needs, or how the run ended: the step of a turn with what it needs follows the legal
+    /// history of the turns that were done.
+    pub fn need(&self) -> Need
+        ensures need { result ≡ need_at (point_of self.now) }
+        ensures follows { IsAskedFor self.now }
+    {
+        self.progress.need()
+    }
+
+    /// The memory at the start of the present phase.
+    pub fn base(&self) -> &Snapshot
+        ensures { cells_of result.now ≡ (point_of self.now).base }
+    {
+        self.progress.base()
+    }
+
+    /// The present memory.
+    pub fn now(&self) -> &Snapshot
+        ensures { cells_of result.now ≡ (point_of self.now).state.memory }
+    {
+        self.progress.shared.memory()
+    }
+
+    /// The present threads.
+    pub fn threads(&self) -> &Threads
+        ensures { result.now ≡ (point_of self.now).state.threads }
+    {
+        self.progress.shared.threads()
+    }
+
+    /// The output so far.
+    pub fn output(&self) -> &[u8]
+        ensures { result.now ≡ (point_of self.now).state.output }
+    {
+        self.progress.shared.output()
+    }
+
+    /// The bytes by which the last turn lengthened the output.
+    pub fn fresh(&self) -> &[u8]
+        ensures { result.now ≡ fresh_at (point_of self.now) }
+    {
+        &self.progress.shared.output()[self.progress.fresh_from..]
+    }
+
+    /// The turns that were done, the first one first. They are those of a legal history.
+    pub fn turns(&self) -> &[Turn]
+        ensures turns { result.now ≡ (point_of self.now).turns }
+        ensures lawful { IsLawful self.now }
+    {
+        &self.progress.turns
+    }
+
+    /// What each turn changed, in the order of the turns.
+    pub fn changes(&self) -> &[TurnChange]
+        ensures changes { result.now ≡ (point_of self.now).changes }
+        ensures lawful { IsLawful self.now }
+    {
+        &self.progress.changes
+    }
+
+    /// The number of the phase that the next turn is of, from 1.
+    pub fn phase(&self) -> u64
+        ensures { result ≡ (point_of self.now).phase }
+    {
+        self.progress.phase.number
+    }
+
+    /// The threads that have a turn in the present phase, ascending.
+    pub fn list(&self) -> &[u32]
+        ensures { result.now ≡ (point_of self.now).list }
+    {
+        self.progress.phase.list.as_slice()
+    }
+
+    /// Does the next turn, with the end of the segment that it needs, or with none at a wake. Nothing changes
+    /// where memory is wanting.
+    pub fn turn(&mut self, end: Option<&SegmentEnd>) -> Result<(), AllocError>
+        requires { IsNeeded self.old (option_map (λ end. end.now) end) }
+        ensures moved { OnOk result (point_of self.new ≡ moved (point_of self.old) (step_at (point_of self.old) (option_map (λ end. end.now) end.entry))) }
+        ensures longer { OnOk result (IsLonger (point_of self.old) (point_of self.new)) }
+        ensures kept { OnErr result (point_of self.new ≡ point_of self.old) }
+    {
+        self.progress.turn(end)
+    }
+}
