@@ -100,6 +100,7 @@ pub fn store_byte<M: GuestMemory>(
     ensures steps { Steps result (stores hart.old address (stored 1 (M.cells memory.old) address (value % 2 ^ 8))) hart.old (M.cells memory.old) hart.new (M.cells memory.new) }
     ensures grows { IsOutOfMemory result → M.grows memory.old address }
     ensures settles { (other : ℕ) → M.grows memory.new other → M.grows memory.old other }
+    ensures base { M.base memory.new ≡ M.base memory.old }
 {
     let answer = memory.store8(address, (value % 256) as u8);
     hart.store(address, answer)
@@ -116,6 +117,7 @@ pub fn store_half<M: GuestMemory>(
     ensures steps { Steps result (stores hart.old address (stored 2 (M.cells memory.old) address (value % 2 ^ 16))) hart.old (M.cells memory.old) hart.new (M.cells memory.new) }
     ensures grows { IsOutOfMemory result → M.grows memory.old address }
     ensures settles { (other : ℕ) → M.grows memory.new other → M.grows memory.old other }
+    ensures base { M.base memory.new ≡ M.base memory.old }
 {
     let answer = memory.store16(address, (value % 65_536) as u16);
     hart.store(address, answer)
@@ -132,6 +134,7 @@ pub fn store_word<M: GuestMemory>(
     ensures steps { Steps result (stores hart.old address (stored 4 (M.cells memory.old) address value)) hart.old (M.cells memory.old) hart.new (M.cells memory.new) }
     ensures grows { IsOutOfMemory result → M.grows memory.old address }
     ensures settles { (other : ℕ) → M.grows memory.new other → M.grows memory.old other }
+    ensures base { M.base memory.new ≡ M.base memory.old }
 {
     let answer = memory.store32(address, value);
     hart.store(address, answer)
