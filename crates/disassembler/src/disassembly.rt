@@ -2,7 +2,7 @@ ghost use Rattle.std.specs.Prelude.{◌≡◌, ℕ, ◌^◌, ◌<◌, ◌++◌, 
 ghost use Rattle.std.specs.String.{string_bytes};
 ghost use Rattle.disassembler.specs.Texts.{text_from, text_of};
 
-use crate::digits::write_hexadecimal;
+use hexadecimal::write_hexadecimal;
 use crate::instruction::write_instruction;
 use decoder::decode;
 use std::alloc::{AllocError, Global};

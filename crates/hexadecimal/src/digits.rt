@@ -1,11 +1,11 @@
 ghost use Rattle.std.specs.Prelude.{◌≡◌, ◌++◌, ◌≤◌, OnOk};
 ghost use Rattle.std.specs.String.{string_bytes};
-ghost use Rattle.disassembler.specs.Digits.{hexadecimal};
+ghost use Rattle.hexadecimal.specs.Digits.{hexadecimal};
 
 use std::alloc::AllocError;
 
 /// Appends the low `count` hexadecimal digits of a number, in lower case.
-pub(crate) fn write_hexadecimal(
+pub fn write_hexadecimal(
     text: &mut String,
     count: u32,
     number: u32,
