@@ -1,4 +1,4 @@
-use Rattle.std.proofs.Common.{◌≡◌, ◌∙◌, ap, length, take, List, arith}
+use Rattle.std.proofs.Common.{◌≡◌, ◌∙◌, ap, take, List, arith}
 use Rattle.std.specs.List.{flat_map}
 use Rattle.std.proofs.lemmas.List.{take_all}
 use Rattle.token.specs.declared.turn.Turn.{Turn}
