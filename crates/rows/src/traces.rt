@@ -73,7 +73,9 @@ fn names_calls(rt: HostRuntime) -> Result<(), Fail> {
     for (number, name) in NAMES {
         let call = called(number, [0, 0, 0], code(Code::NoSuchCall));
         let shown = line(rt.alloc(), &turn(1, 0, call, 0, 1))?;
-        let wanted = format!(in rt.alloc(); "1 0 {name} 00000000 00000000 00000000 -> 1 changed=0 ran=1\n")?;
+        let wanted = format!(in rt.alloc();
+            "1 0 {name} 00000000 00000000 00000000 -> 1 changed=0 ran=1\n"
+        )?;
         assert_eq!(rt; shown.as_str(), wanted.as_str());
     }
     Ok(())
@@ -117,11 +119,23 @@ fn shows_calls(rt: HostRuntime) -> Result<(), Fail> {
             "1 0 memory 00000001 00000000 00000000 -> 0 20000000 changed=0 ran=3\n",
         ),
         (
-            turn(2, 0, called(15, [0x2000_0000, 1, 0], code(Code::Done)), 0, 5),
+            turn(
+                2,
+                0,
+                called(15, [0x2000_0000, 1, 0], code(Code::Done)),
+                0,
+                5,
+            ),
             "2 0 release 20000000 00000001 00000000 -> 0 changed=0 ran=5\n",
         ),
         (
-            turn(3, 255, called(10, [1, 2, 3], code(Code::CountDiffers)), 4096, 1 << 40),
+            turn(
+                3,
+                255,
+                called(10, [1, 2, 3], code(Code::CountDiffers)),
+                4096,
+                1 << 40,
+            ),
             "3 255 barrier 00000001 00000002 00000003 -> 9 changed=4096 ran=1099511627776\n",
         ),
     ];
@@ -143,7 +157,13 @@ fn shows_other_stops(rt: HostRuntime) -> Result<(), Fail> {
             "2 1 trap 3 00010060 00000000 changed=0 ran=999427\n",
         ),
         (
-            turn(3, 0, trapped(Cause::LoadDenied, 0x0001_0020, 0x2000_0000), 0, 0),
+            turn(
+                3,
+                0,
+                trapped(Cause::LoadDenied, 0x0001_0020, 0x2000_0000),
+                0,
+                0,
+            ),
             "3 0 trap 5 00010020 20000000 changed=0 ran=0\n",
         ),
         (
