@@ -1,6 +1,5 @@
 pub mod Assembling
 pub mod Distinct
-pub mod Hexadecimal
 pub mod Listings
 pub mod Numerals
 pub mod Separators

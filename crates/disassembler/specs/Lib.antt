@@ -1,4 +1,3 @@
-pub mod Digits
 pub mod Instructions
 pub mod Listings
 pub mod Operands

@@ -2,9 +2,9 @@ ghost use Rattle.std.specs.Prelude.{◌≡◌, ℕ, ◌^◌, ◌<◌, ◌++◌, 
 ghost use Rattle.std.specs.String.{string_bytes};
 ghost use Rattle.disassembler.specs.Texts.{text_from, text_of};
 
-use crate::digits::write_hexadecimal;
 use crate::instruction::write_instruction;
 use decoder::decode;
+use hexadecimal::write_hexadecimal;
 use std::alloc::{AllocError, Global};
 
 /// The text of an instruction word at an address. The target of a branch or a jump is modulo 2^32.

@@ -11,7 +11,6 @@
 //! Both fail only for want of memory.
 #![tactic(auto)]
 
-mod digits;
 mod disassembly;
 mod instruction;
 mod operand;

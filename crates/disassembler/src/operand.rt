@@ -2,8 +2,8 @@ ghost use Rattle.std.specs.Prelude.{◌≡◌, ◌++◌, OnOk, decimal};
 ghost use Rattle.std.specs.String.{string_bytes};
 ghost use Rattle.disassembler.specs.Operands.{operand_text, register_text, signed_text};
 
-use crate::digits::write_hexadecimal;
 use decoder::{Immediate, UpperImmediate};
+use hexadecimal::write_hexadecimal;
 use itoa::Buffer;
 use std::alloc::AllocError;
 

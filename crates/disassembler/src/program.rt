@@ -2,9 +2,9 @@ ghost use Rattle.std.specs.Prelude.{◌≡◌, ◌+◌, ◌≤◌, ◌++◌, len
 ghost use Rattle.std.specs.String.{string_bytes};
 ghost use Rattle.disassembler.specs.Listings.{word_from, word_line, has_word, segment_listing, listing_of};
 
-use crate::digits::write_hexadecimal;
 use crate::disassembly::write_text;
 use elf32_reader::{Image, Segment};
+use hexadecimal::write_hexadecimal;
 use std::alloc::{AllocError, Global};
 
 /// The listing of a program: for each executable segment, in the order of the file, each word whose address

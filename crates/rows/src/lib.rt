@@ -32,6 +32,8 @@ mod texts;
 #[cfg(test)]
 mod threads;
 #[cfg(test)]
+mod traces;
+#[cfg(test)]
 mod traps;
 #[cfg(test)]
 mod views;

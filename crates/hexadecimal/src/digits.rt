@@ -1,15 +1,15 @@
 ghost use Rattle.std.specs.Prelude.{◌≡◌, ◌++◌, ◌≤◌, OnOk};
 ghost use Rattle.std.specs.String.{string_bytes};
-ghost use Rattle.disassembler.specs.Digits.{hexadecimal};
+ghost use Rattle.hexadecimal.specs.Digits.{hexadecimal};
 
 use std::alloc::AllocError;
 
 /// Appends the low `count` hexadecimal digits of a number, in lower case.
-pub(crate) fn write_hexadecimal(
-    text: &mut String,
-    count: u32,
-    number: u32,
-) -> Result<(), AllocError>
+///
+/// # Errors
+///
+/// Only want of memory. The text may then have some of the digits.
+pub fn write_hexadecimal(text: &mut String, count: u32, number: u32) -> Result<(), AllocError>
     requires { count ≤ 8 }
     ensures { OnOk result (string_bytes text.new ≡ string_bytes text.old ++ hexadecimal count number) }
 {
