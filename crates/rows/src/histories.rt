@@ -157,15 +157,6 @@ impl Line {
     }
 }
 
-/// The outcome of a trap.
-pub const fn trapped(thread: u32, pc: u32, cause: Cause, value: u32) -> RunOutcome {
-    RunOutcome::Trap {
-        thread,
-        pc,
-        trap: Trap { cause, value },
-    }
-}
-
 /// The quantum of a run, where it is in its range.
 fn within(quantum: Option<u64>) -> Option<u64>
     ensures most { IfSome result (λ quantum. quantum ≤ 2 ^ 40) }
