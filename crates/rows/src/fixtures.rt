@@ -44,6 +44,9 @@ const HEADER: [u32; 13] = [
 /// The program header of a page of zeros at 0x00020000 that can be read and written.
 const DATA: [u32; 8] = [1, 116, 0x0002_0000, 0, 0, 4096, 6, 0];
 
+/// The program header of 15 further pages of zeros behind it.
+const MORE: [u32; 8] = [1, 148, 0x0002_1000, 0, 0, 61_440, 6, 0];
+
 /// The bytes of a file: its code are these words, from 0x00010000 on, and a page of zeros is at 0x00020000.
 pub fn elf_of(alloc: Global, words: &[u32]) -> Result<Vec<u8>, AllocError>
     requires { length words.now < 2 ^ 20 }
@@ -52,6 +55,27 @@ pub fn elf_of(alloc: Global, words: &[u32]) -> Result<Vec<u8>, AllocError>
     let code = [1, 116, CODE, 0, size, size, 5, 0];
     let mut file = Vec::new(alloc);
     for part in [HEADER.as_slice(), code.as_slice(), DATA.as_slice(), words] {
+        push_words(&mut file, part)?;
+    }
+    Ok(file)
+}
+
+/// The bytes of a file as `elf_of` makes it, with 16 pages of zeros from 0x00020000 on.
+pub fn elf_of_more(alloc: Global, words: &[u32]) -> Result<Vec<u8>, AllocError>
+    requires { length words.now < 2 ^ 20 }
+{
+    let size = 4 * words.len() as u32;
+    let code = [1, 148, CODE, 0, size, size, 5, 0];
+    let mut header = HEADER;
+    header[11] = 3;
+    let mut file = Vec::new(alloc);
+    for part in [
+        header.as_slice(),
+        code.as_slice(),
+        DATA.as_slice(),
+        MORE.as_slice(),
+        words,
+    ] {
         push_words(&mut file, part)?;
     }
     Ok(file)

@@ -6,6 +6,8 @@
 #[cfg(test)]
 mod accesses;
 #[cfg(test)]
+mod answers;
+#[cfg(test)]
 mod arithmetic;
 #[cfg(test)]
 mod commits;
@@ -17,6 +19,12 @@ mod files;
 mod fixtures;
 #[cfg(test)]
 mod harts;
+#[cfg(test)]
+mod histories;
+#[cfg(test)]
+mod loops;
+#[cfg(test)]
+mod meetings;
 #[cfg(test)]
 mod memories;
 #[cfg(test)]
@@ -39,3 +47,5 @@ mod traps;
 mod views;
 #[cfg(test)]
 mod words;
+#[cfg(test)]
+mod worked;
