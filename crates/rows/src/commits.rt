@@ -35,6 +35,27 @@ fn sample(alloc: Global) -> Result<Snapshot, AllocError> {
     Snapshot::of_image(alloc, &Image::new(0x0001_0000, segments))
 }
 
+/// A view of a clone of a snapshot, in which a byte is stored.
+fn view_with(base: &Snapshot, address: u32, byte: u8) -> Result<View, Fail> {
+    let mut view = View::open(base.try_clone()?);
+    view.store8(address, byte)?;
+    Ok(view)
+}
+
+/// A view of a clone of a snapshot, in which two bytes are stored.
+fn view_with_half(base: &Snapshot, address: u32, half: u16) -> Result<View, Fail> {
+    let mut view = View::open(base.try_clone()?);
+    view.store16(address, half)?;
+    Ok(view)
+}
+
+/// Merges what a view changed into a snapshot, and answers how many bytes that were.
+fn merge(alloc: Global, now: &mut Snapshot, view: &View) -> Result<u64, AllocError> {
+    let patch = Patch::of(alloc, view)?;
+    apply(now, &patch)?;
+    Ok(changed(&patch))
+}
+
 /// Two pages of which the second is the first with 2 for 1 at these places.
 fn pages(places: &[usize]) -> ([u8; 4096], [u8; 4096]) {
     let mut mine = [1; 4096];
@@ -78,31 +99,22 @@ fn merges_bytes_that_differ(rt: HostRuntime) {
 
 #[test]
 fn a_store_of_the_same_byte_changes_nothing(rt: HostRuntime) -> Result<(), Fail> {
-    let base = sample(rt.alloc())?;
-    let mut a = View::open(base.try_clone()?);
-    let mut b = View::open(base.try_clone()?);
-    a.store8(DATA, 5)?;
-    b.store8(DATA, 0)?;
-    let of_a = Patch::of(rt.alloc(), &a)?;
-    let of_b = Patch::of(rt.alloc(), &b)?;
-    assert_eq!(rt; (changed(&of_a), changed(&of_b)), (1, 0));
-    let mut now = base.try_clone()?;
-    apply(&mut now, &of_a)?;
-    apply(&mut now, &of_b)?;
+    let mut now = sample(rt.alloc())?;
+    let a = view_with(&now, DATA, 5)?;
+    let b = view_with(&now, DATA, 0)?;
+    assert_eq!(rt; merge(rt.alloc(), &mut now, &a)?, 1);
+    assert_eq!(rt; merge(rt.alloc(), &mut now, &b)?, 0);
     assert_eq!(rt; now.byte(DATA), Some(5));
     Ok(())
 }
 
 #[test]
 fn neighbouring_bytes_are_merged_apart(rt: HostRuntime) -> Result<(), Fail> {
-    let base = sample(rt.alloc())?;
-    let mut a = View::open(base.try_clone()?);
-    let mut b = View::open(base.try_clone()?);
-    a.store16(DATA, 0x0701)?;
-    b.store16(DATA, 0x0200)?;
-    let mut now = base.try_clone()?;
-    apply(&mut now, &Patch::of(rt.alloc(), &a)?)?;
-    apply(&mut now, &Patch::of(rt.alloc(), &b)?)?;
+    let mut now = sample(rt.alloc())?;
+    let a = view_with_half(&now, DATA, 0x0701)?;
+    let b = view_with_half(&now, DATA, 0x0200)?;
+    merge(rt.alloc(), &mut now, &a)?;
+    merge(rt.alloc(), &mut now, &b)?;
     assert_eq!(rt; now.load32(DATA), Ok(0x0007_0201));
     Ok(())
 }
@@ -141,39 +153,40 @@ fn repeated_stores_make_an_empty_patch(rt: HostRuntime) -> Result<(), Fail> {
     let patch = Patch::of(rt.alloc(), &view)?;
     assert_eq!(rt; changed(&patch), 0);
     assert_eq!(rt; changed_addresses(rt.alloc(), &patch)?.len(), 0);
+    Ok(())
+}
+
+#[test]
+fn an_empty_patch_changes_nothing(rt: HostRuntime) -> Result<(), Fail> {
     let mut now = sample(rt.alloc())?;
+    let mut view = view_with(&now, DATA + 1, 8)?;
+    view.store8(DATA + 1, 7)?;
     now.store8(DATA + 1, 6)?;
-    apply(&mut now, &patch)?;
+    assert_eq!(rt; merge(rt.alloc(), &mut now, &view)?, 0);
     assert_eq!(rt; now.load32(DATA), Ok(0x0007_0600));
     Ok(())
 }
 
 #[test]
 fn bytes_of_an_unmapped_page_are_dropped(rt: HostRuntime) -> Result<(), Fail> {
-    let base = sample(rt.alloc())?;
-    let mut view = View::open(base.try_clone()?);
-    view.store8(DATA, 5)?;
+    let mut now = sample(rt.alloc())?;
+    let mut view = view_with(&now, DATA, 5)?;
     view.store8(DATA + 0x1000, 6)?;
-    let patch = Patch::of(rt.alloc(), &view)?;
-    let mut now = base.try_clone()?;
     now.unmap(DATA_PAGE, 1)?;
-    apply(&mut now, &patch)?;
+    assert_eq!(rt; merge(rt.alloc(), &mut now, &view)?, 2);
     assert_eq!(rt; now.byte(DATA), None);
     assert_eq!(rt; now.perm(DATA), None);
     assert_eq!(rt; now.byte(DATA + 0x1000), Some(6));
-    assert_eq!(rt; changed(&patch), 2);
     Ok(())
 }
 
 #[test]
 fn permissions_are_those_of_the_snapshot(rt: HostRuntime) -> Result<(), Fail> {
-    let base = sample(rt.alloc())?;
-    let mut view = View::open(base.try_clone()?);
-    view.store8(DATA, 5)?;
-    let mut now = base.try_clone()?;
+    let mut now = sample(rt.alloc())?;
+    let view = view_with(&now, DATA, 5)?;
     now.unmap(DATA_PAGE, 1)?;
     now.map_zero(DATA_PAGE, 1, READ_ONLY)?;
-    apply(&mut now, &Patch::of(rt.alloc(), &view)?)?;
+    merge(rt.alloc(), &mut now, &view)?;
     assert_eq!(rt; now.byte(DATA), Some(5));
     assert_eq!(rt; now.byte(DATA + 1), Some(0));
     assert_eq!(rt; now.perm(DATA), Some(READ_ONLY));
@@ -183,13 +196,10 @@ fn permissions_are_those_of_the_snapshot(rt: HostRuntime) -> Result<(), Fail> {
 #[test]
 fn other_snapshots_and_views_stay(rt: HostRuntime) -> Result<(), Fail> {
     let base = sample(rt.alloc())?;
-    let mut view = View::open(base.try_clone()?);
-    view.store8(DATA, 5)?;
-    let patch = Patch::of(rt.alloc(), &view)?;
+    let view = view_with(&base, DATA, 5)?;
     let mut now = base.try_clone()?;
-    let mut other = View::open(now.try_clone()?);
-    other.store8(DATA + 1, 6)?;
-    apply(&mut now, &patch)?;
+    let other = view_with(&now, DATA + 1, 6)?;
+    merge(rt.alloc(), &mut now, &view)?;
     assert_eq!(rt; now.load16(DATA), Ok(0x0705));
     assert_eq!(rt; base.load16(DATA), Ok(0x0700));
     assert_eq!(rt; other.load16(DATA), Ok(0x0600));

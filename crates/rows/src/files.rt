@@ -18,6 +18,17 @@ static SEVEN: [u8; 128] = [
     0x93, 0x08, 0x10, 0x00, 0x13, 0x05, 0x70, 0x00, 0x73, 0x00, 0x00, 0x00, //
 ];
 
+/// The code of the file.
+static CODE: [u8; 12] = [
+    0x93, 0x08, 0x10, 0x00, 0x13, 0x05, 0x70, 0x00, 0x73, 0x00, 0x00, 0x00,
+];
+
+const READ_EXECUTE: Perm = Perm {
+    read: true,
+    write: false,
+    execute: true,
+};
+
 /// One word of the file changed: its offset, the word, and the refusal's number, or 0 where it is read.
 static ONE_CHANGE: [(usize, u32, u8); 75] = [
     // The identification: magic number, class, data encoding, version.
@@ -169,29 +180,15 @@ fn file_of(alloc: Global, headers: &[[u32; 6]], count: u16) -> Result<Vec<u8>, A
 fn reads_seven(rt: HostRuntime) -> Result<(), Fail> {
     let image = read(rt.alloc(), &SEVEN)?;
     assert_eq!(rt; image.entry(), 0x0001_0000);
-    let segments = image.segments();
-    assert_eq!(rt; segments.len(), 2);
-    assert_eq!(rt; segments[0].vaddr(), 0x0001_0000);
-    assert_eq!(rt; segments[0].memsz(), 12);
-    assert_eq!(rt;
-        segments[0].flags(),
-        Perm {
-            read: true,
-            write: false,
-            execute: true
-        }
-    );
-    assert_eq!(rt;
-        segments[0].bytes(),
-        [
-            0x93u8, 0x08, 0x10, 0x00, 0x13, 0x05, 0x70, 0x00, 0x73, 0x00, 0x00, 0x00
-        ]
-        .as_slice()
-    );
-    assert_eq!(rt; segments[1].vaddr(), 0x0002_0000);
-    assert_eq!(rt; segments[1].memsz(), 4096);
-    assert_eq!(rt; segments[1].flags(), Perm::READ_WRITE);
-    assert_eq!(rt; segments[1].bytes().len(), 0);
+    assert_eq!(rt; image.segments().len(), 2);
+    let rows = [
+        ((0x0001_0000, 12, READ_EXECUTE), CODE.as_slice()),
+        ((0x0002_0000, 4096, Perm::READ_WRITE), [].as_slice()),
+    ];
+    for (segment, (head, bytes)) in image.segments().iter().zip(rows) {
+        assert_eq!(rt; (segment.vaddr(), segment.memsz(), segment.flags()), head);
+        assert_eq!(rt; segment.bytes(), bytes);
+    }
     Ok(())
 }
 

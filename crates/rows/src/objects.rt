@@ -357,15 +357,16 @@ static BARRIERS: [Row; 24] = [
 
 /// The reply: its code and value, or that the caller waits.
 fn reply_text(alloc: Global, reply: Reply) -> Result<String, AllocError> {
-    match reply {
-        Reply::Completed {
-            code,
-            value: Some(value),
-        } => format!(in alloc; "{} {value}", code.number()),
-        Reply::Completed { code, value: None } => format!(in alloc; "{}", code.number()),
-        Reply::Waits => String::from_str(alloc, "wait"),
-        Reply::Ends => String::from_str(alloc, "end"),
+    let (code, value) = match reply {
+        Reply::Completed { code, value } => (code, value),
+        Reply::Waits => return String::from_str(alloc, "wait"),
+        Reply::Ends => return String::from_str(alloc, "end"),
+    };
+    let mut text = format!(in alloc; "{}", code.number())?;
+    if let Some(value) = value {
+        write!(text, " {value}")?;
     }
+    Ok(text)
 }
 
 /// Carries a call out and writes the reply and who is let go.

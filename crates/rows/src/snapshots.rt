@@ -231,9 +231,15 @@ fn lends_and_replaces_a_page(rt: HostRuntime) -> Result<(), Fail> {
 /// The bytes and permissions at `PLACES` and at the borders of what the test below maps and takes away.
 fn is_same(one: &Snapshot, other: &Snapshot) -> bool {
     let borders = [0x1FFF_FFFF, 0x2000_0000, 0x2000_2FFF, 0x2000_3000];
-    PLACES.iter().chain(borders.iter()).all(|address| {
-        one.byte(*address) == other.byte(*address) && one.perm(*address) == other.perm(*address)
-    })
+    PLACES
+        .iter()
+        .chain(borders.iter())
+        .all(|address| cell(one, *address) == cell(other, *address))
+}
+
+/// The byte at an address, and what its page permits.
+fn cell(memory: &Snapshot, address: u32) -> (Option<u8>, Option<Perm>) {
+    (memory.byte(address), memory.perm(address))
 }
 
 /// Where each request for memory is refused in turn (`rt try --test --fail-alloc N`), the memory stays as it
