@@ -1,5 +1,6 @@
 ghost use Rattle.std.specs.Prelude.{◌≡◌, Some, IfOk};
 ghost use Rattle.token.specs.Progress.{point_of};
+ghost use Rattle.token.specs.Serial.{IsLawful};
 ghost use Rattle.runtime.specs.Reports.{Reports};
 
 use crate::report::Report;
@@ -13,7 +14,8 @@ pub(crate) fn report(
     outcome: RunOutcome,
 ) -> Result<Report, AllocError>
     requires { (point_of serial.now).ended ≡ Some outcome }
-    ensures { IfOk result (λ report. Reports (point_of serial.now).setup report) }
+    ensures report { IfOk result (Reports (point_of serial.now).setup) }
+    ensures output { IfOk result (λ report. report.output.items ≡ (point_of serial.now).state.output) }
 {
     one_history();
     Ok(Report {
@@ -22,4 +24,11 @@ pub(crate) fn report(
         memory: serial.now().try_clone()?,
         trace: Vec::from_slice(alloc, serial.turns())?,
     })
+}
+
+/// The turns of a serial state are a legal history.
+pub(crate) fn has_history(serial: &Serial)
+    ensures { IsLawful serial.now }
+{
+    let _turns = serial.turns();
 }

@@ -1,4 +1,3 @@
-use crate::sink::SinkFault;
 use elf32_reader::ElfFault;
 use std::alloc::AllocError;
 use thiserror::Error;
@@ -50,17 +49,5 @@ impl From<AllocError> for RunFault {
     /// Want of memory.
     fn from(_error: AllocError) -> Self {
         RunFault::OutOfMemory
-    }
-}
-
-impl From<SinkFault> for RunFault {
-    ghost use Rattle.std.specs.Prelude.{◌≡◌};
-    ghost use Rattle.runtime.specs.declared.run_fault.RunFault.TheVariants.{WriteFailed};
-
-    ghost from_gives = { λ _ fault. fault ≡ WriteFailed };
-
-    /// The sink's failure.
-    fn from(_fault: SinkFault) -> Self {
-        RunFault::WriteFailed
     }
 }

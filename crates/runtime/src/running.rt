@@ -1,4 +1,5 @@
-ghost use Rattle.std.specs.Prelude.{◌≡◌, ◌≢◌, ◌-◌, ◌^◌, ◌<◌, true, Err, IfOk, IfErr};
+ghost use Rattle.std.specs.Prelude.{◌≡◌, ◌≢◌, ◌-◌, ◌^◌, ◌<◌, true, [], IfOk, IfErr};
+ghost use Rattle.token.specs.Progress.{point_of};
 ghost use Rattle.token.specs.State.{setup_of};
 ghost use Rattle.runtime.specs.Config.{is_valid};
 ghost use Rattle.runtime.specs.Faults.{IsUnderWay};
@@ -10,7 +11,7 @@ use crate::all_taken::AllTaken;
 use crate::config::Config;
 use crate::opening::open;
 use crate::report::Report;
-use crate::reporting::report;
+use crate::reporting::{has_history, report};
 use crate::run_fault::RunFault;
 use crate::sink::Sink;
 use crate::turns::take_turns;
@@ -77,6 +78,29 @@ fn run_image<R: Wait, G: Gate, S: Sink>(
     ensures failures { CountsFailures result (S.failed sink.old) (S.failed sink.new) }
 {
     let mut serial = Serial::open(alloc, image, input, config.bound, config.quantum)?;
-    let outcome = take_turns(rt, &mut serial, gate, sink)?;
-    Ok(report(alloc, &serial, outcome)?)
+    has_history(&serial);
+    run_serial(rt, alloc, &mut serial, gate, sink)
+}
+
+/// Does all turns of a run that has done none, and reports it.
+fn run_serial<R: Wait, G: Gate, S: Sink>(
+    rt: &R,
+    alloc: Global,
+    serial: &mut Serial,
+    gate: &G,
+    sink: &mut S,
+) -> Result<Report, RunFault>
+    requires output { (point_of serial.old).state.output ≡ [] }
+    requires failures { S.failed sink.old < 2 ^ 64 - 1 }
+    ensures report { IfOk result (Reports (point_of serial.old).setup) }
+    ensures fault { IfErr result IsUnderWay }
+    ensures sent { Sends (point_of serial.old).setup result (S.taken sink.old) (S.taken sink.new) }
+    ensures failures { CountsFailures result (S.failed sink.old) (S.failed sink.new) }
+{
+    let ended = take_turns(rt, serial, gate, sink);
+    has_history(serial);
+    match ended {
+        Ok(outcome) => Ok(report(alloc, serial, outcome)?),
+        Err(fault) => Err(fault),
+    }
 }

@@ -65,8 +65,10 @@ fn send_turn<G: Gate, S: Sink>(
     if let Some(outcome) = take_turn(serial, gate, jobs)? {
         return Ok(Some(outcome));
     }
-    send(serial.fresh(), sink)?;
-    Ok(None)
+    match send(serial.fresh(), sink) {
+        Ok(()) => Ok(None),
+        Err(_) => Err(RunFault::WriteFailed),
+    }
 }
 
 /// Does all turns, and sends the output of each before the next one. Answers how the run ended.

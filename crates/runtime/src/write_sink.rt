@@ -15,7 +15,7 @@ impl<W: Write> WriteSink<W> {
 
     /// The sink that writes to this writer, and hasn't failed.
     pub fn new(writer: W) -> Self
-        ensures writer { result.writer ≡ writer.entry }
+        ensures writer { result.writer ≡ writer }
         ensures failed { result.failed_writes ≡ 0 }
     {
         WriteSink {
