@@ -1,16 +1,17 @@
 -- What the need of the next turn says of where the run stands.
-use Rattle.std.proofs.Common.{◌≡◌, Option, Some, None, refl, ap, sym, ◌∙◌, subst}
+use Rattle.std.proofs.Common.{◌≡◌, ℕ, ◌++◌, Option, Some, None, refl, sym, ◌∙◌, subst}
 use Rattle.guest_memory.specs.Memory.{Memory}
 use Rattle.thread_table.specs.declared.status.Status.{Status}
 use Rattle.thread_table.specs.declared.status.Status.TheVariants.{Ready, Woken, Blocked, Done}
 use Rattle.token.specs.Point.{Point, IsEndOf, IsNeededAt, IsNeededBy, base_memory_at, due_at, memory_by, need_at, need_by, work_at}
 use Rattle.token.specs.History.{row_of}
+use Rattle.token.specs.Serial.{fresh_at}
+use Rattle.runtime.specs.Turns.{Moves}
 use Rattle.token.specs.declared.need.Need.{Need}
 use Rattle.token.specs.declared.need.Need.TheVariants as need
 use Rattle.token.specs.declared.need.Work.{Work}
 use Rattle.token.specs.declared.outcome.RunOutcome.{RunOutcome}
 use Rattle.token.specs.declared.segment_end.SegmentEnd.{SegmentEnd}
-use Rattle.std.proofs.Common.{ℕ}
 
 segment_base : (ended : Option RunOutcome) (keeper : Option ℕ) (status : Status) (work asked : Work) (base memory : Memory)
     → need.Segment asked ≡ need_by ended keeper status work → memory_by keeper base memory ≡ base
@@ -60,3 +61,9 @@ keeper_needed point work copy end is same ran =
     keeper_base point.ended point.keeper (row_of point.state (due_at point)).status (work_at point) work point.base point.state.memory is in
     subst (λ (needed : Need). IsNeededBy needed (memory_by point.keeper point.base point.state.memory) (Some end)) is
     (subst (λ (memory : Memory). IsEndOf memory work end) (same ∙ sym base) ran)
+
+-- a look for the next turn that found no end made a turn
+pub goes_on : (ends : Option RunOutcome) (old new : Point) → ((outcome : RunOutcome) → ends ≡ Some outcome → ⊥) → Moves ends old new
+    → new.state.output ≡ old.state.output ++ fresh_at new
+goes_on (Some outcome) old new none moves = absurd (none outcome refl)
+goes_on None old new none moves = moves
