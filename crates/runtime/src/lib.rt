@@ -12,6 +12,8 @@ mod run_fault;
 mod running;
 mod sending;
 mod sink;
+#[cfg(test)]
+mod tests;
 mod turns;
 mod write_sink;
 
