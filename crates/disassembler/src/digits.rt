@@ -5,7 +5,7 @@ ghost use Rattle.disassembler.specs.Digits.{hexadecimal};
 use std::alloc::AllocError;
 
 /// Appends the low `count` hexadecimal digits of a number, in lower case.
-pub(crate) fn write_hexadecimal(
+pub fn write_hexadecimal(
     text: &mut String,
     count: u32,
     number: u32,

@@ -7,8 +7,9 @@
 //!
 //! - [`text`] is the text of a word at an address. Distinct words at one address have distinct texts.
 //! - [`listing`] is the listing of a program: a line for each word of its executable segments.
+//! - [`write_hexadecimal`] appends a number's hexadecimal digits to a text.
 //!
-//! Both fail only for want of memory.
+//! All fail only for want of memory.
 #![tactic(auto)]
 
 mod digits;
@@ -17,5 +18,6 @@ mod instruction;
 mod operand;
 mod program;
 
+pub use digits::write_hexadecimal;
 pub use disassembly::{distinct_texts, text};
 pub use program::listing;

@@ -1,4 +1,5 @@
 use paged_memory::Snapshot;
+use sharing_report::PageRow;
 use token::{RunOutcome, Turn};
 
 /// What a run came to.
@@ -12,4 +13,6 @@ pub struct Report {
     pub memory: Snapshot,
     /// The turns, the first one first.
     pub trace: Vec<Turn>,
+    /// How each page with a changed byte was shared.
+    pub sharing: Vec<PageRow>,
 }

@@ -23,6 +23,7 @@ pub(crate) fn report(
         output: Vec::from_slice(alloc, serial.output())?,
         memory: serial.now().try_clone()?,
         trace: Vec::from_slice(alloc, serial.turns())?,
+        sharing: sharing_report::report(alloc, serial.changes())?,
     })
 }
 

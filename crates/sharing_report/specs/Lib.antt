@@ -1,0 +1,4 @@
+pub mod ByteChanges
+pub mod Contested
+pub mod Sharing
+pub mod Texts
