@@ -66,4 +66,4 @@ keeper_needed point work copy end is same ran =
 pub goes_on : (ends : Option RunOutcome) (old new : Point) → ((outcome : RunOutcome) → ends ≡ Some outcome → ⊥) → Moves ends old new
     → new.state.output ≡ old.state.output ++ fresh_at new
 goes_on (Some outcome) old new none moves = absurd (none outcome refl)
-goes_on None old new none moves = moves
+goes_on None old new none moves = moves.output

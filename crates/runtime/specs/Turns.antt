@@ -1,9 +1,9 @@
-use Rattle.std.specs.Prelude.{◌≡◌, ◌++◌, Option, Some, None}
+use Rattle.std.specs.Prelude.{◌≡◌, Option, Some, None}
 use Rattle.token.specs.Point.{Point}
-use Rattle.token.specs.Serial.{fresh_at}
+use Rattle.token.specs.Serial.{IsLonger}
 use Rattle.token.specs.declared.outcome.RunOutcome.{RunOutcome}
 
--- what comes of a look for the next turn: the run had ended so, or its output is longer by what is fresh behind the turn
+-- what comes of a look for the next turn: the run had ended so, or it is one turn longer
 abbrev pub Moves : Option RunOutcome → Point → Point → Type 0
 Moves (Some ends) old new = (old.ended ≡ Some ends) × (new ≡ old)
-Moves None old new = new.state.output ≡ old.state.output ++ fresh_at new
+Moves None old new = IsLonger old new
