@@ -53,7 +53,7 @@ fn loads(rt: HostRuntime) -> Result<(), Fail> {
     for (word, value, wanted) in LOADS {
         let [w0, w1, w2, w3] = operands(0x0002_0000, value);
         let words = [w0, w1, w2, w3, STORE, word, EXIT[0], EXIT[1]];
-        let answer = answer(rt.alloc(), &words, &CONFIG)?;
+        let answer = answer(&rt, rt.alloc(), &words, &CONFIG)?;
         assert_eq!(rt;
             answer,
             ends(RunOutcome::Exit(wanted)),
@@ -69,7 +69,7 @@ fn stores(rt: HostRuntime) -> Result<(), Fail> {
         let [w0, w1, w2, w3] = operands(0x0002_0000, 0x5555_5555);
         let [_, _, w5, w6] = operands(0, value);
         let words = [w0, w1, w2, w3, STORE, w5, w6, word, LOAD, EXIT[0], EXIT[1]];
-        let answer = answer(rt.alloc(), &words, &CONFIG)?;
+        let answer = answer(&rt, rt.alloc(), &words, &CONFIG)?;
         assert_eq!(rt;
             answer,
             ends(RunOutcome::Exit(wanted)),

@@ -1,8 +1,9 @@
 //! What the instructions compute of registers and immediates.
 
-use crate::fixtures::{CONFIG, EXIT, answer, ends, operands};
-use runtime::{Report, RunFault, RunOutcome};
+use crate::fixtures::{CONFIG, EXIT, Ending, answer, ends, operands};
+use runtime::RunOutcome;
 use std::alloc::{AllocError, Global};
+use std::sync::Wait;
 use std::test::Fail;
 
 /// An instruction of x10, x5 and x6, what x5 and x6 hold, and what x10 then holds.
@@ -156,20 +157,20 @@ static OF_IMMEDIATES: [(u32, u32, u32); 38] = [
 ];
 
 /// What a program exits with that puts two words into x5 and x6 and executes an instruction.
-fn status(
-    alloc: Global,
-    a: u32,
-    b: u32,
-    word: u32,
-) -> Result<Result<Report, RunFault>, AllocError> {
+fn status(rt: &impl Wait, alloc: Global, a: u32, b: u32, word: u32) -> Result<Ending, AllocError> {
     let [w0, w1, w2, w3] = operands(a, b);
-    answer(alloc, &[w0, w1, w2, w3, word, EXIT[0], EXIT[1]], &CONFIG)
+    answer(
+        rt,
+        alloc,
+        &[w0, w1, w2, w3, word, EXIT[0], EXIT[1]],
+        &CONFIG,
+    )
 }
 
 #[test]
 fn computes_of_registers(rt: HostRuntime) -> Result<(), Fail> {
     for (word, a, b, wanted) in OF_REGISTERS {
-        let answer = status(rt.alloc(), a, b, word)?;
+        let answer = status(&rt, rt.alloc(), a, b, word)?;
         assert_eq!(rt;
             answer,
             ends(RunOutcome::Exit(wanted)),
@@ -182,7 +183,7 @@ fn computes_of_registers(rt: HostRuntime) -> Result<(), Fail> {
 #[test]
 fn multiplies_and_divides(rt: HostRuntime) -> Result<(), Fail> {
     for (word, a, b, wanted) in PRODUCTS_AND_QUOTIENTS {
-        let answer = status(rt.alloc(), a, b, word)?;
+        let answer = status(&rt, rt.alloc(), a, b, word)?;
         assert_eq!(rt;
             answer,
             ends(RunOutcome::Exit(wanted)),
@@ -195,7 +196,7 @@ fn multiplies_and_divides(rt: HostRuntime) -> Result<(), Fail> {
 #[test]
 fn computes_of_immediates(rt: HostRuntime) -> Result<(), Fail> {
     for (word, a, wanted) in OF_IMMEDIATES {
-        let answer = status(rt.alloc(), a, 0, word)?;
+        let answer = status(&rt, rt.alloc(), a, 0, word)?;
         assert_eq!(rt;
             answer,
             ends(RunOutcome::Exit(wanted)),

@@ -92,7 +92,7 @@ fn branches(rt: HostRuntime) -> Result<(), Fail> {
             EXIT[0],
             EXIT[1],
         ];
-        let answer = answer(rt.alloc(), &words, &CONFIG)?;
+        let answer = answer(&rt, rt.alloc(), &words, &CONFIG)?;
         let wanted = RunOutcome::Exit(u32::from(taken));
         assert_eq!(rt; answer, ends(wanted), "{word:08x} on {a:x}, {b:x}");
     }
@@ -139,7 +139,7 @@ fn loops(rt: HostRuntime) -> Result<(), Fail> {
         EXIT[1],
     ];
     assert_eq!(rt;
-        answer(rt.alloc(), &words, &CONFIG)?,
+        answer(&rt, rt.alloc(), &words, &CONFIG)?,
         ends(RunOutcome::Exit(15))
     );
     Ok(())
@@ -151,7 +151,7 @@ fn loops(rt: HostRuntime) -> Result<(), Fail> {
 fn calls_and_returns(rt: HostRuntime) -> Result<(), Fail> {
     let words = [0x0100_00EF, EXIT[0], EXIT[1], 0, 0x0000_8513, 0x0000_8067];
     assert_eq!(rt;
-        answer(rt.alloc(), &words, &CONFIG)?,
+        answer(&rt, rt.alloc(), &words, &CONFIG)?,
         ends(RunOutcome::Exit(0x0001_0004))
     );
     Ok(())

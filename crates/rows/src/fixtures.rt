@@ -4,8 +4,9 @@ ghost use Rattle.std.specs.Prelude.{◌<◌, ◌^◌, length};
 
 use elf32_reader::read;
 use paged_memory::WholeMemory;
-use runtime::{Config, MAX_BOUND, Report, RunFault, RunOutcome, run};
+use runtime::{Config, MAX_BOUND, OpenGate, Report, RunFault, RunOutcome, run};
 use std::alloc::{AllocError, Global};
+use std::sync::Wait;
 use std::test::Fail;
 
 /// Where the code of each file begins, and its entry.
@@ -97,21 +98,30 @@ pub fn memory_of(alloc: Global, words: &[u32]) -> Result<WholeMemory, Fail>
     Ok(WholeMemory::of_image(alloc, &read(alloc, &file)?)?)
 }
 
-/// Runs a file of these words on no input.
+/// How a run ended, or why there is no report of it.
+pub type Ending = Result<RunOutcome, RunFault>;
+
+/// How the run of a file of these words on no input ends.
 pub fn answer(
+    rt: &impl Wait,
     alloc: Global,
     words: &[u32],
     config: &Config,
-) -> Result<Result<Report, RunFault>, AllocError>
+) -> Result<Ending, AllocError>
     requires { length words.now < 2 ^ 20 }
 {
     let file = elf_of(alloc, words)?;
-    Ok(run(alloc, &file, &[], config))
+    Ok(ending_of(run(rt, alloc, &file, &[], config, &OpenGate)))
+}
+
+/// How a run ended that was answered so.
+pub fn ending_of(answer: Result<Report, RunFault>) -> Ending {
+    Ok(answer?.outcome)
 }
 
 /// The answer of a run that ends so.
-pub fn ends(outcome: RunOutcome) -> Result<Report, RunFault> {
-    Ok(Report { outcome })
+pub fn ends(outcome: RunOutcome) -> Ending {
+    Ok(outcome)
 }
 
 /// LUI and ADDI that put a word into a register below 32.

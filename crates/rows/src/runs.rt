@@ -1,9 +1,9 @@
 //! Whole runs: from the bytes of a file to the report.
 
-use crate::fixtures::{CODE, CONFIG, SEVEN, answer, elf_of, ends};
+use crate::fixtures::{CODE, CONFIG, Ending, SEVEN, answer, elf_of, ending_of, ends};
 use elf32_reader::ElfFault;
 use hart::{Cause, Trap};
-use runtime::{Config, MAX_BOUND, MAX_INPUT, MAX_WORKERS, Report, RunFault, RunOutcome, run};
+use runtime::{Config, MAX_BOUND, MAX_INPUT, MAX_WORKERS, OpenGate, RunFault, RunOutcome, run};
 use std::test::Fail;
 
 /// The file of the call exit with the status 7.
@@ -39,17 +39,18 @@ static WORKERS: [u32; 3] = [1, 4, 64];
 
 /// A bound and a quantum, and how the run of the program ends whose third and last instruction is the call
 /// exit.
-static LIMITS: [(u64, Option<u64>, Ending); 9] = [
-    (MAX_BOUND, None, Ending::Exit),
-    (3, None, Ending::Exit),
-    (2, None, Ending::Bound(0x0001_0008)),
-    (1, None, Ending::Bound(0x0001_0004)),
-    (MAX_BOUND, Some(3), Ending::Exit),
-    (MAX_BOUND, Some(2), Ending::NotYet),
-    (MAX_BOUND, Some(1), Ending::NotYet),
+static LIMITS: [(u64, Option<u64>, Stop); 9] = [
+    (MAX_BOUND, None, Stop::Exit),
+    (3, None, Stop::Exit),
+    (2, None, Stop::Bound(0x0001_0008)),
+    (1, None, Stop::Bound(0x0001_0004)),
+    (MAX_BOUND, Some(3), Stop::Exit),
+    (MAX_BOUND, Some(2), Stop::Exit),
+    (MAX_BOUND, Some(1), Stop::Exit),
     // The bound is tested ahead of the quantum.
-    (2, Some(2), Ending::Bound(0x0001_0008)),
-    (2, Some(1), Ending::NotYet),
+    (2, Some(2), Stop::Bound(0x0001_0008)),
+    // The instructions of all its segments count.
+    (2, Some(1), Stop::Bound(0x0001_0008)),
 ];
 
 /// Numbers outside their ranges: bound, quantum, workers.
@@ -64,21 +65,18 @@ static BAD_CONFIGS: [(u64, Option<u64>, u32); 6] = [
 
 /// How a run under limits ends.
 #[derive(Clone, Copy)]
-enum Ending {
+enum Stop {
     /// By the call.
     Exit,
     /// By the bound, at this pc.
     Bound(u32),
-    /// With the quantum used up, behind which nothing is built yet.
-    NotYet,
 }
 
-impl Ending {
-    fn answer(self) -> Result<Report, RunFault> {
+impl Stop {
+    fn answer(self) -> Ending {
         match self {
-            Ending::Exit => ends(RunOutcome::Exit(7)),
-            Ending::Bound(pc) => ends(trap(pc, Cause::BoundReached, 0)),
-            Ending::NotYet => Err(RunFault::NotYet),
+            Stop::Exit => ends(RunOutcome::Exit(7)),
+            Stop::Bound(pc) => ends(trap(pc, Cause::BoundReached, 0)),
         }
     }
 }
@@ -107,7 +105,7 @@ fn exits_or_stops_at_a_limit(rt: HostRuntime) -> Result<(), Fail> {
                 quantum,
                 workers,
             };
-            let answer = answer(rt.alloc(), &SEVEN, &config)?;
+            let answer = answer(&rt, rt.alloc(), &SEVEN, &config)?;
             assert_eq!(rt; answer, ending.answer(), "{bound} {quantum:?} {workers}");
         }
     }
@@ -118,7 +116,7 @@ fn exits_or_stops_at_a_limit(rt: HostRuntime) -> Result<(), Fail> {
 fn traps_at_an_illegal_word(rt: HostRuntime) -> Result<(), Fail> {
     for word in ILLEGAL {
         for workers in WORKERS {
-            let answer = answer(rt.alloc(), &[word], &Config { workers, ..CONFIG })?;
+            let answer = answer(&rt, rt.alloc(), &[word], &Config { workers, ..CONFIG })?;
             let trap = trap(CODE, Cause::IllegalInstruction, word);
             assert_eq!(rt; answer, ends(trap), "{word:08x} {workers}");
         }
@@ -127,11 +125,14 @@ fn traps_at_an_illegal_word(rt: HostRuntime) -> Result<(), Fail> {
 }
 
 #[test]
-fn knows_no_other_call_yet(rt: HostRuntime) -> Result<(), Fail> {
-    assert_eq!(rt;
-        answer(rt.alloc(), &LETTER, &CONFIG)?,
-        Err(RunFault::NotYet)
-    );
+fn writes_a_letter(rt: HostRuntime) -> Result<(), Fail> {
+    let file = elf_of(rt.alloc(), &LETTER)?;
+    for workers in WORKERS {
+        let config = Config { workers, ..CONFIG };
+        let report = run(&rt, rt.alloc(), &file, &[], &config, &OpenGate)?;
+        assert_eq!(rt; report.outcome, RunOutcome::Exit(0), "{workers}");
+        assert_eq!(rt; report.output.as_slice(), b"A".as_slice(), "{workers}");
+    }
     Ok(())
 }
 
@@ -141,7 +142,14 @@ fn refuses_a_file_without_a_header(rt: HostRuntime) -> Result<(), Fail> {
     for length in [0, 51] {
         for workers in WORKERS {
             let config = Config { workers, ..CONFIG };
-            let answer = run(rt.alloc(), &SEVEN_FILE[..length], &[], &config);
+            let answer = ending_of(run(
+                &rt,
+                rt.alloc(),
+                &SEVEN_FILE[..length],
+                &[],
+                &config,
+                &OpenGate,
+            ));
             assert_eq!(rt; answer, Err(truncated), "{length} {workers}");
         }
     }
@@ -158,7 +166,8 @@ fn refuses_a_header_without_segments(rt: HostRuntime) -> Result<(), Fail> {
     assert_eq!(rt; header.len(), 52);
     header[44] = 0;
     for workers in WORKERS {
-        let answer = run(rt.alloc(), &header, &[], &Config { workers, ..CONFIG });
+        let config = Config { workers, ..CONFIG };
+        let answer = ending_of(run(&rt, rt.alloc(), &header, &[], &config, &OpenGate));
         assert_eq!(rt; answer, Err(RunFault::Elf(ElfFault::BadEntry)), "{workers}");
     }
     Ok(())
@@ -176,7 +185,7 @@ fn refuses_a_bad_configuration(rt: HostRuntime) -> Result<(), Fail> {
         };
         for file in [SEVEN_FILE.as_slice(), [].as_slice()] {
             for input in [[].as_slice(), input.as_slice()] {
-                let answer = run(rt.alloc(), file, input, &config);
+                let answer = ending_of(run(&rt, rt.alloc(), file, input, &config, &OpenGate));
                 assert_eq!(rt; answer, Err(RunFault::BadConfig), "{config:?}");
             }
         }
@@ -190,10 +199,17 @@ fn refuses_a_large_input(rt: HostRuntime) -> Result<(), Fail> {
     let input = vec![in rt.alloc(); 0; MAX_INPUT + 1]?;
     assert_eq!(rt; input.len(), 16_777_217);
     for file in [SEVEN_FILE.as_slice(), [].as_slice()] {
-        let answer = run(rt.alloc(), file, &input, &CONFIG);
+        let answer = ending_of(run(&rt, rt.alloc(), file, &input, &CONFIG, &OpenGate));
         assert_eq!(rt; answer, Err(RunFault::InputTooLarge));
     }
-    let answer = run(rt.alloc(), &SEVEN_FILE, &input[1..], &CONFIG);
+    let answer = ending_of(run(
+        &rt,
+        rt.alloc(),
+        &SEVEN_FILE,
+        &input[1..],
+        &CONFIG,
+        &OpenGate,
+    ));
     assert_eq!(rt; answer, ends(RunOutcome::Exit(7)));
     Ok(())
 }

@@ -6,6 +6,7 @@ use hart::{Cause, Hart, Stepped, Trap, step};
 use runtime::RunOutcome;
 use std::alloc::Global;
 use std::process::Abort;
+use std::sync::Wait;
 use std::test::Fail;
 
 /// Jumps and taken branches to no multiple of 4.
@@ -110,14 +111,14 @@ fn a_trap_ends_the_run(rt: HostRuntime) -> Result<(), Fail> {
 
 /// Asserts that the runs of programs that put the words into x5 and x6 first end so.
 fn runs_to_traps(
-    rt: &impl Abort,
+    rt: &(impl Abort + Wait),
     alloc: Global,
     cause: Cause,
     rows: &[(u32, u32, u32)],
 ) -> Result<(), Fail> {
     for (word, x6, value) in rows {
         let [w0, w1, w2, w3] = operands(9, *x6);
-        let answer = answer(alloc, &[w0, w1, w2, w3, *word], &CONFIG)?;
+        let answer = answer(rt, alloc, &[w0, w1, w2, w3, *word], &CONFIG)?;
         let trap = RunOutcome::Trap {
             thread: 0,
             pc: 0x0001_0010,
@@ -184,7 +185,7 @@ fn a_fetch_may_trap(rt: HostRuntime) -> Result<(), Fail> {
 #[test]
 fn a_jump_out_of_the_code_traps_at_its_target(rt: HostRuntime) -> Result<(), Fail> {
     let [w0, w1, ..] = operands(0x0002_0000, 0);
-    let answer = answer(rt.alloc(), &[w0, w1, 0x0002_8067], &CONFIG)?;
+    let answer = answer(&rt, rt.alloc(), &[w0, w1, 0x0002_8067], &CONFIG)?;
     let trap = RunOutcome::Trap {
         thread: 0,
         pc: 0x0002_0000,

@@ -1,3 +1,7 @@
 pub mod Config
+pub mod Faults
+pub mod Reports
 pub mod Run
+pub mod Sending
 pub mod Span
+pub mod Turns

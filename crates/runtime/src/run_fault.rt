@@ -1,4 +1,5 @@
 use elf32_reader::ElfFault;
+use std::alloc::AllocError;
 use thiserror::Error;
 
 /// Why no report is given. The configuration is looked at first, then the input, then the file.
@@ -16,7 +17,37 @@ pub enum RunFault {
     /// Memory was refused.
     #[error("out of memory")]
     OutOfMemory,
-    /// The run needs what isn't built yet: a call other than exit, or a second phase.
-    #[error("not yet")]
-    NotYet,
+    /// The sink of the output failed.
+    #[error("cannot write the output")]
+    WriteFailed,
+}
+
+impl RunFault {
+    ghost use Rattle.std.specs.Prelude.{◌≡◌};
+    ghost use Rattle.runtime.specs.Faults.{number_of};
+
+    /// Its number, 1 to 5.
+    pub fn number(self) -> u8
+        ensures { result ≡ number_of self }
+    {
+        match self {
+            RunFault::Elf(_) => 1,
+            RunFault::BadConfig => 2,
+            RunFault::InputTooLarge => 3,
+            RunFault::OutOfMemory => 4,
+            RunFault::WriteFailed => 5,
+        }
+    }
+}
+
+impl From<AllocError> for RunFault {
+    ghost use Rattle.std.specs.Prelude.{◌≡◌};
+    ghost use Rattle.runtime.specs.declared.run_fault.RunFault.TheVariants.{OutOfMemory};
+
+    ghost from_gives = { λ _ fault. fault ≡ OutOfMemory };
+
+    /// Want of memory.
+    fn from(_error: AllocError) -> Self {
+        RunFault::OutOfMemory
+    }
 }

@@ -1,0 +1,5 @@
+pub mod Fronts
+pub mod Needs
+pub mod OneReport
+pub mod Sent
+pub mod Valid

@@ -1,0 +1,46 @@
+-- The numbers of a configuration in order.
+use Rattle.std.proofs.Common.{◌≡◌, ◌<◌, ◌≤◌, ◌^◌, ◌&&◌, ℕ, Bool, true, Option, Some, None, arith, nat_le}
+use Rattle.std.specs.Option.{option_map_or, IfSome}
+use Rattle.std.proofs.lemmas.Bool.{and_parts, leb-true}
+use Rattle.runtime.specs.Config.{is_valid}
+use Rattle.runtime.specs.Span.{is_span}
+use Rattle.runtime.specs.declared.config.Config.{Config}
+use Rattle.runtime.specs.declared.limits.TheConstants.{MAX_BOUND, MAX_WORKERS}
+
+record InSpan (n : ℕ) : Type 0 where
+  some : 0 < n
+  within : n ≤ 2 ^ 40
+
+in_span : (n : ℕ) → is_span n ≡ true → InSpan n
+unfolding is_span
+in_span n is =
+    let parts = and_parts (nat_le 1 n) (nat_le n MAX_BOUND) is in
+    record { some = leb-true 1 n parts.0; within = leb-true n MAX_BOUND parts.1 }
+
+pub record InRange (config : Config) : Type 0 where
+  pub bound : config.bound ≤ 2 ^ 40
+  pub some : 0 < config.bound
+  pub quantum : IfSome config.quantum (λ quantum. quantum ≤ 2 ^ 40)
+  pub some_quantum : IfSome config.quantum (λ quantum. 0 < quantum)
+
+quantum_within : (quantum : Option ℕ) → option_map_or is_span quantum true ≡ true → IfSome quantum (λ quantum. quantum ≤ 2 ^ 40)
+quantum_within None is = tt
+quantum_within (Some quantum) is = (in_span quantum is).within
+
+quantum_some : (quantum : Option ℕ) → option_map_or is_span quantum true ≡ true → IfSome quantum (λ quantum. 0 < quantum)
+quantum_some None is = tt
+quantum_some (Some quantum) is = (in_span quantum is).some
+
+pub in_range : (config : Config) → is_valid config ≡ true → InRange config
+unfolding is_valid
+in_range config is =
+    let workers = and_parts (is_span config.bound && option_map_or is_span config.quantum true && nat_le 1 config.workers) (nat_le config.workers MAX_WORKERS) is in
+    let worker = and_parts (is_span config.bound && option_map_or is_span config.quantum true) (nat_le 1 config.workers) workers.0 in
+    let spans = and_parts (is_span config.bound) (option_map_or is_span config.quantum true) worker.0 in
+    let bound = in_span config.bound spans.0 in
+    record {
+      bound = bound.within;
+      some = bound.some;
+      quantum = quantum_within config.quantum spans.1;
+      some_quantum = quantum_some config.quantum spans.1;
+    }

@@ -1,0 +1,49 @@
+-- What the sink of a run took, where it tells it, and how often it failed.
+use Rattle.std.specs.Prelude.{◌≡◌, ℕ, ◌+◌, List, Option, Result, Ok, Err}
+use Rattle.std.specs.Io.{StartsWith}
+use Rattle.std.specs.Io.KnownBytes.{Appends}
+use Rattle.token.specs.State.{Setup}
+use Rattle.token.specs.History.{History, IsLegal, present}
+use Rattle.runtime.specs.declared.report.Report.{Report}
+use Rattle.runtime.specs.declared.run_fault.RunFault.{RunFault}
+use Rattle.runtime.specs.declared.run_fault.RunFault.TheVariants.{Elf, BadConfig, InputTooLarge, OutOfMemory, WriteFailed}
+
+-- a beginning of these bytes was taken
+abbrev pub AppendsFront : List ℕ → Option (List ℕ) → Option (List ℕ) → Type 0
+AppendsFront bytes old new = (front : List ℕ) × StartsWith bytes front × Appends old new front
+
+-- a beginning of the output of some legal history was taken
+abbrev pub SendsFront : Setup → Option (List ℕ) → Option (List ℕ) → Type 0
+SendsFront setup old new = (history : History) × IsLegal setup history × AppendsFront (present setup history).output old new
+
+-- What was taken: all of the output where a report is given, a beginning of the output of some legal history where memory was refused
+-- or the sink failed, and nothing at any other fault.
+abbrev pub Sends : Setup → Result Report RunFault → Option (List ℕ) → Option (List ℕ) → Type 0
+Sends setup (Ok report) old new = Appends old new report.output.items
+Sends setup (Err OutOfMemory) old new = SendsFront setup old new
+Sends setup (Err WriteFailed) old new = SendsFront setup old new
+Sends setup (Err (Elf fault)) old new = new ≡ old
+Sends setup (Err BadConfig) old new = new ≡ old
+Sends setup (Err InputTooLarge) old new = new ≡ old
+
+-- the sink failed once where that ended the run, and else not
+abbrev pub CountsFailures : {T : Type 0} → Result T RunFault → ℕ → ℕ → Type 0
+CountsFailures (Ok given) old new = new ≡ old
+CountsFailures (Err WriteFailed) old new = new ≡ old + 1
+CountsFailures (Err OutOfMemory) old new = new ≡ old
+CountsFailures (Err (Elf fault)) old new = new ≡ old
+CountsFailures (Err BadConfig) old new = new ≡ old
+CountsFailures (Err InputTooLarge) old new = new ≡ old
+
+-- all of an output was taken, or a beginning of it where memory was refused or the sink failed
+abbrev pub SendsOutput : {T : Type 0} → Result T RunFault → List ℕ → Option (List ℕ) → Option (List ℕ) → Type 0
+SendsOutput (Ok given) output old new = Appends old new output
+SendsOutput (Err OutOfMemory) output old new = AppendsFront output old new
+SendsOutput (Err WriteFailed) output old new = AppendsFront output old new
+SendsOutput (Err (Elf fault)) output old new = ⊥
+SendsOutput (Err BadConfig) output old new = ⊥
+SendsOutput (Err InputTooLarge) output old new = ⊥
+
+-- a sink that had taken all of the output takes what the output is longer by
+abbrev pub SendsOn : {T : Type 0} → Result T RunFault → List ℕ → List ℕ → Option (List ℕ) → Option (List ℕ) → Type 0
+SendsOn result before after old new = (start : Option (List ℕ)) → Appends start old before → SendsOutput result after start new
