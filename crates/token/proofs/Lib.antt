@@ -17,6 +17,7 @@ pub mod Outputs
 pub mod Parked
 pub mod Ranges
 pub mod ReadyHolder
+pub mod Runs
 pub mod SegmentEnds
 pub mod SerialList
 pub mod Standing
