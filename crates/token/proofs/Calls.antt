@@ -292,14 +292,14 @@ unfolding settled
 parked-settled state thread own is idle parked = (fine-effect state thread idle parked own is (call_of own.hart) refl).is_fine
 
 -- a thread that isn't blocked waits nowhere
-waits_nowhere : (state : State) (thread : ℕ) → is_blocked (row_of state thread).status ≡ false → are_parked state.threads state.objects.waiters ≡ true → is_among thread state.objects.waiters ≡ false
+pub waits_nowhere : (state : State) (thread : ℕ) → is_blocked (row_of state thread).status ≡ false → are_parked state.threads state.objects.waiters ≡ true → is_among thread state.objects.waiters ≡ false
 waits_nowhere state thread runs parked = not_among state.threads thread state.objects.waiters (by_row (slice_get state.threads thread) runs) parked
   where
     by_row : (own : Option Thread) → is_blocked (unwrap_or own blank).status ≡ false → is_parked own ≡ false
     by_row None h = refl
     by_row (Some row) h = rw h refl
 
-not_blocked : (status : Status) → is_ready status ≡ true → is_blocked status ≡ false
+pub not_blocked : (status : Status) → is_ready status ≡ true → is_blocked status ≡ false
 not_blocked Ready h = refl
 not_blocked (Woken mutex) h = refl
 not_blocked Blocked h = absurd (cc)
@@ -321,17 +321,22 @@ parked-called parts carried before thread reply own what put carries named is re
     let whole : state_in parts ≡ settled thread (effect state thread (call_of own.hart)) = put ∙ ap (settled thread) (carries ∙ ap (effect state thread) named) in
     rw (← whole) at (parked-settled state thread own is idle parked)
 
+-- where something is made of a thread that isn't blocked
+pub parked-made : (state : State) (thread : ℕ) (made : Thread → Thread) → is_blocked (row_of state thread).status ≡ false → are_parked state.threads state.objects.waiters ≡ true
+    → are_parked (with_thread state.threads thread made) state.objects.waiters ≡ true
+parked-made state thread made runs parked =
+    let idle : is_among thread state.objects.waiters ≡ false = waits_nowhere state thread runs parked in
+    parked-elsewhere state.threads (with_thread state.threads thread made) state.objects.waiters
+    (λ m among. with_thread-other state.threads thread m made (apart thread m state.objects.waiters idle among)) parked
+
 -- behind the turn of a woken thread
-pub parked-woken : (before : Parts) (thread mutex : ℕ) (threads : List Thread) (objects : ObjectState) → threads ≡ with_thread before.threads thread (completed None)
-    → objects ≡ row.take_back before.objects thread mutex → (row_of (state_in before) thread).status ≡ Woken mutex → are_parked before.threads before.objects.waiters ≡ true
+pub parked-woken : (before : State) (thread mutex : ℕ) (threads : List Thread) (objects : ObjectState) → threads ≡ with_thread before.threads thread (completed None)
+    → objects ≡ row.take_back before.objects thread mutex → (row_of before thread).status ≡ Woken mutex → are_parked before.threads before.objects.waiters ≡ true
     → are_parked threads objects.waiters ≡ true
-unfolding state_in row.take_back with_holder
+unfolding row.take_back with_holder
 parked-woken before thread mutex threads objects put took woken parked =
-    let runs : is_blocked (row_of (state_in before) thread).status ≡ false = rw woken refl in
-    let idle : is_among thread before.objects.waiters ≡ false = waits_nowhere (state_in before) thread runs parked in
-    rw (put, took)
-    (parked-elsewhere before.threads (with_thread before.threads thread (completed None)) before.objects.waiters
-    (λ m among. with_thread-other before.threads thread m (completed None) (apart thread m before.objects.waiters idle among)) parked)
+    let runs : is_blocked (row_of before thread).status ≡ false = rw woken refl in
+    rw (put, took) (parked-made before thread (completed None) runs parked)
 
 -- where a ready thread has another row
 pub parked-set : (before : Parts) (thread : ℕ) (row : Thread) (threads : List Thread) → threads ≡ slice_set before.threads thread row

@@ -2,7 +2,6 @@
 use Rattle.std.proofs.Common.{◌≡◌, ℕ, zero, suc, ◌<◌, Bool, true, false, not, ◌&&◌, Option, Some, None, is_some, List, [], ◌∷◌, ◌++◌, length, take, drop, refl, ap, sym, ◌∙◌, subst, inl, inr, arith}
 use Rattle.std.specs.Prelude.{slice_index}
 use Rattle.std.proofs.lemmas.Bool.{and_parts}
-use Rattle.std.proofs.lemmas.List.{append_cancel_left}
 use Rattle.condvar_barrier.specs.Objects.{holds}
 use Rattle.thread_table.proofs.Lists.{AreNumbersOf-numbers_where}
 use Rattle.thread_table.specs.Status.{has_turn, is_ready}
@@ -10,55 +9,18 @@ use Rattle.thread_table.specs.Threads.{serial_list}
 use Rattle.thread_table.specs.declared.status.Status.{Status}
 use Rattle.thread_table.specs.declared.status.Status.TheVariants.{Ready, Woken, Blocked, Done}
 use Rattle.thread_table.specs.declared.thread.Thread.{Thread}
-use Rattle.token.specs.History.{History, IsLegal, IsDue, IsNextOfList, heads, keeps, last_outcome, list_of, phase_of, present, row_of, thread_of}
+use Rattle.token.specs.History.{History, IsDue, IsNextOfList, keeps, last_outcome, phase_of, present, row_of, thread_of}
 use Rattle.token.specs.Point.{Point, due_at, due_by}
 use Rattle.token.specs.Progress.{HasDue}
 use Rattle.token.specs.Serial.{StandsBehind}
 use Rattle.token.specs.State.{Setup}
-use Rattle.token.proofs.InOrder.{in_order, low_of}
-use Rattle.token.proofs.SerialList.{Rises, Rises-behind, serial_list_rises}
 use Rattle.token.proofs.Standing.{keeper_is, list_is, no_keeper}
-use Rattle.token.proofs.Statuses.{HasTurnIn, threads_grow}
-use Rattle.token.proofs.Versions.{list_of_next}
+use Rattle.token.proofs.TurnThere.{next_has_turn, thread_there}
 
 -- the threads of a list are there
 
 serial_below : (threads : List Thread) (place : ℕ) → place < length (serial_list threads) → slice_index (serial_list threads) place < length threads
 serial_below threads place below = (AreNumbersOf-numbers_where (λ thread. has_turn thread.status) threads).made place 0 below
-
--- who is next has a turn
-
-next_has_turn : (setup : Setup) (history : History) (phase thread : ℕ) → IsLegal setup history → IsNextOfList setup history phase thread → HasTurnIn setup history thread
-next_has_turn setup history phase thread legal next =
-    elim next.current [ inl here ↦ in_last setup history phase thread legal next here | inr there ↦ in_new setup history phase thread legal next there.0 ]
-  where
-    in_last : (setup : Setup) (history : History) (phase thread : ℕ) → IsLegal setup history → (next : IsNextOfList setup history phase thread) → phase ≡ phase_of history → HasTurnIn setup history thread
-    in_last setup history phase thread legal next here =
-        let order = in_order setup history legal in
-        let listed : list_of setup history phase ≡ heads history phase ++ order.rest =
-        subst (λ p. list_of setup history p ≡ heads history p ++ order.rest) (sym here) order.list in
-        let rest : order.rest ≡ thread ∷ next.rest = append_cancel_left (heads history phase) order.rest (thread ∷ next.rest) (sym listed ∙ next.next) in
-        let turns : Rises (HasTurnIn setup history) (low_of history) (thread ∷ next.rest) = subst (Rises (HasTurnIn setup history) (low_of history)) rest order.turns in
-        turns.1
-
-    in_new : (setup : Setup) (history : History) (phase thread : ℕ) → IsLegal setup history → (next : IsNextOfList setup history phase thread) → phase ≡ suc (phase_of history) → HasTurnIn setup history thread
-    in_new setup history phase thread legal next there =
-        let listed = sym (list_of_next setup history phase legal (omega arith)) ∙ next.next in
-        let turns = subst (Rises (HasTurnIn setup history) 0) listed (serial_list_rises (present setup history).threads) in
-        (Rises-behind (HasTurnIn setup history) 0 (heads history phase) thread next.rest turns).0
-
-thread_there : (setup : Setup) (history : History) → IsLegal setup history → keeps history ≡ true → thread_of history < length (present setup history).threads
-unfolding IsLegal thread_of present keeps
-thread_there setup [] legal keeper = cc
-thread_there setup (step ∷ before) legal keeper =
-    let more = threads_grow setup before step legal.0 in
-    let below = due_there setup before step.turn.phase step.turn.thread legal.1 (keeps before) refl legal.0.order (thread_there setup before legal.1) in
-    omega arith
-  where
-    due_there : (setup : Setup) (before : History) (phase thread : ℕ) → IsLegal setup before → (keeper : Bool) → keeps before ≡ keeper → IsDue keeper setup before phase thread
-        → (keeps before ≡ true → thread_of before < length (present setup before).threads) → thread < length (present setup before).threads
-    due_there setup before phase thread legal true is due there = let below = there is in let same = due.1 in omega arith
-    due_there setup before phase thread legal false is due there = (next_has_turn setup before phase thread legal due).0
 
 -- the thread whose turn it is
 

@@ -7,6 +7,7 @@ pub mod Followers
 pub mod GoesOn
 pub mod Holders
 pub mod InOrder
+pub mod KeeperHolds
 pub mod LawfulTurn
 pub mod Longer
 pub mod NextStep
@@ -15,9 +16,12 @@ pub mod OneStep
 pub mod Outputs
 pub mod Parked
 pub mod Ranges
+pub mod ReadyHolder
+pub mod Runs
 pub mod SegmentEnds
 pub mod SerialList
 pub mod Standing
 pub mod Start
 pub mod Statuses
+pub mod TurnThere
 pub mod Versions

@@ -4,12 +4,13 @@ use Rattle.std.proofs.lemmas.Bool.{and_left, and_right, eq-eqb, eqb-false, ne_eq
 use Rattle.std.proofs.lemmas.List.{take_more, length-take-le}
 use Rattle.thread_table.specs.Threads.{serial_list}
 use Rattle.thread_table.specs.declared.thread.Thread.{Thread}
-use Rattle.token.specs.History.{History, Follows, IsLegal, first_version, heads, is_quiet, keeps, last_outcome, list_of, outcome, phase_of, present, quiet_outcome, thread_of, turns_of, version}
+use Rattle.token.specs.History.{History, Follows, IsLegal, first_version, heads, is_quiet, keeper_of, keeps, last_outcome, list_of, outcome, phase_of, present, quiet_outcome, thread_of, turns_of, version}
 use Rattle.token.specs.Point.{Point, behind, change_of, due_at, due_by, keeper_behind, moved, next_phase, passed_on, recorded}
-use Rattle.token.specs.Serial.{StandsBehind, changes_of, keeper_of}
+use Rattle.token.specs.Serial.{StandsBehind, changes_of}
 use Rattle.token.specs.State.{Setup, State}
 use Rattle.token.specs.Turns.{Step}
 use Rattle.token.specs.declared.outcome.RunOutcome.{RunOutcome}
+use Rattle.token.proofs.KeeperHolds.{held_by_keeper}
 use Rattle.token.proofs.Outputs.{output_grows}
 use Rattle.token.proofs.Versions.{first_version_kept, first_version_next, first_version_within, heads_keeper, heads_next, heads_none, version_last, version_older}
 
@@ -157,6 +158,7 @@ lively_by point history stands goes false keeper running =
 goes : (point : Point) (history : History) → StandsIn point history → goes_on point ≡ true → StandsBehind point history
 unfolding outcome
 goes point history stands on =
+    let ended : outcome point.setup history ≡ point.ended = outcome_of_last (last_outcome history) (is_quiet point.setup history) _ (lively_by point history stands on (keeps history) refl) ∙ stands.ended in
     record {
       legal = stands.legal;
       turns = stands.turns;
@@ -169,7 +171,8 @@ goes point history stands on =
       heads = stands.heads;
       within = stands.within;
       keeper = stands.keeper;
-      ended = outcome_of_last (last_outcome history) (is_quiet point.setup history) _ (lively_by point history stands on (keeps history) refl) ∙ stands.ended;
+      holders = held_by_keeper point.setup history point.state point.keeper point.ended stands.legal stands.state stands.keeper ended;
+      ended = ended;
       phase = inl stands.phase;
       next = λ running free. ltb-true point.given (length point.list) (left_over point.ended point.keeper _ on running free);
       number = let number = stands.number in omega arith;
@@ -206,6 +209,7 @@ ends point history stands running quiet =
       heads = stands.heads;
       within = stands.within;
       keeper = stands.keeper;
+      holders = λ going. cc;
       ended = rw (last, quiet) (ap (λ state. Some (quiet_outcome state)) stands.state);
       phase = inl stands.phase;
       next = λ more free. cc;
@@ -230,6 +234,7 @@ begins point history stands running free used lively filled =
     ap (version point.setup history) (sym number) ∙ version_last point.setup history ∙ stands.state in
     let some : length (serial_list point.state.threads) ≡ 0 → ⊥ = eqb-false _ _ filled in
     let all : take point.given point.list ≡ point.list = take_all point.given point.list used in
+    let ended : outcome point.setup history ≡ point.ended = rw (last, lively) (sym running) in
     record {
       legal = stands.legal;
       turns = stands.turns;
@@ -242,7 +247,8 @@ begins point history stands running free used lively filled =
       heads = heads_none point.setup history (point.phase + 1) stands.legal above;
       within = omega arith;
       keeper = stands.keeper;
-      ended = rw (last, lively) (sym running);
+      holders = held_by_keeper point.setup history point.state point.keeper point.ended stands.legal stands.state stands.keeper ended;
+      ended = ended;
       phase = inr (
         phase,
         no_keeper history (stands.keeper ∙ free),

@@ -6,6 +6,7 @@ use Rattle.token.specs.Point.{Point}
 use Rattle.token.specs.Serial.{StandsBehind, changes_of}
 use Rattle.guest_memory.specs.Memory.{Memory}
 use Rattle.token.specs.State.{Setup, State, first_state, started_state}
+use Rattle.token.proofs.KeeperHolds.{held_by_keeper}
 
 -- where a run begins
 pub record Begins (point : Point) : Type 0 where
@@ -57,6 +58,7 @@ stands_at_start point begins =
       heads = no_heads point.given point.list begins.given;
       within = omega arith;
       keeper = sym begins.keeper;
+      holders = held_by_keeper point.setup [] point.state point.keeper point.ended tt (sym begins.state) (sym begins.keeper) (no_outcome_yet point.setup ∙ sym begins.ended);
       ended = no_outcome_yet point.setup ∙ sym begins.ended;
       phase = inl begins.phase;
       next = λ going free. omega arith;

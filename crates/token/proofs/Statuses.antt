@@ -25,9 +25,13 @@ use Rattle.token.specs.History.{History, Follows, present, row_of, step_of, vers
 use Rattle.token.specs.Turns.{Ran, Step, after_stop, committed, run_step, wake_step}
 use Rattle.token.specs.Effects.{Effect, behind_reply, by_objects, create, create_numbered, effect, join, let_pass, new_pages, read, release, settled, thread_exit, wake_up, write}
 
+-- the status of a thread
+abbrev pub status_at : List Thread → ℕ → Status
+status_at threads n = (unwrap_or (slice_get threads n) blank).status
+
 -- whether a thread has a turn
 abbrev pub turn_at : List Thread → ℕ → Bool
-turn_at threads n = has_turn (unwrap_or (slice_get threads n) blank).status
+turn_at threads n = has_turn (status_at threads n)
 
 -- a thread that there is and that has a turn
 abbrev pub HasTurn : List Thread → ℕ → Type 0
@@ -44,9 +48,9 @@ as_it_was n threads = record { kept = λ has. has; grows = omega arith }
 then_kept : (n : ℕ) (first second third : List Thread) → Keeps n first second → Keeps n second third → Keeps n first third
 then_kept n first second third one other = record { kept = λ has. other.kept (one.kept has); grows = omega arith }
 
--- what is made of a thread that has a turn has one
-abbrev AllowsTurn : (Thread → Thread) → Type 0
-AllowsTurn made = (row : Thread) → has_turn row.status ≡ true → has_turn (made row).status ≡ true
+-- what is made of a thread whose status passes a test passes it
+abbrev pub Allows : (Status → Bool) → (Thread → Thread) → Type 0
+Allows test made = (row : Thread) → test row.status ≡ true → test (made row).status ≡ true
 
 with_thread-cons : (row : Thread) (threads : List Thread) (n : ℕ) (made : Thread → Thread)
     → with_thread (row ∷ threads) (suc n) made ≡ row ∷ with_thread threads n made
@@ -57,16 +61,17 @@ with_thread-cons row threads n made = by_place (slice_get threads n)
     by_place None = refl
     by_place (Some other) = refl
 
-turn_of_others : (n m : ℕ) (threads : List Thread) (made : Thread → Thread) → (n ≡ m → AllowsTurn made) → turn_at threads n ≡ true
-    → turn_at (with_thread threads m made) n ≡ true
+-- a thread's status passes a test as before where one thread is changed: another, or to one that passes it
+pub status_of_others : (test : Status → Bool) (n m : ℕ) (threads : List Thread) (made : Thread → Thread) → (n ≡ m → Allows test made) → test (status_at threads n) ≡ true
+    → test (status_at (with_thread threads m made) n) ≡ true
 unfolding with_thread
-turn_of_others n m [] made allows has = has
-turn_of_others zero zero (row ∷ threads) made allows has = allows refl row has
-turn_of_others (suc n) zero (row ∷ threads) made allows has = has
-turn_of_others zero (suc m) (row ∷ threads) made allows has =
-    subst (λ rows. turn_at rows zero ≡ true) (sym (with_thread-cons row threads m made)) has
-turn_of_others (suc n) (suc m) (row ∷ threads) made allows has =
-    subst (λ rows. turn_at rows (suc n) ≡ true) (sym (with_thread-cons row threads m made)) (turn_of_others n m threads made (λ same. allows (ap suc same)) has)
+status_of_others test n m [] made allows has = has
+status_of_others test zero zero (row ∷ threads) made allows has = allows refl row has
+status_of_others test (suc n) zero (row ∷ threads) made allows has = has
+status_of_others test zero (suc m) (row ∷ threads) made allows has =
+    subst (λ rows. test (status_at rows zero) ≡ true) (sym (with_thread-cons row threads m made)) has
+status_of_others test (suc n) (suc m) (row ∷ threads) made allows has =
+    subst (λ rows. test (status_at rows (suc n)) ≡ true) (sym (with_thread-cons row threads m made)) (status_of_others test n m threads made (λ same. allows (ap suc same)) has)
 
 pub length-with_thread : (threads : List Thread) (n : ℕ) (made : Thread → Thread) → length (with_thread threads n made) ≡ length threads
 unfolding with_thread
@@ -77,8 +82,8 @@ length-with_thread threads n made = by_place (slice_get threads n)
     by_place (Some row) = length-set threads n (made row)
 
 -- one thread is changed: another, or to one that has a turn if it had one
-changed_kept : (n m : ℕ) (threads : List Thread) (made : Thread → Thread) → (n ≡ m → AllowsTurn made) → Keeps n threads (with_thread threads m made)
-changed_kept n m threads made allows = record { kept = turn_of_others n m threads made allows; grows = omega (arith, length-with_thread threads m made) }
+changed_kept : (n m : ℕ) (threads : List Thread) (made : Thread → Thread) → (n ≡ m → Allows has_turn made) → Keeps n threads (with_thread threads m made)
+changed_kept n m threads made allows = record { kept = status_of_others has_turn n m threads made allows; grows = omega (arith, length-with_thread threads m made) }
 
 with_status_is : (threads : List Thread) (m : ℕ) (status : Status) → with_thread threads m (λ row. record row { status = status }) ≡ with_status threads m status
 unfolding with_thread with_status
@@ -115,11 +120,12 @@ ended_kept : (n m value : ℕ) (threads : List Thread) → n ≢ m → Keeps n t
 ended_kept n m value threads other =
     then_kept n threads _ _ (record { kept = turn_of_let_go n m threads; grows = omega (arith, length-map threads (let_go m)) }) (status_kept n m _ _ (λ same. absurd (other same)))
 
-turn_of_more : (n : ℕ) (threads : List Thread) (row : Thread) → has_turn row.status ≡ true → turn_at threads n ≡ true → turn_at (threads ++ row ∷ []) n ≡ true
-turn_of_more zero [] row new has = new
-turn_of_more (suc n) [] row new has = refl
-turn_of_more zero (first ∷ threads) row new has = has
-turn_of_more (suc n) (first ∷ threads) row new has = turn_of_more n threads row new has
+pub status_of_more : (test : Status → Bool) (n : ℕ) (threads : List Thread) (row : Thread) → test row.status ≡ true → test (status_at threads n) ≡ true
+    → test (status_at (threads ++ row ∷ []) n) ≡ true
+status_of_more test zero [] row new has = new
+status_of_more test (suc n) [] row new has = has
+status_of_more test zero (first ∷ threads) row new has = has
+status_of_more test (suc n) (first ∷ threads) row new has = status_of_more test n threads row new has
 
 -- the calls
 
@@ -140,7 +146,7 @@ thread_exit_kept n state thread value other =
 
 numbered_kept : (n : ℕ) (state : State) (entry argument stack_pointer : ℕ) (number : Option ℕ) → Keeps n state.threads (create_numbered state entry argument stack_pointer number).state.threads
 numbered_kept n state entry argument stack_pointer None = as_it_was n state.threads
-numbered_kept n state entry argument stack_pointer (Some number) = record { kept = turn_of_more n state.threads _ refl; grows = omega (arith, length-append state.threads (started (hart_at entry stack_pointer argument number) ∷ [])) }
+numbered_kept n state entry argument stack_pointer (Some number) = record { kept = status_of_more has_turn n state.threads _ refl; grows = omega (arith, length-append state.threads (started (hart_at entry stack_pointer argument number) ∷ [])) }
 
 create_kept : (n : ℕ) (state : State) (entry argument stack_pointer : ℕ) → Keeps n state.threads (create state entry argument stack_pointer).state.threads
 unfolding create

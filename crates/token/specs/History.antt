@@ -9,7 +9,7 @@ use Rattle.thread_table.specs.Threads.{serial_list}
 use Rattle.thread_table.specs.declared.status.Status.{Status}
 use Rattle.thread_table.specs.declared.status.Status.TheVariants.{Ready, Woken, Done}
 use Rattle.thread_table.specs.declared.thread.Thread.{Thread}
-use Rattle.condvar_barrier.specs.Objects.{holds}
+use Rattle.condvar_barrier.specs.Objects.{ObjectState, holds, holds_mutex}
 use Rattle.token.specs.State.{Setup, State, first_state}
 use Rattle.token.specs.Turns.{Ran, Step, run_step, wake_step}
 use Rattle.token.specs.declared.outcome.RunOutcome.{RunOutcome}
@@ -63,6 +63,14 @@ phase_of (step ∷ before) = step.turn.phase
 unfoldable pub thread_of : History → ℕ
 thread_of [] = 0
 thread_of (step ∷ before) = step.turn.thread
+
+-- who keeps the token behind a history
+abbrev pub keeper_of : History → Option ℕ
+keeper_of history = if keeps history then Some (thread_of history) else None
+
+-- Each mutex that is held is held by this keeper.
+abbrev pub IsHeldByKeeper : ObjectState → Option ℕ → Type 0
+IsHeldByKeeper objects keeper = (thread mutex : ℕ) → holds_mutex objects thread mutex ≡ true → keeper ≡ Some thread
 
 -- the number of the version that a phase begins with: as many turns have earlier phases
 unfoldable pub first_version : History → ℕ → ℕ

@@ -1,8 +1,9 @@
 -- The law of one history.
-use Rattle.std.specs.Prelude.{◌≡◌, ◌⊎◌, Some, None, List, ◌++◌}
+use Rattle.std.specs.Prelude.{◌≡◌, ◌⊎◌, ℕ, true, Some, None, List, ◌++◌}
+use Rattle.condvar_barrier.specs.Objects.{holds_mutex}
 use Rattle.token.specs.State.{Setup}
 use Rattle.token.specs.Turns.{Step}
-use Rattle.token.specs.History.{History, Follows, IsLegal, outcome}
+use Rattle.token.specs.History.{History, Follows, IsLegal, IsHeldByKeeper, keeper_of, outcome, present}
 use Rattle.token.specs.declared.outcome.RunOutcome.{RunOutcome}
 
 -- one history is a beginning of another: that has newer steps before it
@@ -28,3 +29,13 @@ abbrev pub OneAnswer : Type 0
 OneAnswer =
     (setup : Setup) (one other : History) (ends other_ends : RunOutcome) → IsLegal setup one → IsLegal setup other →
     outcome setup one ≡ Some ends → outcome setup other ≡ Some other_ends → (one ≡ other) × (ends ≡ other_ends)
+
+-- Behind a legal history that has no outcome, who holds a mutex keeps the token.
+abbrev pub HolderKeeps : Type 0
+HolderKeeps = (setup : Setup) (history : History) → IsLegal setup history → outcome setup history ≡ None → IsHeldByKeeper (present setup history).objects (keeper_of history)
+
+-- No turn finds a mutex held by another thread than its own.
+abbrev pub NoneElseHolds : Type 0
+NoneElseHolds =
+    (setup : Setup) (history : History) (step : Step) → IsLegal setup history → Follows setup history step →
+    (thread mutex : ℕ) → holds_mutex (present setup history).objects thread mutex ≡ true → thread ≡ step.turn.thread

@@ -1,8 +1,8 @@
 -- What holds of a serial state: its turns are a legal history.
-use Rattle.std.specs.Prelude.{◌≡◌, ◌⊎◌, ℕ, suc, ◌+◌, ◌<◌, ◌≤◌, ◌^◌, false, if◌then◌else◌, Option, Some, None, List, [], ◌∷◌, ◌++◌, length, drop, take}
+use Rattle.std.specs.Prelude.{◌≡◌, ◌⊎◌, ℕ, suc, ◌+◌, ◌<◌, ◌≤◌, ◌^◌, false, Option, None, List, [], ◌∷◌, ◌++◌, length, drop, take}
 use Rattle.thread_table.specs.Threads.{serial_list}
 use Rattle.token.specs.Change.{Change}
-use Rattle.token.specs.History.{History, IsLegal, Follows, turns_of, present, version, first_version, heads, list_of, phase_of, thread_of, keeps, outcome}
+use Rattle.token.specs.History.{History, IsLegal, Follows, IsHeldByKeeper, turns_of, present, version, first_version, heads, list_of, phase_of, keeper_of, keeps, outcome}
 use Rattle.token.specs.Point.{Point, change_of, IsNeededAt, step_at}
 use Rattle.token.specs.declared.turn.Turn.{Turn}
 use Rattle.token.specs.Progress.{point_of}
@@ -14,10 +14,6 @@ use Rattle.token.specs.declared.segment_end.SegmentEnd.{SegmentEnd}
 unfoldable pub changes_of : History → List Change
 changes_of [] = []
 changes_of (step ∷ before) = changes_of before ++ change_of step ∷ []
-
--- who keeps the token behind a history
-abbrev pub keeper_of : History → Option ℕ
-keeper_of history = if keeps history then Some (thread_of history) else None
 
 -- A phase is the one that the next turn is of: that of the last turn, or the one behind it where its list is used up.
 abbrev pub IsNextPhase : Setup → History → ℕ → Type 0
@@ -38,6 +34,8 @@ pub record StandsBehind (point : Point) (history : History) : Type 0 where
   pub heads : heads history point.phase ≡ take point.given point.list
   pub within : point.given ≤ length point.list
   pub keeper : keeper_of history ≡ point.keeper
+  -- no turn finds a mutex held by another thread than its own
+  pub holders : point.ended ≡ None → IsHeldByKeeper point.state.objects point.keeper
   pub ended : outcome point.setup history ≡ point.ended
   pub phase : IsNextPhase point.setup history point.phase
   pub next : point.ended ≡ None → point.keeper ≡ None → point.given < length point.list

@@ -38,7 +38,7 @@ impl Model for Serial {
 impl Serial {
     ghost use Rattle.elf32_reader.specs.LoadImage.{memory_of};
     ghost use Rattle.paged_memory.specs.Snapshot.{cells_of};
-    ghost use Rattle.token.specs.History.{History};
+    ghost use Rattle.token.specs.History.{History, IsHeldByKeeper};
     ghost use Rattle.token.specs.Point.{need_at, moved, step_at};
     ghost use Rattle.token.specs.Progress.{point_of};
     ghost use Rattle.token.specs.Serial.{IsAskedFor, IsLawful, IsLonger, IsNeeded, fresh_at};
@@ -94,10 +94,12 @@ impl Serial {
     }
 
     /// What the next turn needs, or how the run ended: the step of a turn with what it needs follows the legal
-    /// history of the turns that were done.
+    /// history of the turns that were done. Where the run goes on, only the thread that keeps the token holds a
+    /// mutex, so no turn finds one held by another thread.
     pub fn need(&self) -> Need
         ensures need { result ≡ need_at (point_of self.now) }
         ensures follows { IsAskedFor self.now }
+        ensures holders { (point_of self.now).ended ≡ None → IsHeldByKeeper (point_of self.now).state.objects (point_of self.now).keeper }
     {
         self.progress.need()
     }

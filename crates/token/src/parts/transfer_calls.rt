@@ -1,10 +1,10 @@
 //! The calls that append to the output and take from the input.
 #![tactic(auto, unfolding(crate::specs::Parts::state_in))]
 
-ghost use Rattle.std.specs.Prelude.{◌≡◌, ◌+◌, ◌++◌, ◌^◌, ◌≤◌, Bool, true, IfOk, OnOk, OnErr, length};
+ghost use Rattle.std.specs.Prelude.{◌≡◌, ◌+◌, ◌-◌, ◌%◌, ◌++◌, ◌^◌, ◌<◌, ◌≤◌, ℕ, Bool, IfOk, OnOk, OnErr, if◌then◌else◌, length, slice_index};
 ghost use Rattle.std.specs.Fn.{FnReturnsAt};
 ghost use Rattle.guest_memory.specs.declared.perm.Perm.{Perm as Permission};
-ghost use Rattle.paged_memory.specs.Mapping.{with_bytes};
+ghost use Rattle.paged_memory.specs.Mapping.{is_among, with_bytes};
 ghost use Rattle.paged_memory.specs.Snapshot.{cells_of};
 ghost use Rattle.token.specs.Effects as effects;
 ghost use Rattle.token.specs.Parts.{state_in, came_to};
@@ -13,8 +13,10 @@ use crate::parts::Parts;
 use crate::parts::replies::{answered, answered_with};
 use calls::limits::{OUTPUT, TRANSFER};
 use calls::{Code, Reply};
-use paged_memory::{GuestMemory, Perm, Snapshot, StoreFault};
+use guest_memory::layout::PAGE_SIZE;
+use paged_memory::{Page, Perm, Snapshot};
 use std::alloc::AllocError;
+use std::sync::Arc;
 
 impl Parts {
     #[tactic(auto, using(crate::proofs::Ranges::lengths), unfolding(crate::specs::Parts::state_in, crate::specs::Effects::write))]
@@ -76,15 +78,27 @@ fn is_permitted_range<F: Fn(&Perm) -> bool>(
     if u64::from(address) + u64::from(count) > 1 << 32 {
         return false;
     }
-    for done in 0..count {
+    let mut done = 0;
+    while done < count {
         let Some(perm) = memory.perm(address + done) else {
             return false;
         };
         if !may(&perm) {
             return false;
         }
+        done += run_length(address + done, count - done);
     }
     true
+}
+
+/// How many of some addresses from one on lie in its page.
+fn run_length(address: u32, count: u32) -> u32
+    requires { 0 < count }
+    ensures some { 0 < result }
+    ensures within { result ≤ count }
+    ensures inside { address % 4096 + result ≤ 4096 }
+{
+    count.min(PAGE_SIZE - address % PAGE_SIZE)
 }
 
 /// Appends the bytes of a range, with 0 where it isn't mapped. Nothing changes where memory is wanting.
@@ -101,28 +115,73 @@ fn append(
     ensures room { length output.new.items ≤ length output.old.items + count }
 {
     let before = output.len();
-    for done in 0..count {
-        let byte = memory.byte(address + done).unwrap_or(0);
-        if let Err(refused) = output.push(byte) {
+    let mut done = 0;
+    while done < count {
+        let run = run_length(address + done, count - done);
+        if let Err(refused) = append_run(output, memory, address + done, run) {
             output.truncate(before);
-            return Err(refused.into());
+            return Err(refused);
         }
+        done += run;
     }
     Ok(())
 }
 
-/// Stores bytes from an address on, where all of them are permitted.
+/// Appends the bytes of a range of one page, with 0 where it isn't mapped. Nothing changes where memory is wanting.
+fn append_run(
+    output: &mut Vec<u8>,
+    memory: &Snapshot,
+    address: u32,
+    count: u32,
+) -> Result<(), AllocError>
+    requires { address % 4096 + count ≤ 4096 }
+    ensures done { OnOk result (output.new.items ≡ output.old.items ++ effects.bytes_of (cells_of memory.now) address count) }
+    ensures kept { OnErr result (output.new.items ≡ output.old.items) }
+{
+    let start = (address % PAGE_SIZE) as usize;
+    match memory.page(address / PAGE_SIZE) {
+        Some(page) => output.extend_from_slice(&page.bytes()[start..start + count as usize]),
+        None => output.extend_from_slice(&[0; PAGE_SIZE as usize][..count as usize]),
+    }
+}
+
+/// Stores bytes from an address on, where it is mapped.
 fn fill(memory: &mut Snapshot, address: u32, bytes: &[u8]) -> Result<(), AllocError>
     requires room { address + length bytes.now ≤ 2 ^ 32 }
-    requires permitted { effects.all_permitted (λ perm. perm.write) (cells_of memory.old) address (length bytes.now) ≡ true }
+    requires count { length bytes.now ≤ 65536 }
     ensures { OnOk result (cells_of memory.new ≡ with_bytes address bytes.now (cells_of memory.old)) }
 {
-    for (done, byte) in bytes.iter().enumerate() {
-        match memory.store8(address + done as u32, *byte) {
-            Ok(()) => {}
-            Err(StoreFault::OutOfMemory(error)) => return Err(error),
-            Err(StoreFault::Refused(_)) => unreachable!(),
-        }
+    let count = bytes.len() as u32;
+    let mut done = 0;
+    while done < count {
+        let run = run_length(address + done, count - done);
+        let part = &bytes[done as usize..(done + run) as usize];
+        fill_run(memory, address + done, part)?;
+        done += run;
     }
     Ok(())
+}
+
+/// Stores bytes of one page, where it is mapped.
+fn fill_run(memory: &mut Snapshot, address: u32, bytes: &[u8]) -> Result<(), AllocError>
+    requires { address % 4096 + length bytes.now ≤ 4096 }
+    ensures { OnOk result (cells_of memory.new ≡ with_bytes address bytes.now (cells_of memory.old)) }
+{
+    let number = address / PAGE_SIZE;
+    let Some(page) = memory.page(number) else {
+        return Ok(());
+    };
+    let mut filled = *page.bytes();
+    overwrite(&mut filled, (address % PAGE_SIZE) as usize, bytes);
+    let filled = Arc::new(memory.allocator(), Page::new(page.perm(), filled))?;
+    memory.replace(number, filled)?;
+    Ok(())
+}
+
+/// Replaces the bytes of a page from a place on.
+fn overwrite(page: &mut [u8; PAGE_SIZE as usize], start: usize, bytes: &[u8])
+    requires { start + length bytes.now ≤ 4096 }
+    ensures { (i : ℕ) → i < 4096 → slice_index page.new i ≡ (if is_among start (length bytes.now) i then slice_index bytes.now (i - start) else slice_index page.old i) }
+{
+    page[start..start + bytes.len()].copy_from_slice(bytes);
 }

@@ -1,23 +1,27 @@
-use Rattle.std.proofs.Common.{ap, ◌∙◌, ◌+◌, ◌∷◌, [], List, ℕ, ◌≡◌, append_assoc, append-nil, arith, length-append}
-use Rattle.std.specs.Prelude.{unwrap_or}
+use Rattle.std.proofs.Common.{◌+◌, List, ℕ, ◌≤◌, append_assoc, append-nil, arith, length-append}
 use Rattle.std.proofs.lemmas.List.{take-append-le}
 use Rattle.paged_memory.specs.Snapshot.{cells_of}
-use Rattle.token.specs.Effects.{byte_at, bytes_of}
-use Rattle.token.proofs.Ranges.{bytes_of-next, bytes_of-end, length-bytes_of}
+use Rattle.token.specs.Effects.{bytes_of}
+use Rattle.guest_memory.specs.Memory.{Memory}
+use Rattle.token.proofs.Ranges.{bytes_of-end, length-bytes_of}
+use Rattle.token.proofs.Runs.{bytes_of-run}
 use Rattle.token.proofs.parts.transfer_calls.append.Goals as goal
 
 pub loop-done-preserved : goal.loop-done-preserved
 loop-done-preserved c =
-    let memory = cells_of c.args.memory.now in
+    let memory : Memory = cells_of c.args.memory.now in
     let output : List ℕ = c.loop-done.output.items in
-    let byte : c.unwrap_or-byte.result ≡ byte_at memory (c.args.address + c.loop-done.done) = c.unwrap_or-byte.ensures ∙ ap (λ x. unwrap_or x 0) c.byte.ensures in
-    let pushed = c.in_default.ensures.items in
-    let next = bytes_of-next memory c.args.address c.loop-done.done c.args.count c.loop-done-test.true in
-    let reached = c.loop-done.invariant.reached in
+    let run : ℕ = c.run_length-run.result in
+    let ran = c.run_length-run.ensures in
+    let old = c.loop-done.invariant in
+    let made : List ℕ = bytes_of memory (c.args.address + c.loop-done.done) run in
+    let reached = old.reached in
+    let within : c.loop-done.done + run ≤ c.args.count = omega (arith, ran.within) in
     record {
-      begins = rw (pushed, take-append-le) c.loop-done.invariant.begins;
-      gathered = rw (pushed, append_assoc, byte, ← next) c.loop-done.invariant.gathered;
-      reached = rw pushed (omega (arith, length-append output (c.unwrap_or-byte.result ∷ [])));
+      within = within;
+      begins = rw (c.in_default.ensures.done, take-append-le) old.begins;
+      gathered = rw (c.in_default.ensures.done, append_assoc, ← bytes_of-run memory c.args.address c.loop-done.done run c.args.count within) old.gathered;
+      reached = rw c.in_default.ensures.done (omega (arith, length-append output made));
     }
 
 pub returns-clause-done : goal.returns-clause-done

@@ -5,7 +5,11 @@ use Rattle.token.proofs.parts.transfer_calls.append.Given as goal
 
 abbrev pub invariant-loop-done : goal.invariant-loop-done
 invariant-loop-done l = record {
+  within : l.done ≤ l.count;
   begins : take l.before l.output.items ≡ l.fn.output.items;
   gathered : l.output.items ++ bytes_of (cells_of l.memory) (l.address + l.done) (l.count - l.done) ≡ l.fn.output.items ++ bytes_of (cells_of l.memory) l.address l.count;
   reached : l.before ≤ length l.output.items;
 }
+
+abbrev pub decreases-loop-done : goal.decreases-loop-done
+decreases-loop-done l = l.count - l.done

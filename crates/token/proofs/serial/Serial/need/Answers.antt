@@ -1,5 +1,7 @@
 use Rattle.token.specs.Progress.{point_of}
-use Rattle.std.proofs.Common.{subst}
+use Rattle.std.proofs.Common.{◌≡◌, None, subst}
+use Rattle.token.specs.History.{IsHeldByKeeper}
+use Rattle.token.specs.declared.progress.Progress.{Progress}
 use Rattle.token.specs.Serial.{IsAskedFor}
 use Rattle.token.proofs.Duties.{has_due}
 use Rattle.token.proofs.Longer.{asked_for}
@@ -11,3 +13,7 @@ need-requires c = λ going. has_due (point_of c.self.inside.progress) c.self.inv
 
 pub returns-clause-follows : goal.returns-clause-follows
 returns-clause-follows c = subst IsAskedFor c.self.view_is (asked_for c.self.inside.progress c.self.invariant)
+
+pub returns-clause-holders : goal.returns-clause-holders
+returns-clause-holders c =
+    subst (λ (run : Progress). (point_of run).ended ≡ None → IsHeldByKeeper (point_of run).state.objects (point_of run).keeper) c.self.view_is c.self.invariant.1.holders
