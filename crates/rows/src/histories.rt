@@ -10,7 +10,7 @@ use runtime::MAX_BOUND;
 use std::alloc::{AllocError, Global};
 use std::process::Abort;
 use std::test::Fail;
-use token::{Need, RunOutcome, Serial, Turn, TurnStop};
+use token::{Next, RunOutcome, Serial, Turn, TurnStop, next_turn};
 
 /// More turns than a run of these tests has.
 const TURNS: u32 = 10_000;
@@ -170,19 +170,13 @@ fn within(quantum: Option<u64>) -> Option<u64>
 
 /// Does the next turn, or answers how the run ended.
 fn take_turn(serial: &mut Serial) -> Result<Option<RunOutcome>, AllocError> {
-    match serial.need() {
-        Need::Ended(outcome) => return Ok(Some(outcome)),
-        Need::Segment(work) => {
-            let end = work.run(serial.base())?;
-            serial.turn(Some(&end))?;
+    match next_turn(serial)? {
+        Next::Turn(end) => {
+            serial.turn(end.as_ref())?;
+            Ok(None)
         }
-        Need::Keeper(work) => {
-            let end = work.run(serial.now())?;
-            serial.turn(Some(&end))?;
-        }
-        Need::Wake { .. } => serial.turn(None)?,
+        Next::Ended(outcome) => Ok(Some(outcome)),
     }
-    Ok(None)
 }
 
 /// Runs a file to its end.

@@ -10,6 +10,7 @@ pub mod InOrder
 pub mod KeeperHolds
 pub mod LawfulTurn
 pub mod Longer
+pub mod Needs
 pub mod NextStep
 pub mod OneHistory
 pub mod OneStep

@@ -3,6 +3,7 @@ pub mod Change
 pub mod Effects
 pub mod History
 pub mod Law
+pub mod Next
 pub mod Parts
 pub mod Point
 pub mod Progress

@@ -3,6 +3,7 @@
 
 pub mod law;
 pub mod need;
+pub mod next;
 pub mod outcome;
 mod parts;
 mod phase;
@@ -18,6 +19,7 @@ mod verdict;
 
 pub use law::one_history;
 pub use need::{Need, Work};
+pub use next::{Next, next_turn};
 pub use outcome::RunOutcome;
 pub use segment_end::SegmentEnd;
 pub use serial::Serial;
