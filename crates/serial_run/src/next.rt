@@ -1,0 +1,34 @@
+ghost use Rattle.std.specs.Prelude.{IfOk};
+ghost use Rattle.serial_run.specs.Next.{IsNext};
+ghost use Rattle.token.specs.Progress.{point_of};
+
+use std::alloc::AllocError;
+use token::{Need, RunOutcome, SegmentEnd, Serial};
+
+/// How a run goes on.
+#[derive(Drop)]
+pub enum Next {
+    /// By a turn with this end of a segment, or with none at a wake.
+    Turn(Option<SegmentEnd>),
+    /// There is no further turn.
+    Ended(RunOutcome),
+}
+
+/// What the next turn of a run needs. The segment is executed here, where it needs one. The run is only read.
+#[tactic(auto, using(crate::proofs::Needs::needs))]
+pub fn next_turn(serial: &Serial) -> Result<Next, AllocError>
+    ensures { IfOk result (IsNext (point_of serial.now)) }
+{
+    match serial.need() {
+        Need::Segment(work) => {
+            let end = work.run(serial.base())?;
+            Ok(Next::Turn(Some(end)))
+        }
+        Need::Keeper(work) => {
+            let end = work.run(serial.now())?;
+            Ok(Next::Turn(Some(end)))
+        }
+        Need::Wake { .. } => Ok(Next::Turn(None)),
+        Need::Ended(outcome) => Ok(Next::Ended(outcome)),
+    }
+}
