@@ -11,6 +11,9 @@ use token::Serial;
 /// How often each is measured. The least time is printed.
 const ROUNDS: u32 = 5;
 
+/// For how many pages the guest asks at once.
+const MOST_PAGES: u32 = 1000;
+
 /// How many instructions a thread may execute.
 const BOUND: u64 = 1 << 40;
 
@@ -81,8 +84,10 @@ const LOADS: [Load; 8] = [
 /// The words that the guest reads.
 fn input_of(alloc: Global, load: Load) -> Result<Vec<u8>> {
     let mut input = Vec::new(alloc);
+    let calls = load.pages.div_ceil(MOST_PAGES).max(1);
     for word in [
-        load.pages,
+        calls,
+        load.pages / calls,
         load.threads.saturating_sub(1),
         load.changed_pages,
     ] {
