@@ -1,4 +1,6 @@
 //! Measures single accesses on a whole memory and on a view, and how long a view takes to open.
+ghost use Rattle.std.specs.Prelude.{◌≡◌, ◌%◌, ◌^◌, ◌<◌};
+
 use crate::timing::each;
 use anyhow::Result;
 use elf32_reader::Image;
@@ -44,16 +46,17 @@ fn store_words<M: GuestMemory>(memory: &mut M, stride: u32, count: u64) -> u32 {
     sum
 }
 
-/// Fetches the first words of the image over and over, and answers their sum.
+/// Fetches four words from an address on over and over, and answers their sum.
 #[inline(never)]
-fn fetch_words<M: GuestMemory>(memory: &M, count: u64) -> u32 {
+fn fetch_words<M: GuestMemory>(memory: &M, start: u32, count: u64) -> u32
+    requires aligned { start % 4 ≡ 0 }
+    requires below { start < 2 ^ 31 }
+{
     let mut sum: u32 = 0;
-    let mut offset: u32 = 0;
-    for _ in 0..count {
-        if let Some(word) = memory.fetch(IMAGE_START + offset % 4 * 4) {
+    for round in 0..count {
+        if let Some(word) = memory.fetch(start + (round % 4) as u32 * 4) {
             sum = sum.wrapping_add(word);
         }
-        offset = offset.wrapping_add(1);
     }
     sum
 }
@@ -107,12 +110,18 @@ pub fn measure_accesses<R: Clock + Print>(
         )?;
     }
     let start = Instant::now(rt)?;
-    let one = fetch_words(&whole, count);
+    let one = fetch_words(&whole, IMAGE_START, count);
     let whole_fetch = each(rt, &start, count)?;
+    let snapshot = Snapshot::of_image(alloc, image)?;
     let start = Instant::now(rt)?;
-    let two = fetch_words(&written, count);
+    let two = fetch_words(&snapshot, IMAGE_START, count);
+    let snapshot_fetch = each(rt, &start, count)?;
+    let start = Instant::now(rt)?;
+    let three = fetch_words(&written, IMAGE_START, count);
     let view_fetch = each(rt, &start, count)?;
-    println!(rt; "fetch: whole {whole_fetch} ps, view {view_fetch} ps ({one} {two})")?;
+    println!(rt;
+        "fetch: whole {whole_fetch} ps, snapshot {snapshot_fetch} ps, view {view_fetch} ps ({one} {two} {three})"
+    )?;
     Ok(())
 }
 

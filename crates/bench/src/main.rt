@@ -1,15 +1,16 @@
-//! Measures how many guest instructions a second a hart executes on a whole memory and on a view of a
-//! snapshot, and what single accesses and the opening of a view take.
+//! Measures how many guest instructions a second a hart executes on a whole memory, on a snapshot and on
+//! a view of one, and what single accesses and the opening of a view take.
 //!
 //! `bench FILE INSTRUCTIONS` runs thread 0 of a file up to its first stop or that many instructions, on a
-//! whole memory and then on a view. With a third word it measures parts, each so many times: `accesses` to a
-//! whole memory and to a view, `opens` of views, `merges` of pages, and `commits` of patches. With no words
-//! it prints nothing.
+//! whole memory, on a snapshot and then on a view. With a third word it measures parts, each so many times: `accesses` to a
+//! whole memory and to a view, `opens` of views, `merges` of pages, `commits` of patches, and `turns` of a run.
+//! With no words it prints nothing.
 #![tactic(auto)]
 
 mod accesses;
 mod commits;
 mod timing;
+mod turns;
 
 use accesses::{measure_accesses, measure_opens};
 use anyhow::{Context, Result, anyhow};
@@ -23,6 +24,7 @@ use std::alloc::Global;
 use std::rt::{Clock, Env};
 use std::time::{Duration, Instant};
 use std::{env, fs};
+use turns::measure_turns;
 use twins::View;
 
 fn main(rt: HostRuntime) -> Result<()> {
@@ -39,15 +41,19 @@ fn main(rt: HostRuntime) -> Result<()> {
         Some("opens") => measure_opens(&rt, rt.alloc(), &image, bound),
         Some("merges") => measure_merges(&rt, bound),
         Some("commits") => measure_commits(&rt, rt.alloc(), &image, bound),
-        Some(word) => Err(anyhow!("{word}: none of accesses, opens, merges and commits")),
+        Some("turns") => measure_turns(&rt, rt.alloc(), &image, bound),
+        Some(word) => Err(anyhow!("{word}: none of accesses, opens, merges, commits and turns")),
     }
 }
 
-/// Runs an image on a whole memory and on a view, and prints how many instructions a second were executed.
+/// Runs an image on a whole memory, on a snapshot and on a view, and prints how many instructions a second were executed.
 fn measure<R: Clock + Print>(rt: &R, alloc: Global, image: &Image, bound: u64) -> Result<()> {
     let mut whole = WholeMemory::of_image(alloc, image)?;
     let (count, time) = timed(rt, image, &mut whole, bound)?;
     report(rt, "whole memory", count, time)?;
+    let mut snapshot = Snapshot::of_image(alloc, image)?;
+    let (count, time) = timed(rt, image, &mut snapshot, bound)?;
+    report(rt, "snapshot", count, time)?;
     let mut view = View::open(Snapshot::of_image(alloc, image)?);
     let (count, time) = timed(rt, image, &mut view, bound)?;
     report(rt, "view", count, time)

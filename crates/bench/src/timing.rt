@@ -4,5 +4,6 @@ use std::time::Instant;
 
 /// How many picoseconds each of some measured works took since a start.
 pub fn each<R: Clock>(rt: &R, start: &Instant, count: u64) -> Result<u128> {
-    Ok(start.elapsed(rt)?.as_nanos() / u128::from(count / 1000 + 1))
+    let picoseconds = start.elapsed(rt)?.as_nanos().saturating_mul(1000);
+    Ok(picoseconds / u128::from(count.max(1)))
 }

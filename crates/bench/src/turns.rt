@@ -1,0 +1,168 @@
+//! Measures the turns of a run.
+use crate::timing::each;
+use anyhow::{Result, anyhow};
+use elf32_reader::Image;
+use std::alloc::Global;
+use std::rt::Clock;
+use std::time::Instant;
+use token::{Next, Serial, next_turn};
+
+/// How often each is measured. The least time is printed.
+const ROUNDS: u32 = 5;
+
+/// For how many pages the guest asks at once.
+const MOST_PAGES: u32 = 1000;
+
+/// How many instructions a thread may execute.
+const BOUND: u64 = 1 << 40;
+
+/// What the guest does over and over: each thread changes a byte in some pages and calls sync.
+#[derive(Clone, Copy)]
+struct Load {
+    /// How many pages of the heap are mapped.
+    pages: u32,
+    threads: u32,
+    /// In how many pages each turn changes a byte.
+    changed_pages: u32,
+    /// How many turns are done before the first that is measured.
+    turns_before: u64,
+}
+
+/// What is measured: each load differs from the first one in one number.
+const LOADS: [Load; 8] = [
+    Load {
+        pages: 100,
+        threads: 1,
+        changed_pages: 0,
+        turns_before: 1000,
+    },
+    Load {
+        pages: 100,
+        threads: 1,
+        changed_pages: 0,
+        turns_before: 100_000,
+    },
+    Load {
+        pages: 16_000,
+        threads: 1,
+        changed_pages: 0,
+        turns_before: 1000,
+    },
+    Load {
+        pages: 100,
+        threads: 1,
+        changed_pages: 16,
+        turns_before: 1000,
+    },
+    Load {
+        pages: 16_000,
+        threads: 1,
+        changed_pages: 16,
+        turns_before: 1000,
+    },
+    Load {
+        pages: 100,
+        threads: 4,
+        changed_pages: 0,
+        turns_before: 1000,
+    },
+    Load {
+        pages: 100,
+        threads: 4,
+        changed_pages: 1,
+        turns_before: 1000,
+    },
+    Load {
+        pages: 100,
+        threads: 256,
+        changed_pages: 0,
+        turns_before: 40_000,
+    },
+];
+
+/// The words that the guest reads.
+fn input_of(alloc: Global, load: Load) -> Result<Vec<u8>> {
+    let mut input = Vec::new(alloc);
+    let calls = load.pages.div_ceil(MOST_PAGES).max(1);
+    for word in [
+        calls,
+        load.pages / calls,
+        load.threads.saturating_sub(1),
+        load.changed_pages,
+    ] {
+        input.extend_from_slice(&word.to_le_bytes())?;
+    }
+    Ok(input)
+}
+
+/// Does the next turn, and answers whether there was one.
+fn one_turn(serial: &mut Serial) -> Result<bool> {
+    match next_turn(serial)? {
+        Next::Turn(end) => {
+            serial.turn(end.as_ref())?;
+            Ok(true)
+        }
+        Next::Ended(_) => Ok(false),
+    }
+}
+
+/// Does so many turns.
+#[inline(never)]
+fn do_turns(serial: &mut Serial, count: u64) -> Result<()> {
+    for _ in 0..count {
+        if !one_turn(serial)? {
+            return Err(anyhow!("the run has ended"));
+        }
+    }
+    Ok(())
+}
+
+/// Executes the next segment over and over, and does no turn.
+#[inline(never)]
+fn do_segments(serial: &Serial, count: u64) -> Result<()> {
+    for _ in 0..count {
+        if let Next::Ended(_) = next_turn(serial)? {
+            return Err(anyhow!("the run has ended"));
+        }
+    }
+    Ok(())
+}
+
+/// What a turn takes with its segment, and the segment alone, the least of some rounds.
+fn least_times<R: Clock>(rt: &R, serial: &mut Serial, count: u64) -> Result<(u128, u128)> {
+    let mut turn = u128::MAX;
+    let mut segment = u128::MAX;
+    for _ in 0..ROUNDS {
+        let start = Instant::now(rt)?;
+        do_turns(serial, count)?;
+        turn = turn.min(each(rt, &start, count)?);
+        let start = Instant::now(rt)?;
+        do_segments(serial, count)?;
+        segment = segment.min(each(rt, &start, count)?);
+    }
+    Ok((turn, segment))
+}
+
+/// Prints what turns take: where they change nothing and some pages, behind few and many turns, where few
+/// and many pages are mapped, and with few and many threads.
+pub fn measure_turns<R: Clock + Print>(
+    rt: &R,
+    alloc: Global,
+    image: &Image,
+    count: u64,
+) -> Result<()> {
+    for load in LOADS {
+        let input = input_of(alloc, load)?;
+        let mut serial = Serial::open(alloc, image, &input, BOUND, None)?;
+        do_turns(&mut serial, load.turns_before)?;
+        let threads = serial.threads().len();
+        let (turn, segment) = least_times(rt, &mut serial, count)?;
+        let rest = turn.saturating_sub(segment);
+        let rate = 1_000_000_000_000 / turn.max(1);
+        println!(rt;
+            "{} pages mapped, {threads} threads, {} pages changed, behind {} turns: {turn} ps with the segment, {segment} ps the segment, {rest} ps the rest, {rate} turns a second",
+            load.pages, load.changed_pages, load.turns_before
+        )?;
+    }
+    Ok(())
+}

@@ -1,0 +1,70 @@
+use crate::answer::Answer;
+use crate::failed::Failed;
+use crate::programs::{ECHO, PRODUCTS, RACE, RELEASE_RACE, SIGNAL};
+use crate::{commits, runs, snapshots, views};
+use std::alloc::Global;
+
+/// A call that is made, and again where it is refused.
+#[derive(Clone, Copy, Debug)]
+pub enum Case {
+    OfImage,
+    TryClone,
+    MapZero,
+    Unmap,
+    SnapshotStore,
+    ViewStore,
+    Dirty,
+    PatchOf,
+    Addresses,
+    Apply,
+    Open,
+    Products,
+    Race,
+    Signal,
+    Echo,
+    ReleaseRace,
+}
+
+/// The cases with their names, in the order in which they are performed.
+pub const CASES: [(&str, Case); 16] = [
+    ("Snapshot::of_image", Case::OfImage),
+    ("Snapshot::try_clone", Case::TryClone),
+    ("Snapshot::map_zero", Case::MapZero),
+    ("Snapshot::unmap", Case::Unmap),
+    ("stores to a snapshot", Case::SnapshotStore),
+    ("first stores to a view", Case::ViewStore),
+    ("View::dirty", Case::Dirty),
+    ("Patch::of", Case::PatchOf),
+    ("changed_addresses", Case::Addresses),
+    ("apply", Case::Apply),
+    ("Serial::open", Case::Open),
+    ("turns of products", Case::Products),
+    ("turns of race", Case::Race),
+    ("turns of signal", Case::Signal),
+    ("turns of echo", Case::Echo),
+    ("turns of release-race", Case::ReleaseRace),
+];
+
+impl Case {
+    /// Performs it.
+    pub fn perform(self, alloc: Global) -> Result<Answer, Failed> {
+        match self {
+            Case::OfImage => snapshots::of_image(alloc),
+            Case::TryClone => snapshots::try_clone(alloc),
+            Case::MapZero => snapshots::map_zero(alloc),
+            Case::Unmap => snapshots::unmap(alloc),
+            Case::SnapshotStore => snapshots::store(alloc),
+            Case::ViewStore => views::store(alloc),
+            Case::Dirty => views::dirty(alloc),
+            Case::PatchOf => commits::patch_of(alloc),
+            Case::Addresses => commits::addresses(alloc),
+            Case::Apply => commits::commit(alloc),
+            Case::Open => runs::open(alloc, &ECHO, b"ab"),
+            Case::Products => runs::turns(alloc, &PRODUCTS, b""),
+            Case::Race => runs::turns(alloc, &RACE, b""),
+            Case::Signal => runs::turns(alloc, &SIGNAL, b""),
+            Case::Echo => runs::turns(alloc, &ECHO, b"ab"),
+            Case::ReleaseRace => runs::turns(alloc, &RELEASE_RACE, b""),
+        }
+    }
+}

@@ -1,0 +1,19 @@
+use std::alloc::AllocError;
+use thiserror::Error;
+
+/// Why a case has no answer.
+#[derive(Debug, Drop, Error)]
+pub enum Failed {
+    /// Memory was wanting in its set-up.
+    #[error("its set-up was refused")]
+    SetUp(#[from] AllocError),
+    /// A refused call changed something.
+    #[error("a refused call changed something")]
+    Changed,
+    /// The call was refused twice.
+    #[error("it was refused twice")]
+    Twice,
+    /// A call that takes no memory was refused, or answered otherwise than it should.
+    #[error("it has another answer")]
+    Other,
+}

@@ -1,0 +1,65 @@
+//! Makes calls that take memory, and where one is refused, sees that nothing changed and makes it again.
+//!
+//! It prints a line for each case: what the call answered in the end. The text is the same whichever request
+//! for memory is refused, as `rt try --fail-alloc N` shows for each N.
+#![tactic(auto)]
+
+mod answer;
+mod case;
+mod commits;
+mod failed;
+mod picture;
+mod programs;
+mod quiet;
+mod retry;
+mod runs;
+mod snapshots;
+mod standing;
+mod views;
+
+use answer::Answer;
+use case::{CASES, Case};
+use failed::Failed;
+use quiet::{QUIET_CASES, Quiet};
+use std::alloc::Global;
+use std::io;
+
+fn main(rt: HostRuntime) -> io::Result<()> {
+    for (name, case) in CASES {
+        match perform(rt.alloc(), case) {
+            Ok(answer) => println!(rt; "{name}: {answer}")?,
+            Err(failed) => println!(rt; "{name}: {failed}")?,
+        }
+    }
+    match quiet_after_set_up(rt.alloc()) {
+        Ok(quiet) => print_quiet(&rt, quiet),
+        Err(failed) => println!(rt; "{failed}"),
+    }
+}
+
+/// Prints what the calls come to that take no memory. From here on no memory is asked for.
+fn print_quiet<R: Print>(rt: &R, mut quiet: Quiet) -> io::Result<()> {
+    for (name, case) in QUIET_CASES {
+        match quiet.perform(case) {
+            Ok(answer) => println!(rt; "{name}: {answer}")?,
+            Err(failed) => println!(rt; "{name}: {failed}")?,
+        }
+    }
+    Ok(())
+}
+
+/// What the calls work on that take no memory. Where memory was wanting, it is made once more.
+fn quiet_after_set_up(alloc: Global) -> Result<Quiet, Failed> {
+    match Quiet::set_up(alloc) {
+        Err(Failed::SetUp(_)) => Quiet::set_up(alloc),
+        done => done,
+    }
+}
+
+/// Performs a case. Where its set-up is refused, it is performed once more from the start.
+fn perform(alloc: Global, case: Case) -> Result<Answer, Failed> {
+    match case.perform(alloc) {
+        Err(Failed::SetUp(_)) => case.perform(alloc),
+        done => done,
+    }
+}

@@ -1,0 +1,194 @@
+//! The calls that take no memory.
+use crate::answer::{Answer, mixed};
+use crate::failed::Failed;
+use crate::programs::{DATA, ECHO, PRODUCTS, image_of};
+use crate::runs::BOUND;
+use crate::snapshots::snapshot_with_heap;
+use commit::{Patch, changed, count_page, merge_page};
+use guest_memory::GuestMemory;
+use guest_memory::layout::{IMAGE_START, STACK_POINTER};
+use hart::{Hart, Stepped, Stop, run_to_stop, step};
+use paged_memory::Snapshot;
+use serial_run::{Next, next_turn};
+use std::alloc::{AllocError, Global};
+use token::{Need, Serial};
+use twins::View;
+
+/// What the calls work on.
+#[derive(Drop)]
+pub struct Quiet {
+    /// A view with a private page of data, and one of the stack.
+    view: View,
+    /// A snapshot that no view was opened on.
+    spare: Option<Snapshot>,
+    patch: Patch,
+    /// A run of `echo` that has read its input.
+    serial: Serial,
+}
+
+/// A group of calls that take no memory.
+#[derive(Clone, Copy, Debug)]
+pub enum QuietCase {
+    Loads,
+    Stores,
+    Open,
+    Pages,
+    Segment,
+    Run,
+}
+
+/// The groups with their names.
+pub const QUIET_CASES: [(&str, QuietCase); 6] = [
+    ("loads and fetches", QuietCase::Loads),
+    ("stores to private pages", QuietCase::Stores),
+    ("View::open", QuietCase::Open),
+    ("count_page and merge_page", QuietCase::Pages),
+    ("step and run_to_stop", QuietCase::Segment),
+    ("what a run lends", QuietCase::Run),
+];
+
+impl Quiet {
+    /// Makes all that the calls work on.
+    pub fn set_up(alloc: Global) -> Result<Self, Failed> {
+        let snapshot = snapshot_with_heap(alloc)?;
+        let spare = Some(snapshot.try_clone()?);
+        let mut view = View::open(snapshot);
+        for address in [DATA, STACK_POINTER] {
+            if view.store8(address, 1).is_err() {
+                return Err(Failed::SetUp(AllocError));
+            }
+        }
+        let patch = Patch::of(alloc, &view)?;
+        let image = image_of(alloc, &ECHO)?;
+        let mut serial = Serial::open(alloc, &image, b"ab", BOUND, None)?;
+        for _ in 0..2 {
+            if let Next::Turn(end) = next_turn(&serial)? {
+                serial.turn(end.as_ref())?;
+            }
+        }
+        Ok(Quiet {
+            view,
+            spare,
+            patch,
+            serial,
+        })
+    }
+
+    /// Performs a group of calls.
+    pub fn perform(&mut self, case: QuietCase) -> Result<Answer, Failed> {
+        match case {
+            QuietCase::Loads => self.loads(),
+            QuietCase::Stores => self.stores(),
+            QuietCase::Open => self.open(),
+            QuietCase::Pages => Ok(pages()),
+            QuietCase::Segment => self.segment(),
+            QuietCase::Run => Ok(self.run()),
+        }
+    }
+
+    /// Loads and fetches of a private page, of one of the base, and of one that isn't mapped.
+    fn loads(&self) -> Result<Answer, Failed> {
+        let mut digest = 0;
+        let mut denied: u64 = 0;
+        for address in [DATA, IMAGE_START, 0] {
+            let words = [
+                self.view.load8(address).ok().map(u32::from),
+                self.view.load16(address).ok().map(u32::from),
+                self.view.load32(address).ok(),
+                self.view.fetch(address),
+            ];
+            denied = denied.wrapping_add(words.iter().filter(|word| word.is_none()).count() as u64);
+            for word in words {
+                digest = mixed(digest, u64::from(word.unwrap_or(0)));
+            }
+        }
+        Ok(Answer {
+            count: denied,
+            value: self.view.load32(IMAGE_START).unwrap_or(0),
+            digest,
+        })
+    }
+
+    /// Stores of each width to a page that is private.
+    fn stores(&mut self) -> Result<Answer, Failed> {
+        let first = self.view.store8(DATA + 1, 2).is_ok();
+        let second = self.view.store16(DATA + 2, 0x0403).is_ok();
+        let third = self.view.store32(DATA + 4, 0x0807_0605).is_ok();
+        if !(first && second && third) {
+            return Err(Failed::Other);
+        }
+        Ok(Answer {
+            count: self.view.private_pages().len() as u64,
+            value: self.view.load32(DATA).unwrap_or(0),
+            digest: u64::from(self.view.load32(DATA + 4).unwrap_or(0)),
+        })
+    }
+
+    /// A view opened.
+    fn open(&mut self) -> Result<Answer, Failed> {
+        let Some(spare) = self.spare.take() else {
+            return Err(Failed::Other);
+        };
+        let view = View::open(spare);
+        Ok(Answer {
+            count: view.private_pages().len() as u64,
+            value: view.load32(IMAGE_START).unwrap_or(0),
+            digest: changed(&self.patch),
+        })
+    }
+
+    /// A program's first instruction, and then all up to its first call.
+    fn segment(&mut self) -> Result<Answer, Failed> {
+        let mut hart = Hart::new(IMAGE_START, STACK_POINTER, 0, 0);
+        let Stepped::Next = step(&mut hart, &mut self.view) else {
+            return Err(Failed::Other);
+        };
+        match run_to_stop(&mut hart, &mut self.view, 1000, None) {
+            Ok((Stop::Ecall, count)) => Ok(Answer {
+                count,
+                value: hart.pc(),
+                digest: u64::from(hart.reg(17)),
+            }),
+            _ => Err(Failed::Other),
+        }
+    }
+
+    /// What a run needs, and all that it lends.
+    fn run(&self) -> Answer {
+        let serial = &self.serial;
+        let mut digest = 0;
+        for number in [
+            serial.list().len(),
+            serial.threads().len(),
+            serial.output().len(),
+            serial.fresh().len(),
+            serial.turns().len(),
+            serial.changes().len(),
+        ] {
+            digest = mixed(digest, number as u64);
+        }
+        let waits = matches!(serial.need(), Need::Segment(_));
+        Answer {
+            count: serial.phase(),
+            value: serial.base().load32(DATA).unwrap_or(0) ^ serial.now().load32(DATA).unwrap_or(0),
+            digest: mixed(digest, u64::from(waits)),
+        }
+    }
+}
+
+/// Pages that differ in four bytes, counted and merged.
+fn pages() -> Answer {
+    let copy = [1; 4096];
+    let mut mine = [1; 4096];
+    for place in [0, 31, 32, 4095] {
+        mine[place] = 2;
+    }
+    let mut now = [9; 4096];
+    merge_page(&mut now, &copy, &mine);
+    let merged = now.iter().filter(|byte| **byte == 2).count();
+    Answer {
+        count: u64::from(count_page(&copy, &mine)),
+        value: u32::from(now[31]),
+        digest: merged as u64,
+    }
+}
