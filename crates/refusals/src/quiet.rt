@@ -9,9 +9,8 @@ use guest_memory::GuestMemory;
 use guest_memory::layout::{IMAGE_START, STACK_POINTER};
 use hart::{Hart, Stepped, Stop, run_to_stop, step};
 use paged_memory::Snapshot;
-use serial_run::{Next, next_turn};
 use std::alloc::{AllocError, Global};
-use token::{Need, Serial};
+use token::{Need, Next, Serial, next_turn};
 use twins::View;
 
 /// What the calls work on.
