@@ -1,4 +1,6 @@
+pub mod Content
 pub mod Failure
+pub mod Records
 pub mod Serves
 pub mod Status
 pub mod Taken

@@ -1,6 +1,6 @@
 use Rattle.std.specs.Prelude.{ℕ, ◌%◌, Result, Ok, Err}
-use Rattle.runtime.specs.declared.run_outcome.RunOutcome.{RunOutcome}
-use Rattle.runtime.specs.declared.run_outcome.RunOutcome.TheVariants.{Exit, Finished, Trap, Deadlock}
+use Rattle.token.specs.declared.outcome.RunOutcome.{RunOutcome}
+use Rattle.token.specs.declared.outcome.RunOutcome.TheVariants.{Exit, Finished, Trap, Deadlock}
 use Rattle.command.specs.declared.failure.Failure.{Failure}
 use Rattle.command.specs.declared.failure.Failure.TheVariants.{NotText, OutsideRange, NotYet, ElfRefused, InputTooLarge, CannotRead, CannotWrite, OutOfMemory}
 

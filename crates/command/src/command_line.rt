@@ -1,3 +1,4 @@
+use crate::records::Records;
 use crate::request::Request;
 use clap::error::ErrorKind;
 use clap::{Arg, ArgMatches, Command, Error, value_parser};
@@ -29,7 +30,7 @@ fn command_line<'a>(alloc: Global) -> Result<Command<'a>, AllocError> {
         .about("Print the instructions of a program")
         .arg(file(alloc))?;
     let replay = Command::new(alloc, "replay")
-        .about("Apply a schedule to a program and print the trace")
+        .about("Apply a schedule to a program and print the trace (not yet)")
         .arg(file(alloc))?
         .arg(schedule(alloc))?
         .arg(workers(alloc).required(true))?
@@ -92,8 +93,10 @@ fn requested<'a>(matches: &ArgMatches<'a>) -> Option<Request<'a>> {
         ("run", run) => Some(Request::Run {
             file: run.get_str("FILE")?,
             config: config_of(run)?,
-            trace: run.get_str("trace"),
-            report: run.get_str("report"),
+            records: Records {
+                trace: run.get_str("trace"),
+                report: run.get_str("report"),
+            },
         }),
         ("disasm", disasm) => Some(Request::Disasm {
             file: disasm.get_str("FILE")?,

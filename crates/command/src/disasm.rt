@@ -1,16 +1,15 @@
 ghost use Rattle.std.specs.Prelude.{◌≡◌, ℕ, List, None, OnOk, IfErr};
 ghost use Rattle.std.specs.String.{string_bytes};
 ghost use Rattle.elf32_reader.specs.Refusals.{first_refusal};
-ghost use Rattle.std.specs.Io.KnownBytes.{Appends};
 ghost use Rattle.command.specs.Serves.{IsUnlisted, Lists, Prints};
 
 use crate::failure::Failure;
 use crate::files::Files;
 use crate::place::Place;
+use crate::standard_output::StandardOutput;
 use disassembler::listing;
 use elf32_reader::{ElfFault, FILE_LIMIT, read};
 use std::alloc::Global;
-use std::io;
 use std::io::Write;
 
 /// Prints the listing of the program of a file.
@@ -18,24 +17,16 @@ pub fn disasm<'a, F: Files, W: Write>(
     alloc: Global,
     file: &'a str,
     files: &F,
-    stdout: &mut W,
+    stdout: &mut StandardOutput<W>,
 ) -> Result<(), Failure<'a>>
-    ensures printed { OnOk result (Prints (F.content files.now file.now) (W.contents stdout.old) (W.contents stdout.new)) }
+    ensures printed { OnOk result (Prints (F.content files.now file.now) (W.contents stdout.old.writer) (W.contents stdout.new.writer)) }
     ensures failed { IfErr result (IsUnlisted file.now (F.content files.now file.now)) }
 {
     let text = listed(alloc, file, files)?;
-    match print(text.as_bytes(), stdout) {
+    match stdout.print(text.as_bytes()) {
         Ok(()) => Ok(()),
         Err(_) => Err(Failure::CannotWrite(Place::StandardOutput)),
     }
-}
-
-/// Writes bytes to the last one.
-fn print<W: Write>(bytes: &[u8], stdout: &mut W) -> io::Result<()>
-    ensures { OnOk result (Appends (W.contents stdout.old) (W.contents stdout.new) bytes.now) }
-{
-    stdout.write_all(bytes)?;
-    stdout.flush()
 }
 
 /// The listing of the program of a file.

@@ -2,8 +2,10 @@ ghost use Rattle.std.specs.Prelude.{◌≡◌};
 
 use crate::place::Place;
 use crate::read_fault::ReadFault;
+use crate::write_fault::WriteFault;
 use elf32_reader::ElfFault;
 use runtime::RunFault;
+use std::alloc::AllocError;
 use std::fmt;
 
 /// Why a request was not done. Its `Display` is the line for the user.
@@ -25,7 +27,7 @@ pub enum Failure<'a> {
 }
 
 impl<'a> Failure<'a> {
-    /// The failure that a fault at this place is.
+    /// The failure that a fault of a read from this place is.
     pub fn of_read(place: Place<'a>, fault: ReadFault) -> Self
         ensures failed { fault ≡ ReadFault.ReadFailed → result ≡ Failure.CannotRead place.entry }
         ensures memory { fault ≡ ReadFault.OutOfMemory → result ≡ Failure.OutOfMemory }
@@ -33,6 +35,17 @@ impl<'a> Failure<'a> {
         match fault {
             ReadFault::ReadFailed => Failure::CannotRead(place),
             ReadFault::OutOfMemory => Failure::OutOfMemory,
+        }
+    }
+
+    /// The failure that a fault of a write to this place is.
+    pub fn of_write(place: Place<'a>, fault: WriteFault) -> Self
+        ensures failed { fault ≡ WriteFault.WriteFailed → result ≡ Failure.CannotWrite place.entry }
+        ensures memory { fault ≡ WriteFault.OutOfMemory → result ≡ Failure.OutOfMemory }
+    {
+        match fault {
+            WriteFault::WriteFailed => Failure::CannotWrite(place),
+            WriteFault::OutOfMemory => Failure::OutOfMemory,
         }
     }
 }
@@ -65,8 +78,18 @@ impl From<RunFault> for Failure<'_> {
             RunFault::Elf(fault) => Failure::ElfRefused(fault),
             RunFault::BadConfig => Failure::OutsideRange,
             RunFault::InputTooLarge => Failure::InputTooLarge,
-            RunFault::NotYet => Failure::NotYet,
+            RunFault::WriteFailed => Failure::CannotWrite(Place::StandardOutput),
         }
+    }
+}
+
+impl From<AllocError> for Failure<'_> {
+    ghost use Rattle.command.specs.declared.failure.Failure.TheVariants.{OutOfMemory};
+
+    ghost from_gives = { λ _ failure. failure ≡ OutOfMemory };
+
+    fn from(_error: AllocError) -> Self {
+        Failure::OutOfMemory
     }
 }
 

@@ -1,4 +1,5 @@
 ghost use Rattle.std.specs.Prelude.{◌≡◌, ℕ, ◌+◌, ◌^◌, ◌<◌, ◌≤◌, List, Option, None, IfOk, IfSome, OnOk, take, vec_len};
+ghost use Rattle.command.specs.Content.{Holds, KeepsOthers};
 
 use crate::read_fault::ReadFault;
 use crate::write_fault::WriteFault;
@@ -16,7 +17,9 @@ pub trait Files {
         ensures bytes { IfOk result (λ bytes. IfSome (content self.now path.now)
             (λ all. bytes.items ≡ take (limit + 1) all)) };
 
-    /// Makes these bytes the file's content, whether or not there was such a file.
+    /// Makes these bytes the file's content, whether or not there was such a file. Other files stay as they
+    /// are.
     fn replace(&mut self, path: &str, bytes: &[u8]) -> Result<(), WriteFault>
-        ensures ok { OnOk result (IfSome (content self.new path.now) (λ all. all ≡ bytes.now)) };
+        ensures ok { OnOk result (Holds (content self.new) path.now bytes.now) }
+        ensures others { KeepsOthers path.now (content self.old) (content self.new) };
 }

@@ -12,14 +12,17 @@ mod perform;
 mod place;
 mod read_fault;
 mod read_upto;
+mod records;
 mod request;
 mod running;
+mod standard_output;
 mod words;
 mod write_fault;
 
 use failure::Failure;
 use host_files::HostFiles;
 use perform::{conclude, perform};
+use standard_output::StandardOutput;
 use std::process::ExitCode;
 use words::words_of;
 
@@ -29,8 +32,9 @@ fn main(rt: HostRuntime) -> ExitCode {
         Ok(words) => {
             let mut files = HostFiles::new(&rt);
             let mut stdin = rt.stdin();
-            let mut stdout = rt.stdout();
+            let mut stdout = StandardOutput::new(rt.stdout());
             perform(
+                &rt,
                 rt.alloc(),
                 words.as_slice(),
                 &mut files,

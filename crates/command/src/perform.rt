@@ -1,6 +1,6 @@
-ghost use Rattle.std.specs.Prelude.{◌≡◌, ◌≢◌, ◌⊎◌, ◌+◌, IfErr, OnOk};
+ghost use Rattle.std.specs.Prelude.{◌≡◌, ◌≢◌, ◌⊎◌, ◌+◌, ◌-◌, ◌^◌, ◌<◌, IfErr, IsNone, OnOk};
 ghost use Rattle.clap.specs.Values.{kind_of};
-ghost use Rattle.command.specs.Serves.{Serves};
+ghost use Rattle.command.specs.Serves.{NamesNoRecord, RunsInto, Serves};
 ghost use Rattle.command.specs.Status.{answer_status, failure_status, outcome_status};
 ghost use Rattle.command.specs.Taken.{TakesAtMost};
 
@@ -9,30 +9,35 @@ use crate::disasm::disasm;
 use crate::failure::Failure;
 use crate::files::Files;
 use crate::place::Place;
+use crate::records::Records;
 use crate::request::Request;
 use crate::running::run_file;
+use crate::standard_output::StandardOutput;
 use clap::Error;
 use clap::error::ErrorKind;
 use hart::Trap;
-use runtime::{MAX_INPUT, RunOutcome};
+use runtime::{Config, MAX_INPUT, RunOutcome};
 use std::alloc::Global;
 use std::convert::AsStr;
 use std::io;
 use std::io::{Read, Write};
+use std::sync::Wait;
 
 /// The status of a command line that could not be read.
 const WRONG_WORDS: u8 = 2;
 
 /// Does what the words of a command line ask for, the program's name being the first word, and answers
 /// the status that the program ends with. Where writing to `stderr` fails, the status stays.
-pub fn perform<S: AsStr, F: Files, R: Read, W: Write, E: Write>(
+pub fn perform<H: Wait, S: AsStr, F: Files, R: Read, W: Write, E: Write>(
+    rt: &H,
     alloc: Global,
     words: &[S],
     files: &mut F,
     stdin: &mut R,
-    stdout: &mut W,
+    stdout: &mut StandardOutput<W>,
     stderr: &mut E,
 ) -> u8
+    requires { stdout.old.failures < 2 ^ 64 - 1 }
     ensures { TakesAtMost (MAX_INPUT + 1) (R.remaining stdin.old) (R.remaining stdin.new) }
 {
     match parse(alloc, words) {
@@ -40,31 +45,56 @@ pub fn perform<S: AsStr, F: Files, R: Read, W: Write, E: Write>(
             disasm(alloc, file, files, stdout),
             stderr,
         ),
-        Ok(request) => conclude(answer(alloc, &request, files, stdin), stderr),
-        Err(error) => refuse(&error, stdout, stderr),
+        Ok(request) => conclude(answer(rt, alloc, &request, files, stdin, stdout), stderr),
+        Err(error) => refuse(&error, &mut stdout.writer, stderr),
     }
 }
 
-/// Does what a request asks for.
-fn answer<'a, F: Files, R: Read>(
+/// Does what a request for a run or a replay asks for.
+fn answer<'a, H: Wait, F: Files, R: Read, W: Write>(
+    rt: &H,
     alloc: Global,
     request: &Request<'a>,
     files: &mut F,
     stdin: &mut R,
+    stdout: &mut StandardOutput<W>,
 ) -> Result<RunOutcome, Failure<'a>>
+    requires { stdout.old.failures < 2 ^ 64 - 1 }
     ensures input { TakesAtMost (MAX_INPUT + 1) (R.remaining stdin.old) (R.remaining stdin.new) }
-    ensures files { files.new ≡ files.old }
-    ensures answer { Serves (F.content files.old) (R.remaining stdin.old) request.now result }
+    ensures answer { Serves (F.content files.old) (F.content files.new) (R.remaining stdin.old)
+        (W.contents stdout.old.writer) (W.contents stdout.new.writer) request.now result }
+    ensures unnamed { NamesNoRecord request.now → files.new ≡ files.old }
 {
     match *request {
         Request::Run {
             file,
             config,
-            trace: None,
-            report: None,
-        } => run_file(alloc, file, &config, files, stdin),
+            records,
+        } => run_recorded(rt, alloc, file, &config, &records, files, stdin, stdout),
         _ => Err(Failure::NotYet),
     }
+}
+
+/// Runs the program of a file, and writes its records once there is a report.
+fn run_recorded<'a, H: Wait, F: Files, R: Read, W: Write>(
+    rt: &H,
+    alloc: Global,
+    file: &'a str,
+    config: &Config,
+    records: &Records<'a>,
+    files: &mut F,
+    stdin: &mut R,
+    stdout: &mut StandardOutput<W>,
+) -> Result<RunOutcome, Failure<'a>>
+    requires { stdout.old.failures < 2 ^ 64 - 1 }
+    ensures input { TakesAtMost (MAX_INPUT + 1) (R.remaining stdin.old) (R.remaining stdin.new) }
+    ensures answer { RunsInto (F.content files.old) (F.content files.new) (R.remaining stdin.old)
+        (W.contents stdout.old.writer) (W.contents stdout.new.writer) file.now config.now records.now result }
+    ensures unnamed { IsNone records.now.trace → IsNone records.now.report → files.new ≡ files.old }
+{
+    let report = run_file(rt, alloc, file, config, files, stdin, stdout)?;
+    records.write(alloc, &report, files)?;
+    Ok(report.outcome)
 }
 
 /// Says how a request ended, where there is more to say than its status, and answers the status.
@@ -154,12 +184,20 @@ fn write_help<W: Write>(help: &Error, stdout: &mut W) -> io::Result<()> {
 }
 
 #[cfg(test)]
+mod edge_calls;
+#[cfg(test)]
+mod failing_writes;
+#[cfg(test)]
 mod listings;
 #[cfg(test)]
 mod performed;
 #[cfg(test)]
 mod program_file;
 #[cfg(test)]
-mod rows;
+mod refusals;
+#[cfg(test)]
+mod runs;
 #[cfg(test)]
 mod tests;
+#[cfg(test)]
+mod worked_runs;

@@ -1,3 +1,4 @@
+use crate::records::Records;
 use runtime::Config;
 
 /// What a command line asks for. The numbers of each `Config` lie within the run time's limits.
@@ -7,10 +8,7 @@ pub enum Request<'a> {
     Run {
         file: &'a str,
         config: Config,
-        /// The file for the trace.
-        trace: Option<&'a str>,
-        /// The file for the sharing report.
-        report: Option<&'a str>,
+        records: Records<'a>,
     },
     /// Print the instructions of a file.
     Disasm {

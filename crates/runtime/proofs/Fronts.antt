@@ -1,5 +1,5 @@
 -- A beginning of a legal history's output.
-use Rattle.std.proofs.Common.{◌≡◌, ℕ, Option, Some, None, Result, Ok, Err, List, [], ◌∷◌, ◌++◌, length, take, refl, ap, sym, ◌∙◌, subst, arith, length-append}
+use Rattle.std.proofs.Common.{◌≡◌, ℕ, Option, Err, List, [], ◌∷◌, ◌++◌, length, take, refl, ap, sym, ◌∙◌, subst, arith, length-append}
 use Rattle.std.specs.Io.KnownBytes.{Appends}
 use Rattle.token.specs.State.{Setup, State, first_state}
 use Rattle.token.specs.History.{History, IsLegal, present, turns_of}
@@ -9,7 +9,6 @@ use Rattle.token.specs.declared.outcome.RunOutcome.{RunOutcome}
 use Rattle.token.specs.declared.progress.Progress.{Progress}
 use Rattle.runtime.specs.Faults.{IsUnderWay}
 use Rattle.runtime.specs.Sending.{AppendsFront, Sends, SendsFront, SendsOutput}
-use Rattle.runtime.specs.declared.report.Report.{Report}
 use Rattle.runtime.specs.declared.run_fault.RunFault.{RunFault}
 use Rattle.runtime.specs.declared.run_fault.RunFault.TheVariants.{Elf, BadConfig, InputTooLarge, OutOfMemory, WriteFailed}
 use Rattle.runtime.proofs.Sent.{appends_none}

@@ -5,6 +5,7 @@ use crate::files::Files;
 use crate::read_fault::ReadFault;
 use crate::write_fault::WriteFault;
 use std::test::Fail;
+use std::{env, fs};
 
 #[test]
 fn files_are_read_and_folders_are_not(rt: HostRuntime) -> Result<(), Fail> {
@@ -29,5 +30,19 @@ fn a_failed_write_is_named(rt: HostRuntime) -> Result<(), Fail> {
         let written = files.replace(path, b"text");
         assert_eq!(rt; written, Err(WriteFault::WriteFailed), "at {path:?}");
     }
+    Ok(())
+}
+
+#[test]
+fn an_old_longer_file_is_replaced(rt: HostRuntime) -> Result<(), Fail> {
+    let mut path = env::temp_dir(&rt)?;
+    path.push("dthreads-replaced")?;
+    let path = path.as_path().to_str().ok_or("no text")?;
+    let mut files = HostFiles::new(&rt);
+    files.replace(path, b"an old and longer text")?;
+    files.replace(path, b"a new text")?;
+    let read = files.read(rt.alloc(), path, 99);
+    fs::remove_file(&rt, path)?;
+    assert!(rt; read?.as_slice() == b"a new text".as_slice());
     Ok(())
 }

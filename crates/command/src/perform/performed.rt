@@ -2,9 +2,10 @@
 
 use crate::files::Files;
 use crate::perform::perform;
-use std::alloc::Global;
+use crate::standard_output::StandardOutput;
 use std::io::Read;
 use std::process::Abort;
+use std::sync::Wait;
 
 /// What a command line gave.
 #[derive(Drop)]
@@ -16,37 +17,32 @@ pub struct Performed {
 
 impl Performed {
     /// Does what the words ask for.
-    pub fn new<F: Files, R: Read>(alloc: Global, words: &[&str], mut files: F, mut stdin: R) -> Self
-    where
-        F: Drop,
-        R: Drop,
-    {
-        let mut stdout = Vec::new(alloc);
+    pub fn new<H: AllocGlobal + Wait, F: Files, R: Read>(
+        rt: &H,
+        words: &[&str],
+        files: &mut F,
+        stdin: &mut R,
+    ) -> Self {
+        let alloc = rt.alloc();
+        let mut stdout = StandardOutput::new(Vec::new(alloc));
         let mut stderr = Vec::new(alloc);
-        let status = perform(
-            alloc,
-            words,
-            &mut files,
-            &mut stdin,
-            &mut stdout,
-            &mut stderr,
-        );
+        let status = perform(rt, alloc, words, files, stdin, &mut stdout, &mut stderr);
         Performed {
             status,
-            stdout,
+            stdout: stdout.writer,
             stderr,
         }
     }
 
     /// Fails the test unless the program ended with this status and wrote these texts.
-    pub fn assert_is(&self, rt: &impl Abort, status: u8, stdout: &str, stderr: &str) {
+    pub fn assert_is(&self, rt: &impl Abort, status: u8, stdout: &[u8], stderr: &str) {
         assert_eq!(rt;
             self.status,
             status,
             "the status, where {stderr:?} is wanted"
         );
         assert!(rt;
-            self.stdout.as_slice() == stdout.as_bytes(),
+            self.stdout.as_slice() == stdout,
             "the output, where {stderr:?} is wanted"
         );
         assert!(rt;

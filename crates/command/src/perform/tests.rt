@@ -3,25 +3,29 @@
 use super::performed::Performed;
 use super::{conclude, perform};
 use crate::failure::Failure;
-use crate::fakes::{FailingReader, FailingWriter, OneFile};
+use crate::fakes::{FailingReader, FailingWriter, MemoryFiles};
 use crate::place::Place;
+use crate::standard_output::StandardOutput;
 use elf32_reader::ElfFault;
 use hart::{Cause, Trap};
 use runtime::RunOutcome;
 use std::io;
 use std::io::ErrorKind;
+use std::sync::Wait;
 use std::test::Fail;
-
-const NO_FILE: OneFile<'static> = OneFile {
-    path: "",
-    bytes: &[],
-};
 
 /// A reader whose first read fails.
 const NO_INPUT: FailingReader = FailingReader {
     good_reads: 0,
     kind: ErrorKind::Other,
 };
+
+/// Does what the words ask for, where no file is wanted and no input can be read.
+fn wordy<H: AllocGlobal + Wait>(rt: &H, words: &[&str]) -> Performed {
+    let mut files = MemoryFiles::new(rt.alloc(), &[]);
+    let mut stdin = NO_INPUT;
+    Performed::new(rt, words, &mut files, &mut stdin)
+}
 
 #[test]
 fn wrong_words(rt: HostRuntime) {
@@ -76,7 +80,7 @@ fn wrong_words(rt: HostRuntime) {
         ),
     ];
     for (words, text) in rows {
-        Performed::new(rt.alloc(), words, NO_FILE, NO_INPUT).assert_is(&rt, 2, "", text);
+        wordy(&rt, words).assert_is(&rt, 2, b"", text);
     }
 }
 
@@ -103,7 +107,7 @@ fn more_wrong_words(rt: HostRuntime) {
         &["dthreads", "--workers", "2", "run", "a"],
     ];
     for words in rows {
-        let performed = Performed::new(rt.alloc(), words, NO_FILE, NO_INPUT);
+        let performed = wordy(&rt, words);
         assert_eq!(rt; performed.status, 2, "at {words:?}");
         assert!(rt; performed.stdout.is_empty(), "at {words:?}");
         assert!(rt;
@@ -122,14 +126,14 @@ Usage: dthreads <COMMAND>
 Commands:
   run     Run a program, with standard input as its input
   disasm  Print the instructions of a program
-  replay  Apply a schedule to a program and print the trace
+  replay  Apply a schedule to a program and print the trace (not yet)
 
 Options:
   -h, --help  Print help
 ";
     for name in ["dthreads", "out/command", ""] {
         let words = [name, "--help"];
-        Performed::new(rt.alloc(), &words, NO_FILE, NO_INPUT).assert_is(&rt, 0, text, "");
+        wordy(&rt, &words).assert_is(&rt, 0, text.as_bytes(), "");
     }
     let text = "Run a program, with standard input as its input
 
@@ -147,46 +151,31 @@ Options:
   -h, --help           Print help
 ";
     let words = ["dthreads", "run", "--help"];
-    Performed::new(rt.alloc(), &words, NO_FILE, NO_INPUT).assert_is(&rt, 0, text, "");
+    wordy(&rt, &words).assert_is(&rt, 0, text.as_bytes(), "");
 }
 
 #[test]
-fn what_is_not_made_yet_reads_nothing(rt: HostRuntime) {
-    let rows: [&[&str]; 3] = [
-        &["dthreads", "replay", "a", "s", "--workers", "64"],
-        &["dthreads", "run", "a", "--trace", "t"],
-        &[
-            "dthreads",
-            "run",
-            "a",
-            "--report",
-            "r",
-            "--bound",
-            "1099511627776",
-        ],
-    ];
-    for words in rows {
-        Performed::new(rt.alloc(), words, NO_FILE, NO_INPUT).assert_is(&rt, 126, "", "not yet\n");
-    }
+fn a_replay_is_not_made_yet_and_reads_nothing(rt: HostRuntime) {
+    let words = ["dthreads", "replay", "a", "s", "--workers", "64"];
+    wordy(&rt, &words).assert_is(&rt, 126, b"", "not yet\n");
 }
 
 #[test]
-fn what_cannot_be_read_is_named(rt: HostRuntime) {
-    let words = ["dthreads", "run", "a.elf"];
-    let line = "cannot read a.elf\n";
-    Performed::new(rt.alloc(), &words, NO_FILE, NO_INPUT).assert_is(&rt, 124, "", line);
-    let file = OneFile {
-        path: "a.elf",
-        bytes: &[],
-    };
+fn what_cannot_be_read_is_named(rt: HostRuntime) -> Result<(), Fail> {
+    let words = ["dthreads", "run", "a", "--trace", "trace"];
+    wordy(&rt, &words).assert_is(&rt, 124, b"", "cannot read a\n");
+    let words = ["dthreads", "run", "a.elf", "--trace", "trace"];
+    let mut files = MemoryFiles::with_old_files(rt.alloc(), &[])?;
     for good_reads in 0..3 {
-        let input = FailingReader {
+        let mut input = FailingReader {
             good_reads,
             kind: ErrorKind::OutOfMemory,
         };
         let line = "cannot read standard input\n";
-        Performed::new(rt.alloc(), &words, file, input).assert_is(&rt, 124, "", line);
+        Performed::new(&rt, &words, &mut files, &mut input).assert_is(&rt, 124, b"", line);
     }
+    files.assert_old(&rt);
+    Ok(())
 }
 
 #[test]
@@ -298,27 +287,26 @@ fn a_status_stays_where_nothing_can_be_written(rt: HostRuntime) -> Result<(), Fa
         (&["dthreads", "--help"], 124),
     ];
     for (words, wanted) in rows {
-        let mut files = NO_FILE;
         let status = perform(
+            &rt,
             alloc,
             words,
-            &mut files,
+            &mut MemoryFiles::new(alloc, &[]),
             &mut io::empty(),
-            &mut FailingWriter,
+            &mut StandardOutput::new(FailingWriter),
             &mut FailingWriter,
         );
         assert_eq!(rt; status, wanted, "at {words:?}");
     }
     let mut stderr = Vec::new(alloc);
-    let mut files = NO_FILE;
     let words = ["dthreads", "--help"];
-    let mut stdout = FailingWriter;
     perform(
+        &rt,
         alloc,
         words.as_slice(),
-        &mut files,
+        &mut MemoryFiles::new(alloc, &[]),
         &mut io::empty(),
-        &mut stdout,
+        &mut StandardOutput::new(FailingWriter),
         &mut stderr,
     );
     assert!(rt; stderr.as_slice() == b"cannot write standard output\n".as_slice());

@@ -5,6 +5,6 @@ use Rattle.command.proofs.disasm.disasm.Goals as goal
 
 pub returns-in-Ok-clause-printed : goal.returns-in-Ok-clause-printed
 returns-in-Ok-clause-printed g c =
-    let appends : Appends (g.W.Write.contents c.args.stdout.now) (g.W.Write.contents c.print.new.stdout) (string_bytes c.in_ok-text.text) = search rules in
+    let appends : Appends (g.W.Write.contents c.args.stdout.now.writer) (g.W.Write.contents c.print.new.self.writer) (string_bytes c.in_ok-text.text) = search rules in
     let listed = c.in_ok-text.ensures in
     (listed.0, listed.1, listed.2, rw listed.3 at appends)

@@ -1,18 +1,23 @@
-use Rattle.std.proofs.Common.{ℕ, List, Option, Result, Ok, Err, inr}
+use Rattle.std.proofs.Common.{ℕ, List, Option, Result, Ok, Err, IfOk}
+use Rattle.std.specs.Io.KnownBytes.{Appends}
+use Rattle.elf32_reader.specs.declared.file_header.TheConstants.{FILE_LIMIT}
+use Rattle.runtime.specs.Run.{Answers}
 use Rattle.runtime.specs.declared.config.Config.{Config}
-use Rattle.runtime.specs.declared.run_outcome.RunOutcome.{RunOutcome}
+use Rattle.runtime.specs.declared.limits.TheConstants.{MAX_INPUT}
+use Rattle.runtime.specs.declared.report.Report.{Report}
 use Rattle.command.specs.declared.failure.Failure.{Failure}
-use Rattle.command.specs.Serves.{RunsBytes, RunsRead, RunsFile}
+use Rattle.command.specs.Serves.{AreRead, RunsFile}
 use Rattle.command.proofs.running.run_file.Goals as goal
 
--- what the run of the bytes that were read answers is what the run of the file answers
-runs_file : (path : List ℕ) (content input : Option (List ℕ)) (config : Config) (answer : Result RunOutcome Failure) →
-    RunsRead content input config answer → RunsFile path content input config answer
-runs_file path content input config (Ok outcome) runs = runs
-runs_file path content input config (Err failure) runs = inr runs
+-- what the run of the bytes that were read gives is what the run of the file gives
+runs_file : (content input old new : Option (List ℕ)) (elf given : List ℕ) (config : Config) (result : Result Report Failure) →
+    AreRead FILE_LIMIT content elf → AreRead MAX_INPUT input given → IfOk result (λ report. Answers elf given config (Ok report))
+    → IfOk result (λ report. Appends old new report.output.items) → IfOk result (λ report. RunsFile content input config report old new)
+runs_file content input old new elf given config (Ok report) file_read input_read ran sent = ((elf, given, file_read, input_read, ran), sent)
+runs_file content input old new elf given config (Err failure) file_read input_read ran sent = tt
 
-pub returns-clause-answer : goal.returns-clause-answer
-returns-clause-answer g c =
-    let runs : RunsBytes c.in-Ok.elf.items c.in-Ok-read_upto.input.items c.args.config.now c.run_bytes.result =
-    rw (c.as_slice.ensures.value, c.as_slice-2.ensures.value) at c.run_bytes.ensures in
-    runs_file _ _ _ _ _ (c.in-Ok.elf.items, c.in-Ok-read_upto.input.items, c.in-Ok.ensures.bytes, c.in-Ok-read_upto.ensures.bytes, runs)
+pub returns-clause-ran : goal.returns-clause-ran
+returns-clause-ran g c =
+    let ran : IfOk c.run_bytes.result (λ report. Answers c.in-Ok.elf.items c.in-Ok-read_upto.input.items c.args.config.now (Ok report)) =
+    rw (c.as_slice.ensures.value, c.as_slice-2.ensures.value) at c.run_bytes.ensures.ran in
+    runs_file _ _ _ _ _ _ _ _ c.in-Ok.ensures.bytes c.in-Ok-read_upto.ensures.bytes ran c.run_bytes.ensures.sent

@@ -1,4 +1,3 @@
-use Rattle.std.proofs.Common.{sym}
 use Rattle.std.proofs.lemmas.Result.{err_from_is_err_and}
 use Rattle.token.specs.State.{setup_of}
 use Rattle.runtime.specs.declared.run_fault.RunFault.TheVariants.{OutOfMemory}

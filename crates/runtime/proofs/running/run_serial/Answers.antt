@@ -1,8 +1,6 @@
-use Rattle.std.proofs.Common.{sym, subst, ◌∙◌, ◌≡◌, ap, ℕ, List, Option, [], Err}
+use Rattle.std.proofs.Common.{sym, subst}
 use Rattle.std.specs.Io.KnownBytes.{Appends}
 use Rattle.std.proofs.lemmas.Result.{err_from_is_err_and}
-use Rattle.token.specs.Progress.{point_of}
-use Rattle.runtime.specs.Sending.{Sends}
 use Rattle.runtime.specs.declared.run_fault.RunFault.TheVariants.{OutOfMemory}
 use Rattle.runtime.proofs.Fronts.{appends_front, front_of_history, under_way}
 use Rattle.runtime.proofs.Sent.{appends_none}

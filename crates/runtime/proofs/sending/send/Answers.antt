@@ -1,7 +1,6 @@
-use Rattle.std.proofs.Common.{◌≡◌, ap, sym, ◌++◌, arith, length, take, drop, length-drop, ◌∙◌, subst}
+use Rattle.std.proofs.Common.{arith, length-drop, ◌∙◌}
 use Rattle.std.proofs.lemmas.List.{take_rest}
 use Rattle.std.proofs.Math.Seq.{take-add}
-use Rattle.std.specs.Io.KnownBytes.{Appends}
 use Rattle.runtime.proofs.Sent.{appends_more}
 use Rattle.runtime.proofs.sending.send.Goals as goal
 

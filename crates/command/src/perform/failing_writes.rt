@@ -1,0 +1,187 @@
+//! Writes that fail at any place: what was written before, that nothing is written behind, and the line.
+
+use super::perform;
+use super::program_file::program_file;
+use super::worked_runs::{LETTER, PRODUCTS, RACE};
+use crate::fakes::{FaultyWriter, MemoryFiles};
+use crate::standard_output::StandardOutput;
+use std::alloc::{AllocError, Global};
+use std::io;
+use std::process::Abort;
+use std::sync::Wait;
+use std::test::Fail;
+
+const RUN: [&str; 7] = [
+    "dthreads", "run", "a.elf", "--trace", "trace", "--report", "report",
+];
+
+/// How many writes and flushes succeed, how many bytes each write takes, and how many of the eight bytes of
+/// `products` are written, where some fail.
+static FAILING_OUTPUTS: [(u32, u32, usize, usize); 9] = [
+    (0, 9, 3, 0),
+    (1, 9, 3, 3),
+    (2, 9, 3, 6),
+    (9, 0, 3, 3),
+    (9, 1, 3, 6),
+    (9, 2, 3, 8),
+    (9, 3, 3, 8),
+    (1, 9, 1, 1),
+    (9, 9, 0, 0),
+];
+
+#[test]
+fn standard_output_that_fails(rt: HostRuntime) -> Result<(), Fail> {
+    let program = program_file(rt.alloc(), PRODUCTS)?;
+    for (good_writes, good_flushes, most, written) in FAILING_OUTPUTS {
+        let mut files = MemoryFiles::with_old_files(rt.alloc(), program.as_slice())?;
+        let mut stdout = faulty(rt.alloc(), good_writes, good_flushes, most);
+        let line = "cannot write standard output\n";
+        check(&rt, &RUN, &mut files, &mut stdout, 124, line)?;
+        let taken = stdout.writer.taken.as_slice();
+        let all: &[u8] = b"\x00\x00\x00\x80\x00\x00\x00\x80";
+        assert_eq!(rt; taken.len(), written, "at {good_writes} and {good_flushes}");
+        assert!(rt;
+            all.starts_with(taken),
+            "at {good_writes} and {good_flushes}"
+        );
+        files.assert_old(&rt);
+    }
+    Ok(())
+}
+
+#[test]
+fn pieces_are_flushed_one_by_one(rt: HostRuntime) -> Result<(), Fail> {
+    let program = program_file(rt.alloc(), PRODUCTS)?;
+    let mut files = MemoryFiles::with_old_files(rt.alloc(), program.as_slice())?;
+    let mut stdout = faulty(rt.alloc(), 3, 9, 3);
+    check(&rt, &RUN, &mut files, &mut stdout, 0, "")?;
+    assert_eq!(rt; stdout.writer.taken.len(), 8);
+    assert_eq!(rt; stdout.writer.good_flushes, 5);
+    assert!(rt; files.trace.as_slice().starts_with(b"1 0 write "));
+    Ok(())
+}
+
+#[test]
+fn a_failed_write_stands_alone_beside_a_trap(rt: HostRuntime) -> Result<(), Fail> {
+    let words = [
+        "dthreads", "run", "a.elf", "--bound", "6", "--trace", "trace",
+    ];
+    let program = program_file(rt.alloc(), LETTER)?;
+    let mut files = MemoryFiles::with_old_files(rt.alloc(), program.as_slice())?;
+    let mut stdout = faulty(rt.alloc(), 0, 9, 1);
+    check(
+        &rt,
+        &words,
+        &mut files,
+        &mut stdout,
+        124,
+        "cannot write standard output\n",
+    )?;
+    files.assert_old(&rt);
+    files.good_writes = 0;
+    let mut stdout = faulty(rt.alloc(), 9, 9, 1);
+    check(
+        &rt,
+        &words,
+        &mut files,
+        &mut stdout,
+        124,
+        "cannot write trace\n",
+    )?;
+    assert!(rt; stdout.writer.taken.as_slice() == b"A".as_slice());
+    files.assert_old(&rt);
+    files.good_writes = 1;
+    let line = "trap thread=0 pc=00010018 cause=16 value=00000000\n";
+    check(&rt, &words, &mut files, &mut stdout, 120, line)?;
+    assert!(rt;
+        files
+            .trace
+            .as_slice()
+            .ends_with(b"\n2 0 trap 16 00010018 00000000 changed=0 ran=0\n")
+    );
+    Ok(())
+}
+
+#[test]
+fn records_that_cannot_be_written(rt: HostRuntime) -> Result<(), Fail> {
+    let program = program_file(rt.alloc(), RACE)?;
+    let mut files = MemoryFiles::with_old_files(rt.alloc(), program.as_slice())?;
+    let mut stdout = faulty(rt.alloc(), 9, 9, 1);
+    files.good_writes = 0;
+    check(
+        &rt,
+        &RUN,
+        &mut files,
+        &mut stdout,
+        124,
+        "cannot write trace\n",
+    )?;
+    files.assert_old(&rt);
+    let elsewhere = ["dthreads", "run", "a.elf", "--trace", "no/trace"];
+    files.good_writes = 1;
+    check(
+        &rt,
+        &elsewhere,
+        &mut files,
+        &mut stdout,
+        124,
+        "cannot write no/trace\n",
+    )?;
+    files.assert_old(&rt);
+    files.good_writes = 1;
+    check(
+        &rt,
+        &RUN,
+        &mut files,
+        &mut stdout,
+        124,
+        "cannot write report\n",
+    )?;
+    assert!(rt; files.trace.as_slice().starts_with(b"1 0 lock "));
+    assert_eq!(rt; files.report.len(), 1000);
+    Ok(())
+}
+
+/// Checks what the program answers to these words, with this standard output.
+fn check<H: Abort + AllocGlobal + Wait>(
+    rt: &H,
+    words: &[&str],
+    files: &mut MemoryFiles<'_>,
+    stdout: &mut StandardOutput<FaultyWriter>,
+    status: u8,
+    line: &str,
+) -> Result<(), AllocError> {
+    let mut stderr = Vec::new(rt.alloc());
+    stdout.failures = 0;
+    let answered = perform(
+        rt,
+        rt.alloc(),
+        words,
+        files,
+        &mut io::empty(),
+        stdout,
+        &mut stderr,
+    );
+    assert_eq!(rt; answered, status, "where {line:?} is wanted");
+    assert!(rt;
+        stderr.as_slice() == line.as_bytes(),
+        "where {line:?} is wanted"
+    );
+    Ok(())
+}
+
+/// Standard output that fails after so many writes and flushes.
+fn faulty(
+    alloc: Global,
+    good_writes: u32,
+    good_flushes: u32,
+    most: usize,
+) -> StandardOutput<FaultyWriter> {
+    StandardOutput::new(FaultyWriter {
+        taken: Vec::new(alloc),
+        most,
+        good_writes,
+        good_flushes,
+        is_next_interrupted: true,
+    })
+}

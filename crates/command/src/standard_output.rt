@@ -1,0 +1,102 @@
+ghost use Rattle.std.specs.Prelude.{◌≡◌, ◌<◌, length, IfOk, OnOk};
+ghost use Rattle.std.specs.Io.{WritesAtMost};
+ghost use Rattle.std.specs.Io.KnownBytes.{Appends, Keeps, WriteAppends};
+
+use runtime::{Sink, SinkFault};
+use std::io::{ErrorKind, Write};
+
+/// Standard output. A run's output is flushed piece by piece, so that each stands there while the run goes on.
+#[derive(Drop)]
+pub struct StandardOutput<W> {
+    /// What the bytes are written to.
+    pub writer: W,
+    /// How often it didn't take a piece.
+    pub failures: u64,
+    /// Whether a flush failed. Then it takes no further piece.
+    is_lost: bool,
+}
+
+impl<W: Write> StandardOutput<W> {
+    /// Standard output over this writer.
+    pub fn new(writer: W) -> Self
+        ensures writer { result.writer ≡ writer }
+        ensures failures { result.failures ≡ 0 }
+    {
+        StandardOutput {
+            writer,
+            failures: 0,
+            is_lost: false,
+        }
+    }
+
+    /// Writes all of these bytes and flushes them.
+    pub fn print(&mut self, bytes: &[u8]) -> Result<(), SinkFault>
+        ensures { OnOk result (Appends (W.contents self.old.writer) (W.contents self.new.writer) bytes.now) }
+    {
+        match self.writer.write_all(bytes) {
+            Ok(()) => self.finish(),
+            Err(_) => Err(SinkFault),
+        }
+    }
+
+    /// Flushes what was written. It fails where this or an earlier flush did.
+    pub fn finish(&mut self) -> Result<(), SinkFault>
+        ensures { Keeps (W.contents self.old.writer) (W.contents self.new.writer) }
+    {
+        match self.writer.flush() {
+            Ok(()) if !self.is_lost => Ok(()),
+            Ok(()) | Err(_) => Err(SinkFault),
+        }
+    }
+
+    /// Writes a beginning of these bytes, flushes it and answers its length, at least 1 where there are any
+    /// bytes. A write that a signal interrupts is made again.
+    fn write_piece(&mut self, bytes: &[u8]) -> Result<usize, SinkFault>
+        ensures within { WritesAtMost result bytes.now }
+        ensures some { IfOk result (λ count. 0 < count) }
+        ensures bytes { WriteAppends (W.contents self.old.writer) (W.contents self.new.writer) result bytes.now }
+        ensures failures { self.new.failures ≡ self.old.failures }
+    {
+        if self.is_lost {
+            return Err(SinkFault);
+        }
+        let count = write_some(&mut self.writer, bytes)?;
+        self.is_lost = self.writer.flush().is_err();
+        Ok(count)
+    }
+}
+
+/// Writes a beginning of these bytes and answers its length, which isn't 0. A write that a signal interrupts is
+/// made again.
+fn write_some<W: Write>(writer: &mut W, bytes: &[u8]) -> Result<usize, SinkFault>
+    ensures within { WritesAtMost result bytes.now }
+    ensures some { IfOk result (λ count. 0 < count) }
+    ensures bytes { WriteAppends (W.contents writer.old) (W.contents writer.new) result bytes.now }
+{
+    'tries: for _ in 0..u64::MAX {
+        match writer.write(bytes) {
+            Ok(count) if count > 0 => return Ok(count),
+            Err(error) if error.kind() == ErrorKind::Interrupted => {}
+            Ok(_) | Err(_) => break,
+        }
+    }
+    Err(SinkFault)
+}
+
+impl<W: Write> Sink for StandardOutput<W> {
+    ghost taken = { λ output. W.contents output.writer };
+
+    ghost failed = { λ output. output.failures };
+
+    fn put(&mut self, bytes: &[u8]) -> Result<usize, SinkFault> {
+        let written = self.write_piece(bytes);
+        if written.is_err() {
+            self.failures += 1;
+        }
+        written
+    }
+
+    fn failures(&self) -> u64 {
+        self.failures
+    }
+}
