@@ -1,4 +1,4 @@
-//! Runs of files by the serial state: each segment on a view of the memory that it needs, one after another.
+//! Runs of files: turn by turn on the serial state, and whole by the run time with few and with many workers.
 
 ghost use Rattle.std.specs.Prelude.{◌<◌, ◌≤◌, ◌^◌, length, IfSome};
 
@@ -6,11 +6,13 @@ use crate::fixtures::elf_of;
 use calls::{Code, Reply};
 use elf32_reader::read;
 use hart::{Cause, Trap};
-use runtime::MAX_BOUND;
+use paged_memory::Snapshot;
+use runtime::{Config, MAX_BOUND, OpenGate, run};
 use std::alloc::{AllocError, Global};
 use std::process::Abort;
+use std::sync::Wait;
 use std::test::Fail;
-use token::{Next, RunOutcome, Serial, Turn, TurnStop, next_turn};
+use token::{Next, RunOutcome, Serial, Turn, TurnChange, TurnStop, next_turn};
 
 /// More turns than a run of these tests has.
 const TURNS: u32 = 10_000;
@@ -199,13 +201,17 @@ fn run_file(rt: &impl Abort, alloc: Global, file: &[u8], case: &Case<'_>) -> Res
     Err("the run has no end")?
 }
 
-/// Asserts that the turns are those of the case, each with its change.
-fn assert_turns(rt: &impl Abort, serial: &Serial, case: &Case<'_>) {
-    for (turn, line) in serial.turns().iter().zip(case.lines) {
+/// Asserts that some turns are those of the case.
+fn assert_turns(rt: &impl Abort, turns: &[Turn], case: &Case<'_>) {
+    for (turn, line) in turns.iter().zip(case.lines) {
         assert_eq!(rt; *turn, line.turn(), "{}", case.name);
     }
-    assert_eq!(rt; serial.turns().len(), case.lines.len(), "{}", case.name);
-    for (change, line) in serial.changes().iter().zip(case.lines) {
+    assert_eq!(rt; turns.len(), case.lines.len(), "{}", case.name);
+}
+
+/// Asserts that some changes are those of the case's turns.
+fn assert_changes(rt: &impl Abort, changes: &[TurnChange], case: &Case<'_>) {
+    for (change, line) in changes.iter().zip(case.lines) {
         assert_eq!(rt;
             (change.phase(), change.thread()),
             (line.0, line.1),
@@ -214,34 +220,65 @@ fn assert_turns(rt: &impl Abort, serial: &Serial, case: &Case<'_>) {
         );
         assert_eq!(rt; change.addresses(), line.4, "{}", case.name);
     }
-    assert_eq!(rt; serial.changes().len(), case.lines.len(), "{}", case.name);
+    assert_eq!(rt; changes.len(), case.lines.len(), "{}", case.name);
 }
 
-/// Asserts that the run of a file is that of a case.
+/// Asserts that a memory has the bytes of the case.
+fn assert_bytes(rt: &impl Abort, memory: &Snapshot, case: &Case<'_>) {
+    for (address, byte) in case.bytes {
+        assert_eq!(rt; memory.byte(*address), *byte, "{} {address:x}", case.name);
+    }
+}
+
+/// Asserts that the turns of a file, one by one, are those of a case.
+fn assert_serial(rt: &impl Abort, alloc: Global, file: &[u8], case: &Case<'_>) -> Result<(), Fail> {
+    let ran = run_file(rt, alloc, file, case)?;
+    assert_turns(rt, ran.serial.turns(), case);
+    assert_changes(rt, ran.serial.changes(), case);
+    assert_eq!(rt; ran.outcome, case.outcome, "{}", case.name);
+    assert_eq!(rt; ran.serial.output(), case.output, "{}", case.name);
+    assert_eq!(rt; ran.sent.as_slice(), case.output, "{}", case.name);
+    assert_bytes(rt, ran.serial.now(), case);
+    Ok(())
+}
+
+/// Asserts that the report of a file is that of a case with this number of workers.
+fn assert_report(
+    rt: &(impl Abort + Wait),
+    alloc: Global,
+    file: &[u8],
+    case: &Case<'_>,
+    workers: u32,
+) -> Result<(), Fail> {
+    let config = Config {
+        bound: case.bound,
+        quantum: case.quantum,
+        workers,
+    };
+    let report = run(rt, alloc, file, case.input, &config, &OpenGate)?;
+    assert_turns(rt, &report.trace, case);
+    assert_eq!(rt; report.outcome, case.outcome, "{}", case.name);
+    assert_eq!(rt; report.output.as_slice(), case.output, "{}", case.name);
+    assert_bytes(rt, &report.memory, case);
+    Ok(())
+}
+
+/// Asserts that the run of a file is that of a case, with few and with many workers.
 pub fn assert_file(
-    rt: &impl Abort,
+    rt: &(impl Abort + Wait),
     alloc: Global,
     file: &[u8],
     case: &Case<'_>,
 ) -> Result<(), Fail> {
-    let ran = run_file(rt, alloc, file, case)?;
-    assert_turns(rt, &ran.serial, case);
-    assert_eq!(rt; ran.outcome, case.outcome, "{}", case.name);
-    assert_eq!(rt; ran.serial.output(), case.output, "{}", case.name);
-    assert_eq!(rt; ran.sent.as_slice(), case.output, "{}", case.name);
-    for (address, byte) in case.bytes {
-        assert_eq!(rt;
-            ran.serial.now().byte(*address),
-            *byte,
-            "{} {address:x}",
-            case.name
-        );
+    assert_serial(rt, alloc, file, case)?;
+    for workers in [1, 2, 64] {
+        assert_report(rt, alloc, file, case, workers)?;
     }
     Ok(())
 }
 
 /// Asserts that the run of a case is what it must come to.
-pub fn assert_case(rt: &impl Abort, alloc: Global, case: &Case<'_>) -> Result<(), Fail> {
+pub fn assert_case(rt: &(impl Abort + Wait), alloc: Global, case: &Case<'_>) -> Result<(), Fail> {
     let mut words = Vec::new(alloc);
     for part in case.words {
         words.extend_from_slice(part)?;
