@@ -10,7 +10,6 @@ use Rattle.runtime.specs.Run.{Answers}
 use Rattle.runtime.specs.declared.config.Config.{Config}
 use Rattle.runtime.specs.declared.limits.TheConstants.{MAX_INPUT}
 use Rattle.runtime.specs.declared.report.Report.{Report}
-use Rattle.runtime.specs.declared.run_fault.RunFault.{RunFault}
 use Rattle.runtime.specs.declared.run_fault.RunFault.TheVariants as run
 use Rattle.token.specs.declared.outcome.RunOutcome.{RunOutcome}
 use Rattle.command.specs.Content.{Content}

@@ -27,86 +27,90 @@ fn wordy<H: AllocGlobal + Wait>(rt: &H, words: &[&str]) -> Performed {
     Performed::new(rt, words, &mut files, &mut stdin)
 }
 
+/// Command lines that make no request, and the text for each.
+static WRONG_WORDS: [(&[&str], &str); 12] = [
+    (
+        &["dthreads"],
+        "error: 'dthreads' requires a subcommand but one was not provided\n  [subcommands: run, disasm, replay]\n\nUsage: dthreads <COMMAND>\n\nFor more information, try '--help'.\n",
+    ),
+    (
+        &["dthreads", "walk"],
+        "error: unrecognized subcommand 'walk'\n\nUsage: dthreads <COMMAND>\n\nFor more information, try '--help'.\n",
+    ),
+    (
+        &["dthreads", "run"],
+        "error: the following required arguments were not provided:\n  <FILE>\n\nUsage: dthreads run <FILE>\n\nFor more information, try '--help'.\n",
+    ),
+    (
+        &["dthreads", "run", "a", "b"],
+        "error: unexpected argument 'b' found\n\nUsage: dthreads run [OPTIONS] <FILE>\n\nFor more information, try '--help'.\n",
+    ),
+    (
+        &["dthreads", "run", "a", "--workers", "0"],
+        "error: invalid value '0' for '--workers <N>': 0 is not in 1..=64\n\nFor more information, try '--help'.\n",
+    ),
+    (
+        &["dthreads", "run", "a", "--workers", "65"],
+        "error: invalid value '65' for '--workers <N>': 65 is not in 1..=64\n\nFor more information, try '--help'.\n",
+    ),
+    (
+        &["dthreads", "run", "a", "--bound", "0"],
+        "error: invalid value '0' for '--bound <N>': 0 is not in 1..=1099511627776\n\nFor more information, try '--help'.\n",
+    ),
+    (
+        &["dthreads", "run", "a", "--bound", "1099511627777"],
+        "error: invalid value '1099511627777' for '--bound <N>': 1099511627777 is not in 1..=1099511627776\n\nFor more information, try '--help'.\n",
+    ),
+    (
+        &["dthreads", "run", "a", "--quantum", "0"],
+        "error: invalid value '0' for '--quantum <N>': 0 is not in 1..=1099511627776\n\nFor more information, try '--help'.\n",
+    ),
+    (
+        &["dthreads", "run", "a", "--workers", "2", "--workers", "2"],
+        "error: the argument '--workers <N>' cannot be used multiple times\n\nUsage: dthreads run [OPTIONS] <FILE>\n\nFor more information, try '--help'.\n",
+    ),
+    (
+        &["dthreads", "disasm", "a", "--workers", "2"],
+        "error: unexpected argument '--workers' found\n\n  tip: to pass '--workers' as a value, use '-- --workers'\n\nUsage: dthreads disasm <FILE>\n\nFor more information, try '--help'.\n",
+    ),
+    (
+        &["dthreads", "replay", "a", "s"],
+        "error: the following required arguments were not provided:\n  --workers <N>\n\nUsage: dthreads replay --workers <N> <FILE> <SCHEDULE>\n\nFor more information, try '--help'.\n",
+    ),
+];
+
 #[test]
 fn wrong_words(rt: HostRuntime) {
-    let rows: [(&[&str], &str); 12] = [
-        (
-            &["dthreads"],
-            "error: 'dthreads' requires a subcommand but one was not provided\n  [subcommands: run, disasm, replay]\n\nUsage: dthreads <COMMAND>\n\nFor more information, try '--help'.\n",
-        ),
-        (
-            &["dthreads", "walk"],
-            "error: unrecognized subcommand 'walk'\n\nUsage: dthreads <COMMAND>\n\nFor more information, try '--help'.\n",
-        ),
-        (
-            &["dthreads", "run"],
-            "error: the following required arguments were not provided:\n  <FILE>\n\nUsage: dthreads run <FILE>\n\nFor more information, try '--help'.\n",
-        ),
-        (
-            &["dthreads", "run", "a", "b"],
-            "error: unexpected argument 'b' found\n\nUsage: dthreads run [OPTIONS] <FILE>\n\nFor more information, try '--help'.\n",
-        ),
-        (
-            &["dthreads", "run", "a", "--workers", "0"],
-            "error: invalid value '0' for '--workers <N>': 0 is not in 1..=64\n\nFor more information, try '--help'.\n",
-        ),
-        (
-            &["dthreads", "run", "a", "--workers", "65"],
-            "error: invalid value '65' for '--workers <N>': 65 is not in 1..=64\n\nFor more information, try '--help'.\n",
-        ),
-        (
-            &["dthreads", "run", "a", "--bound", "0"],
-            "error: invalid value '0' for '--bound <N>': 0 is not in 1..=1099511627776\n\nFor more information, try '--help'.\n",
-        ),
-        (
-            &["dthreads", "run", "a", "--bound", "1099511627777"],
-            "error: invalid value '1099511627777' for '--bound <N>': 1099511627777 is not in 1..=1099511627776\n\nFor more information, try '--help'.\n",
-        ),
-        (
-            &["dthreads", "run", "a", "--quantum", "0"],
-            "error: invalid value '0' for '--quantum <N>': 0 is not in 1..=1099511627776\n\nFor more information, try '--help'.\n",
-        ),
-        (
-            &["dthreads", "run", "a", "--workers", "2", "--workers", "2"],
-            "error: the argument '--workers <N>' cannot be used multiple times\n\nUsage: dthreads run [OPTIONS] <FILE>\n\nFor more information, try '--help'.\n",
-        ),
-        (
-            &["dthreads", "disasm", "a", "--workers", "2"],
-            "error: unexpected argument '--workers' found\n\n  tip: to pass '--workers' as a value, use '-- --workers'\n\nUsage: dthreads disasm <FILE>\n\nFor more information, try '--help'.\n",
-        ),
-        (
-            &["dthreads", "replay", "a", "s"],
-            "error: the following required arguments were not provided:\n  --workers <N>\n\nUsage: dthreads replay --workers <N> <FILE> <SCHEDULE>\n\nFor more information, try '--help'.\n",
-        ),
-    ];
-    for (words, text) in rows {
+    for (words, text) in WRONG_WORDS {
         wordy(&rt, words).assert_is(&rt, 2, b"", text);
     }
 }
 
+/// Further command lines that make no request.
+static MORE_WRONG_WORDS: [&[&str]; 9] = [
+    &["dthreads", "help"],
+    &["dthreads", "run", "a", "--workers", "two"],
+    &["dthreads", "run", "a", "--workers"],
+    &["dthreads", "run", "a", "--quantum", "1099511627777"],
+    &["dthreads", "run", "a", "--fast"],
+    &["dthreads", "replay", "a", "s", "--workers", "65"],
+    &["dthreads", "replay", "a", "--workers", "2"],
+    &[
+        "dthreads",
+        "replay",
+        "a",
+        "s",
+        "--workers",
+        "2",
+        "--trace",
+        "t",
+    ],
+    &["dthreads", "--workers", "2", "run", "a"],
+];
+
 #[test]
 fn more_wrong_words(rt: HostRuntime) {
-    let rows: [&[&str]; 9] = [
-        &["dthreads", "help"],
-        &["dthreads", "run", "a", "--workers", "two"],
-        &["dthreads", "run", "a", "--workers"],
-        &["dthreads", "run", "a", "--quantum", "1099511627777"],
-        &["dthreads", "run", "a", "--fast"],
-        &["dthreads", "replay", "a", "s", "--workers", "65"],
-        &["dthreads", "replay", "a", "--workers", "2"],
-        &[
-            "dthreads",
-            "replay",
-            "a",
-            "s",
-            "--workers",
-            "2",
-            "--trace",
-            "t",
-        ],
-        &["dthreads", "--workers", "2", "run", "a"],
-    ];
-    for words in rows {
+    for words in MORE_WRONG_WORDS {
         let performed = wordy(&rt, words);
         assert_eq!(rt; performed.status, 2, "at {words:?}");
         assert!(rt; performed.stdout.is_empty(), "at {words:?}");
@@ -178,42 +182,42 @@ fn what_cannot_be_read_is_named(rt: HostRuntime) -> Result<(), Fail> {
     Ok(())
 }
 
+/// Outcomes, and the status and the line of each.
+static OUTCOMES: [(RunOutcome, u8, &str); 7] = [
+    (RunOutcome::Exit(7), 7, ""),
+    (RunOutcome::Exit(256), 0, ""),
+    (RunOutcome::Exit(0xffff_ffff), 255, ""),
+    (RunOutcome::Finished(2000), 208, ""),
+    (
+        RunOutcome::Trap {
+            thread: 1,
+            pc: 0x0001_0060,
+            trap: Trap {
+                cause: Cause::Breakpoint,
+                value: 0,
+            },
+        },
+        120,
+        "trap thread=1 pc=00010060 cause=3 value=00000000\n",
+    ),
+    (
+        RunOutcome::Trap {
+            thread: 255,
+            pc: 0xffff_fffc,
+            trap: Trap {
+                cause: Cause::BoundReached,
+                value: 0xdead_beef,
+            },
+        },
+        120,
+        "trap thread=255 pc=fffffffc cause=16 value=deadbeef\n",
+    ),
+    (RunOutcome::Deadlock, 121, "deadlock\n"),
+];
+
 #[test]
 fn outcomes_have_a_status_and_a_line(rt: HostRuntime) {
-    let breakpoint = RunOutcome::Trap {
-        thread: 1,
-        pc: 0x0001_0060,
-        trap: Trap {
-            cause: Cause::Breakpoint,
-            value: 0,
-        },
-    };
-    let bound = RunOutcome::Trap {
-        thread: 255,
-        pc: 0xffff_fffc,
-        trap: Trap {
-            cause: Cause::BoundReached,
-            value: 0xdead_beef,
-        },
-    };
-    let rows = [
-        (RunOutcome::Exit(7), 7, ""),
-        (RunOutcome::Exit(256), 0, ""),
-        (RunOutcome::Exit(0xffff_ffff), 255, ""),
-        (RunOutcome::Finished(2000), 208, ""),
-        (
-            breakpoint,
-            120,
-            "trap thread=1 pc=00010060 cause=3 value=00000000\n",
-        ),
-        (
-            bound,
-            120,
-            "trap thread=255 pc=fffffffc cause=16 value=deadbeef\n",
-        ),
-        (RunOutcome::Deadlock, 121, "deadlock\n"),
-    ];
-    for (outcome, status, line) in rows {
+    for (outcome, status, line) in OUTCOMES {
         let mut stderr = Vec::new(rt.alloc());
         assert_eq!(rt;
             conclude(Ok(outcome), &mut stderr),
@@ -229,39 +233,41 @@ fn outcomes_have_a_status_and_a_line(rt: HostRuntime) {
     }
 }
 
+/// Failures, and the status and the line of each.
+static FAILURES: [(Failure<'static>, u8, &str); 8] = [
+    (
+        Failure::ElfRefused(ElfFault::BadEntry),
+        123,
+        "elf refused: 20 BadEntry\n",
+    ),
+    (Failure::InputTooLarge, 124, "input too large\n"),
+    (
+        Failure::CannotRead(Place::Path("a b")),
+        124,
+        "cannot read a b\n",
+    ),
+    (
+        Failure::CannotRead(Place::StandardInput),
+        124,
+        "cannot read standard input\n",
+    ),
+    (
+        Failure::CannotWrite(Place::Path("t")),
+        124,
+        "cannot write t\n",
+    ),
+    (
+        Failure::CannotWrite(Place::StandardOutput),
+        124,
+        "cannot write standard output\n",
+    ),
+    (Failure::OutOfMemory, 125, "out of memory\n"),
+    (Failure::NotYet, 126, "not yet\n"),
+];
+
 #[test]
 fn failures_have_a_status_and_a_line(rt: HostRuntime) {
-    let rows = [
-        (
-            Failure::ElfRefused(ElfFault::BadEntry),
-            123,
-            "elf refused: 20 BadEntry\n",
-        ),
-        (Failure::InputTooLarge, 124, "input too large\n"),
-        (
-            Failure::CannotRead(Place::Path("a b")),
-            124,
-            "cannot read a b\n",
-        ),
-        (
-            Failure::CannotRead(Place::StandardInput),
-            124,
-            "cannot read standard input\n",
-        ),
-        (
-            Failure::CannotWrite(Place::Path("t")),
-            124,
-            "cannot write t\n",
-        ),
-        (
-            Failure::CannotWrite(Place::StandardOutput),
-            124,
-            "cannot write standard output\n",
-        ),
-        (Failure::OutOfMemory, 125, "out of memory\n"),
-        (Failure::NotYet, 126, "not yet\n"),
-    ];
-    for (failure, status, line) in rows {
+    for (failure, status, line) in FAILURES {
         let mut stderr = Vec::new(rt.alloc());
         assert_eq!(rt;
             conclude(Err(failure), &mut stderr),
