@@ -34,6 +34,8 @@ mod runs;
 #[cfg(test)]
 mod segments;
 #[cfg(test)]
+mod sinks;
+#[cfg(test)]
 mod snapshots;
 #[cfg(test)]
 mod texts;

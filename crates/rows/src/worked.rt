@@ -19,7 +19,7 @@ pub const PRELUDE: &[u32] = &[
 ];
 
 /// Writes a quotient and a remainder.
-const PRODUCTS: &[u32] = &[
+pub const PRODUCTS: &[u32] = &[
     0x800002B7, 0xFFF00313, 0x0262C3B3, 0x0202EE33, 0x00712023, 0x01C12223, 0x00010513, 0x00800593,
     0x00B00893, 0x00000073, 0x00100893, 0x00000073,
 ];
