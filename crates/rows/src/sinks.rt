@@ -1,5 +1,7 @@
 //! The output of runs as sinks take it: when, in which pieces, and what is answered where one fails.
 
+ghost use Rattle.std.specs.Prelude.{◌≡◌};
+
 use crate::fixtures::elf_of;
 use crate::worked::PRODUCTS;
 use runtime::{Config, Gate, MAX_BOUND, OpenGate, RunFault, RunOutcome, Sink, SinkFault, run_into};
@@ -37,7 +39,9 @@ struct Pieces {
 }
 
 impl Pieces {
-    fn new(most: usize, fails_at: u64) -> Self {
+    fn new(most: usize, fails_at: u64) -> Self
+        ensures { result.failures ≡ 0 }
+    {
         Pieces {
             most,
             fails_at,
