@@ -6,7 +6,7 @@ use Rattle.disassembler.specs.Listings.{listing_of}
 use Rattle.elf32_reader.specs.Segments.{image_of}
 use Rattle.elf32_reader.specs.Refusals.{first_refusal}
 use Rattle.elf32_reader.specs.declared.file_header.TheConstants.{FILE_LIMIT}
-use Rattle.runtime.specs.Run.{Answers}
+use Rattle.runtime.specs.Run.{Answers, IsAccepted, IsRunnable}
 use Rattle.runtime.specs.declared.config.Config.{Config}
 use Rattle.runtime.specs.declared.limits.TheConstants.{MAX_INPUT}
 use Rattle.runtime.specs.declared.report.Report.{Report}
@@ -25,13 +25,14 @@ use Rattle.command.specs.declared.request.Request.TheVariants.{Run, Disasm, Repl
 abbrev pub AreRead : ℕ → Option (List ℕ) → List ℕ → Type 0
 AreRead limit known bytes = IfSome known (λ all. bytes ≡ take (limit + 1) all)
 
--- Why the run of a file's bytes and an input gives no report. Standard output can fail in any run that isn't refused.
+-- Why the run of a file's bytes and an input gives no report. Standard output can fail where nothing refuses the run, and memory can be
+-- wanting once the configuration and the input are in order.
 abbrev pub IsRefused : List ℕ → List ℕ → Config → Failure → Type 0
 IsRefused elf input config OutsideRange = Answers elf input config (Err run.BadConfig)
 IsRefused elf input config InputTooLarge = Answers elf input config (Err run.InputTooLarge)
 IsRefused elf input config (ElfRefused fault) = Answers elf input config (Err (run.Elf fault))
-IsRefused elf input config (CannotWrite place) = place ≡ StandardOutput
-IsRefused elf input config OutOfMemory = Unit {0}
+IsRefused elf input config (CannotWrite place) = (place ≡ StandardOutput) × IsAccepted elf input config
+IsRefused elf input config OutOfMemory = IsRunnable input config
 IsRefused elf input config (CannotRead place) = ⊥
 IsRefused elf input config NotYet = ⊥
 IsRefused elf input config NotText = ⊥
