@@ -15,7 +15,7 @@ use twins::View;
 /// The bytes of thread 0's stack, which the loads and stores go through.
 const SPAN: u32 = 64 * PAGE_SIZE;
 
-/// Loads words, each a stride behind the last, and answers their sum.
+/// Loads words, each a stride after the last, and answers their sum.
 #[inline(never)]
 fn load_words<M: GuestMemory>(memory: &M, stride: u32, count: u64) -> u32 {
     let mut sum: u32 = 0;
@@ -29,7 +29,7 @@ fn load_words<M: GuestMemory>(memory: &M, stride: u32, count: u64) -> u32 {
     sum
 }
 
-/// Stores words, each a stride behind the last, and answers how many.
+/// Stores words, each a stride after the last, and answers how many.
 #[inline(never)]
 fn store_words<M: GuestMemory>(memory: &mut M, stride: u32, count: u64) -> u32 {
     let mut sum: u32 = 0;

@@ -143,7 +143,7 @@ fn least_times<R: Clock>(rt: &R, serial: &mut Serial, count: u64) -> Result<(u12
     Ok((turn, segment))
 }
 
-/// Prints what turns take: where they change nothing and some pages, behind few and many turns, where few
+/// Prints what turns take: where they change nothing and some pages, after few and many turns, where few
 /// and many pages are mapped, and with few and many threads.
 pub fn measure_turns<R: Clock + Print>(
     rt: &R,
@@ -160,7 +160,7 @@ pub fn measure_turns<R: Clock + Print>(
         let rest = turn.saturating_sub(segment);
         let rate = 1_000_000_000_000 / turn.max(1);
         println!(rt;
-            "{} pages mapped, {threads} threads, {} pages changed, behind {} turns: {turn} ps with the segment, {segment} ps the segment, {rest} ps the rest, {rate} turns a second",
+            "{} pages mapped, {threads} threads, {} pages changed, after {} turns: {turn} ps with the segment, {segment} ps the segment, {rest} ps the rest, {rate} turns a second",
             load.pages, load.changed_pages, load.turns_before
         )?;
     }

@@ -25,8 +25,8 @@ use Rattle.command.specs.declared.request.Request.TheVariants.{Run, Disasm, Repl
 abbrev pub AreRead : ℕ → Option (List ℕ) → List ℕ → Type 0
 AreRead limit known bytes = IfSome known (λ all. bytes ≡ take (limit + 1) all)
 
--- Why the run of a file's bytes and an input gives no report. Standard output can fail where nothing refuses the run, and memory can be
--- wanting once the configuration and the input are in order.
+-- Why the run of a file's bytes and an input gives no report. Standard output can fail where nothing refuses the run, and memory can run
+-- out once the configuration and the input are in order.
 abbrev pub IsRefused : List ℕ → List ℕ → Config → Failure → Type 0
 IsRefused elf input config OutsideRange = Answers elf input config (Err run.BadConfig)
 IsRefused elf input config InputTooLarge = Answers elf input config (Err run.InputTooLarge)
@@ -53,7 +53,7 @@ abbrev pub AreRun : Option (List ℕ) → Option (List ℕ) → (List ℕ → Li
 AreRun content input Is =
     (elf : List ℕ) × (given : List ℕ) × AreRead FILE_LIMIT content elf × AreRead MAX_INPUT input given × Is elf given
 
--- The run of the bytes of the file and of the input gives this report, and all of its output was put behind what standard output held.
+-- The run of the bytes of the file and of the input gives this report, and all of its output was put after what standard output held.
 abbrev pub RunsFile : Option (List ℕ) → Option (List ℕ) → Config → Report → Option (List ℕ) → Option (List ℕ) → Type 0
 RunsFile content input config report old new =
     AreRun content input (λ elf given. Answers elf given config (Ok report)) × Appends old new report.output.items
@@ -98,7 +98,7 @@ NamesNoRecord (Run file config records) = IsNone records.trace × IsNone records
 NamesNoRecord (Disasm file) = Unit {0}
 NamesNoRecord (Replay file schedule config) = Unit {0}
 
--- The listing of the file at a path was put behind what standard output held before.
+-- The listing of the file at a path was put after what standard output held before.
 abbrev pub Prints : Option (List ℕ) → Option (List ℕ) → Option (List ℕ) → Type 0
 Prints content old new =
     (elf : List ℕ) × AreRead FILE_LIMIT content elf × (first_refusal elf ≡ None) × Appends old new (listing_of (image_of elf))

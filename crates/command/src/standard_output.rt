@@ -49,7 +49,7 @@ impl<W: Write> StandardOutput<W> {
         }
     }
 
-    /// Writes a beginning of these bytes, flushes it and answers its length, at least 1 where there are any
+    /// Writes a prefix of these bytes, flushes it and answers its length, at least 1 where there are any
     /// bytes. A write that a signal interrupts is made again.
     fn write_piece(&mut self, bytes: &[u8]) -> Result<usize, SinkFault>
         ensures within { WritesAtMost result bytes.now }
@@ -66,7 +66,7 @@ impl<W: Write> StandardOutput<W> {
     }
 }
 
-/// Writes a beginning of these bytes and answers its length, which isn't 0. A write that a signal interrupts is
+/// Writes a prefix of these bytes and answers its length, which isn't 0. A write that a signal interrupts is
 /// made again.
 fn write_some<W: Write>(writer: &mut W, bytes: &[u8]) -> Result<usize, SinkFault>
     ensures within { WritesAtMost result bytes.now }

@@ -109,16 +109,16 @@ pub merged_below-more : (now copy mine : List ℕ) (done more : ℕ) → done + 
     let part = merged_below done now copy mine in
     put_chunk done part (merged_bytes (chunk done more part) (chunk done more copy) (chunk done more mine)) ≡ merged_below (done + more) now copy mine
 merged_below-more now copy mine done more within sizes sizes' =
-    let front = merged_bytes (take done now) (take done copy) (take done mine) in
-    let long : length front ≡ done = length-merged_bytes (take done now) (take done copy) (take done mine) ∙ length-take-le done now (omega arith) in
-    let head : take done (front ++ drop done now) ≡ front = take_at front (drop done now) done long in
-    let tail : drop done (front ++ drop done now) ≡ drop done now = drop_at front (drop done now) done long in
+    let prefix = merged_bytes (take done now) (take done copy) (take done mine) in
+    let long : length prefix ≡ done = length-merged_bytes (take done now) (take done copy) (take done mine) ∙ length-take-le done now (omega arith) in
+    let head : take done (prefix ++ drop done now) ≡ prefix = take_at prefix (drop done now) done long in
+    let tail : drop done (prefix ++ drop done now) ≡ drop done now = drop_at prefix (drop done now) done long in
     let new = merged_bytes (chunk done more now) (chunk done more copy) (chunk done more mine) in
     let block : length new ≡ more = length-merged_bytes (chunk done more now) (chunk done more copy) (chunk done more mine) ∙ length-chunk done more now within in
-    let all : length (front ++ drop done now) ≡ length now = omega (arith, length-append front (drop done now), length-drop done now, long) in
-    let put : put_chunk done (front ++ drop done now) new ≡ take done (front ++ drop done now) ++ (new ++ drop (length new) (drop done (front ++ drop done now))) =
-    put_chunk_is done (front ++ drop done now) new (omega arith) in
-    let joined : merged_bytes (take done now ++ chunk done more now) (take done copy ++ chunk done more copy) (take done mine ++ chunk done more mine) ≡ front ++ new =
+    let all : length (prefix ++ drop done now) ≡ length now = omega (arith, length-append prefix (drop done now), length-drop done now, long) in
+    let put : put_chunk done (prefix ++ drop done now) new ≡ take done (prefix ++ drop done now) ++ (new ++ drop (length new) (drop done (prefix ++ drop done now))) =
+    put_chunk_is done (prefix ++ drop done now) new (omega arith) in
+    let joined : merged_bytes (take done now ++ chunk done more now) (take done copy ++ chunk done more copy) (take done mine ++ chunk done more mine) ≡ prefix ++ new =
     merged_bytes-append (take done now) (chunk done more now) (take done copy) (chunk done more copy) (take done mine) (chunk done more mine)
     (length-take-le done copy (omega arith) ∙ sym (length-take-le done now (omega arith)))
     (length-take-le done mine (omega arith) ∙ sym (length-take-le done now (omega arith))) in
@@ -163,7 +163,7 @@ differing_from-more first done more copy mine within within' =
     let size : length (take done copy) ≡ done = length-take-le done copy within in
     rw (take-add done more copy, take-add done more mine)
     (differing_from-append first (take done copy) (chunk done more copy) (take done mine) (chunk done more mine) (size ∙ sym (length-take-le done mine within'))
-    ∙ ap (λ (behind : ℕ). differing_from first (take done copy) (take done mine) ++ differing_from (first + behind) (chunk done more copy) (chunk done more mine)) size)
+    ∙ ap (λ (after : ℕ). differing_from first (take done copy) (take done mine) ++ differing_from (first + after) (chunk done more copy) (chunk done more mine)) size)
 
 chunk-one : (bytes : List ℕ) (at lane : ℕ) → at + lane < length bytes → chunk lane 1 (drop at bytes) ≡ slice_index bytes (at + lane) ∷ []
 chunk-one bytes at lane inside = rw (drop-drop lane at bytes, drop-cons bytes (at + lane) 0) refl

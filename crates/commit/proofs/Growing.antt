@@ -26,9 +26,9 @@ increasing-apart numbers ascending place (suc later) before inside =
     ]
 
 -- the pages ahead of one have lower numbers
-pub AreBelow-front : (patch : List PageChange) → IsStrictlyIncreasing (numbers_of patch) → (place : ℕ) → place < length patch →
+pub AreBelow-prefix : (patch : List PageChange) → IsStrictlyIncreasing (numbers_of patch) → (place : ℕ) → place < length patch →
     AreBelow (take place patch) (slice_index (numbers_of patch) place)
-AreBelow-front patch ascending place inside earlier within =
+AreBelow-prefix patch ascending place inside earlier within =
     let size : length (take place patch) ≡ place = length-take-le place patch (omega arith) in
     let all : length (numbers_of patch) ≡ length patch = length-map patch (λ change. change.number) in
     let kept : slice_index (numbers_of (take place patch)) earlier ≡ slice_index (numbers_of patch) earlier =
@@ -39,7 +39,7 @@ pub AreBelow-item : (patch : List PageChange) (place : ℕ) (change : PageChange
     change ≡ slice_index_or patch place change → AreBelow (take place patch) change.number
 AreBelow-item patch place change ascending inside is =
     let number : slice_index (numbers_of patch) place ≡ change.number = get_or-map (λ one. one.number) patch place change 0 inside ∙ ap (λ one. one.number) (sym is) in
-    rw (← number) (AreBelow-front patch ascending place inside)
+    rw (← number) (AreBelow-prefix patch ascending place inside)
 
 module _ (patch : List PageChange) (change : PageChange) where
   -- the numbers with one page more

@@ -58,12 +58,12 @@ passing-parts : (test : ℕ → Bool) (first page rest : ℕ) →
 passing-parts test first page rest = let e : 0 + first ≡ first = omega arith in rw (passing-append test 0 first (page + rest), e, passing-append test first page rest) refl
 
 module _ (patch : List PageChange) (change : PageChange) (below : AreBelow patch change.number) where
-  -- whether the patch has a byte at an address that isn't one of the page's, and at one behind the page's first
+  -- whether the patch has a byte at an address that isn't one of the page's, and at one after the page's first
   same-elsewhere : (address : ℕ) → change.number ≢ page_of address → is_patched (patch ++ change ∷ []) address ≡ is_patched patch address
   same-elsewhere address other = ap is_some (patched-elsewhere patch change address other)
 
-  none-behind : (address : ℕ) → change.number ≤ page_of address → is_patched patch address ≡ false
-  none-behind address behind = ap is_some (patched-past patch change.number address below behind)
+  none-after : (address : ℕ) → change.number ≤ page_of address → is_patched patch address ≡ false
+  none-after address after = ap is_some (patched-past patch change.number address below after)
 
   parts-new : (rest : ℕ) →
       passing (is_patched (patch ++ change ∷ [])) 0 (4096 * change.number + (4096 + rest)) ≡ passing (is_patched patch) 0 (4096 * change.number) ++ addresses_with_byte change
@@ -73,17 +73,17 @@ module _ (patch : List PageChange) (change : PageChange) (below : AreBelow patch
       passing-same new (is_patched patch) 0 (4096 * change.number) (λ address above less. same-elsewhere address (λ e. absurd (omega arith))) in
       let here : passing new (4096 * change.number) 4096 ≡ addresses_with_byte change =
       passing-same new (has_byte change) (4096 * change.number) 4096 (λ address above less. ap is_some (patched-here patch change address below (omega arith))) in
-      let behind : passing new (4096 * change.number + 4096) rest ≡ [] =
-      passing-none new (4096 * change.number + 4096) rest (λ address above less. same-elsewhere address (λ e. absurd (omega arith)) ∙ none-behind address (omega arith)) in
-      rw (passing-parts new (4096 * change.number) 4096 rest, before, here, behind, append-nil (addresses_with_byte change)) refl
+      let after : passing new (4096 * change.number + 4096) rest ≡ [] =
+      passing-none new (4096 * change.number + 4096) rest (λ address above less. same-elsewhere address (λ e. absurd (omega arith)) ∙ none-after address (omega arith)) in
+      rw (passing-parts new (4096 * change.number) 4096 rest, before, here, after, append-nil (addresses_with_byte change)) refl
 
   parts-old : (rest : ℕ) → passing (is_patched patch) 0 (4096 * change.number + (4096 + rest)) ≡ passing (is_patched patch) 0 (4096 * change.number)
   parts-old rest =
       let here : passing (is_patched patch) (4096 * change.number) 4096 ≡ [] =
-      passing-none (is_patched patch) (4096 * change.number) 4096 (λ address above less. none-behind address (omega arith)) in
-      let behind : passing (is_patched patch) (4096 * change.number + 4096) rest ≡ [] =
-      passing-none (is_patched patch) (4096 * change.number + 4096) rest (λ address above less. none-behind address (omega arith)) in
-      rw (passing-parts (is_patched patch) (4096 * change.number) 4096 rest, here, behind) (append-nil _)
+      passing-none (is_patched patch) (4096 * change.number) 4096 (λ address above less. none-after address (omega arith)) in
+      let after : passing (is_patched patch) (4096 * change.number + 4096) rest ≡ [] =
+      passing-none (is_patched patch) (4096 * change.number + 4096) rest (λ address above less. none-after address (omega arith)) in
+      rw (passing-parts (is_patched patch) (4096 * change.number) 4096 rest, here, after) (append-nil _)
 
   -- the addresses of a patch with one page more
   parts-all : (rest total : ℕ) → 4096 * change.number + (4096 + rest) ≡ total →

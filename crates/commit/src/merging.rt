@@ -8,7 +8,7 @@ use paged_memory::Snapshot;
 use std::alloc::AllocError;
 
 /// Merges a patch into a snapshot: each byte of the patch that the snapshot maps becomes the patch's, and all
-/// else stays. It looks at the pages of the patch alone. Nothing changes where memory is wanting.
+/// else stays. It looks at the pages of the patch alone. Nothing changes when memory runs out.
 pub fn apply(snapshot: &mut Snapshot, patch: &Patch) -> Result<(), AllocError>
     ensures merged { OnOk result (cells_of snapshot.new ≡ with_changes (patched patch.now) (cells_of snapshot.old)) }
     ensures kept { OnErr result (snapshot.new ≡ snapshot.old) }

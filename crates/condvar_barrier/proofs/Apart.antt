@@ -8,7 +8,7 @@ use Rattle.std.proofs.lemmas.Bool.Decides.{nat_tests}
 use Rattle.std.proofs.lemmas.Map.Keys.{IsDistinct-cons}
 use Rattle.std.proofs.lemmas.Map.Steps.{length-le_from_distinct_below}
 use Rattle.std.proofs.lemmas.List.Folds.{list_any-append}
-use Rattle.calls.specs.declared.limits.TheConstants.{THREADS}
+use Rattle.abi.specs.declared.limits.TheConstants.{THREADS}
 use Rattle.condvar_barrier.specs.Objects.{is_among}
 use Rattle.condvar_barrier.specs.Sound.{AreApart}
 use Rattle.condvar_barrier.specs.declared.waiter.Waiter.{Waiter}

@@ -43,7 +43,7 @@ module _ {Y : Type 0} (found : Waiter → Option Y) (thread_of : Y → ℕ) (sam
       one None e = rw (is_found-none waiter.thread waiters apart) refl
       one (Some y) e = rw (same waiter y e, equal waiter.thread) refl
 
-  -- another thread is found behind it just where it is found
+  -- another thread is found after it just where it is found
   is_found-other : (thread : ℕ) (waiter : Waiter) (waiters : List Waiter) → (thread == waiter.thread) ≡ false → is_found thread waiters ≡ is_found thread (waiter ∷ waiters)
   is_found-other thread waiter waiters differs = one (found waiter) refl
     where

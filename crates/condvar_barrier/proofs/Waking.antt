@@ -4,9 +4,9 @@ use Rattle.std.specs.Prelude.{filter, ◌==◌, nat_le, nat_lt, is_none}
 use Rattle.std.proofs.lemmas.Bool.Decides.{nat_tests}
 use Rattle.std.proofs.lemmas.List.{map-id}
 use Rattle.std.proofs.lemmas.List.Elements.{filter_agree}
-use Rattle.calls.specs.declared.code.Code.TheVariants.{Done}
-use Rattle.calls.specs.declared.limits.TheConstants.{OBJECTS, BARRIER_COUNT}
-use Rattle.calls.specs.declared.reply.Reply.TheVariants.{Completed}
+use Rattle.abi.specs.declared.code.Code.TheVariants.{Done}
+use Rattle.abi.specs.declared.limits.TheConstants.{OBJECTS, BARRIER_COUNT}
+use Rattle.abi.specs.declared.reply.Reply.TheVariants.{Completed}
 use Rattle.condvar_barrier.specs.Objects.{ObjectState, queue, queued_at, arrivals, arrived_at, counts_differ, holds, without}
 use Rattle.condvar_barrier.specs.Rows.{woke, let_pass, signal, broadcast, barrier}
 use Rattle.condvar_barrier.specs.Sound.{AreApart}

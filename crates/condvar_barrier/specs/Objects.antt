@@ -1,7 +1,7 @@
 -- The mutexes, condition variables and barriers of a run.
 use Rattle.std.specs.Prelude.{ℕ, Bool, false, not, ◌&&◌, ◌==◌, if◌then◌else◌, Option, Some, None, List, [], ◌∷◌, ◌++◌, replicate, slice_index_or, slice_set, filter}
 use Rattle.std.specs.List.{list_any, filter_map}
-use Rattle.calls.specs.declared.limits.TheConstants.{OBJECTS}
+use Rattle.abi.specs.declared.limits.TheConstants.{OBJECTS}
 use Rattle.condvar_barrier.specs.declared.place.Place.{Place}
 use Rattle.condvar_barrier.specs.declared.place.Place.TheVariants.{Condition, Barrier}
 use Rattle.condvar_barrier.specs.declared.waiter.Waiter.{Waiter}

@@ -1,10 +1,10 @@
 -- What each call of the objects comes to: the rows of the call table.
 use Rattle.std.specs.Prelude.{ℕ, ◌+◌, not, ◌||◌, ◌==◌, nat_le, nat_lt, if◌then◌else◌, Option, Some, None, List, [], map, length, take}
-use Rattle.calls.specs.declared.code.Code.{Code}
-use Rattle.calls.specs.declared.code.Code.TheVariants.{Done, BadArgument, NotHolder, HoldsLock, AlreadyHeld, CountDiffers}
-use Rattle.calls.specs.declared.limits.TheConstants.{OBJECTS, BARRIER_COUNT}
-use Rattle.calls.specs.declared.reply.Reply.{Reply}
-use Rattle.calls.specs.declared.reply.Reply.TheVariants.{Completed, Waits}
+use Rattle.abi.specs.declared.code.Code.{Code}
+use Rattle.abi.specs.declared.code.Code.TheVariants.{Done, BadArgument, NotHolder, HoldsLock, AlreadyHeld, CountDiffers}
+use Rattle.abi.specs.declared.limits.TheConstants.{OBJECTS, BARRIER_COUNT}
+use Rattle.abi.specs.declared.reply.Reply.{Reply}
+use Rattle.abi.specs.declared.reply.Reply.TheVariants.{Completed, Waits}
 use Rattle.condvar_barrier.specs.Objects.{ObjectState, is_held_by, holds, holds_mutex, with_holder, queue, arrivals, counts_differ, with_waiter, without}
 use Rattle.condvar_barrier.specs.declared.place.Place.TheVariants.{Condition, Barrier}
 use Rattle.condvar_barrier.specs.declared.woken.Woken.{Woken}

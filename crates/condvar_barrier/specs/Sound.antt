@@ -1,7 +1,7 @@
 -- What holds of the threads that wait.
 use Rattle.std.specs.Prelude.{◌≡◌, ◌<◌, false, List, [], ◌∷◌}
 use Rattle.condvar_barrier.specs.Objects.{is_among}
-use Rattle.calls.specs.declared.limits.TheConstants.{THREADS}
+use Rattle.abi.specs.declared.limits.TheConstants.{THREADS}
 use Rattle.condvar_barrier.specs.declared.waiter.Waiter.{Waiter}
 
 -- each is a thread that can be, and none waits twice

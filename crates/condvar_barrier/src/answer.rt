@@ -1,4 +1,4 @@
-use calls::Reply;
+use abi::Reply;
 
 /// What a call comes to that can let other threads go.
 #[derive(Debug, Drop)]

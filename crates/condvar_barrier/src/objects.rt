@@ -8,8 +8,8 @@ use crate::place::Place;
 use crate::waiter::Waiter;
 use crate::woken::Woken;
 use arrayvec::ArrayVec;
-use calls::limits::{BARRIER_COUNT, OBJECTS, THREADS};
-use calls::{Code, Reply};
+use abi::limits::{BARRIER_COUNT, OBJECTS, THREADS};
+use abi::{Code, Reply};
 use std::marker::Model;
 
 /// How many mutexes there are.
@@ -169,7 +169,7 @@ impl Objects {
         done(None)
     }
 
-    /// Gives a mutex back and waits at a condition variable, behind those who wait there.
+    /// Gives a mutex back and waits at a condition variable, after those who wait there.
     ///
     /// BadArgument: no condition variable or no mutex has this number. NotHolder: the caller doesn't hold the
     /// mutex. HoldsLock: it holds another one too.
@@ -315,7 +315,7 @@ impl Objects {
         is_held_by(self.holders[mutex as usize], thread)
     }
 
-    /// Lets a thread wait, behind all who do.
+    /// Lets a thread wait, after all who do.
     #[tactic(auto, unfolding(crate::specs::Objects::with_waiter, crate::specs::Objects::is_waiting))]
     fn let_wait(&mut self, thread: u32, place: Place)
         requires number { thread < THREADS }

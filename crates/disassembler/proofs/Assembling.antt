@@ -6,7 +6,7 @@ use Rattle.decoder.specs.Forms.{i_immediate, s_immediate, b_immediate, u_immedia
 use Rattle.decoder.specs.Decoding.{entry}
 use Rattle.hexadecimal.specs.Digits.{hexadecimal}
 use Rattle.disassembler.specs.Operands.{register_text, signed_text}
-use Rattle.disassembler.proofs.Separators.{before, behind, two, three, two-joined, three-joined}
+use Rattle.disassembler.proofs.Separators.{before, after, two, three, two-joined, three-joined}
 use Rattle.disassembler.proofs.Numerals.{register_read, signed_read, hexadecimal_read, of_indirect, decimal_lacks, decimal_back, register_lacks, register_back, signed_back, indirect_back, hexadecimal_back}
 use Rattle.disassembler.proofs.Words.{placed, i_word, s_word, b_word, u_word, j_word, fence_word, offset_to, placed-bits, i_word-bits, s_word-bits, b_word-bits, u_word-bits, j_word-bits, fence_word-bits, offset_back, i_immediate-lt, s_immediate-lt, b_immediate-lt, j_immediate-lt, upper-lt, register-lt, field-lt}
 
@@ -104,7 +104,7 @@ read_by (Some reader) address text = reader address text
 
 -- the word whose text at an address this is
 abbrev pub assembled : (address : ℕ) → List ℕ → ℕ
-assembled address text = read_by (entry readers (key (before 32 text))) address (behind 32 text)
+assembled address text = read_by (entry readers (key (before 32 text))) address (after 32 text)
 
 -- Each form gives the word back.
 pub registers_back : {funct7 funct3 : ℕ} (w : ℕ) → w < 2 ^ 32 → bits w 0 7 ≡ 0b0110011 → bits w 25 7 ≡ funct7 → bits w 12 3 ≡ funct3 → registers_read funct7 funct3 (register_text (bits w 7 5) ++ 44 ∷ (register_text (bits w 15 5) ++ 44 ∷ (register_text (bits w 20 5) ++ []))) ≡ w

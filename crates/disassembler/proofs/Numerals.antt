@@ -12,7 +12,7 @@ use Rattle.std.proofs.lemmas.Nat.{div_below}
 use Rattle.std.proofs.Math.Nat.{pow-suc}
 use Rattle.hexadecimal.specs.Digits.{hexadecimal}
 use Rattle.disassembler.specs.Operands.{register_text, signed_text}
-use Rattle.disassembler.proofs.Separators.{Lacks, before, behind, before-append, behind-append}
+use Rattle.disassembler.proofs.Separators.{Lacks, before, after, before-append, after-append}
 
 -- a text without its first byte
 abbrev pub tail : List ℕ → List ℕ
@@ -80,7 +80,7 @@ signed_lacks separator word low small = signed_decimal_lacks (nat_lt word (2 ^ 3
 
 -- an offset and a register, as -8(x6)
 abbrev pub of_indirect : (ℕ → ℕ → ℕ) → List ℕ → ℕ
-of_indirect make text = make (signed_read (before 40 text)) (register_read (before 41 (behind 40 text)))
+of_indirect make text = make (signed_read (before 40 text)) (register_read (before 41 (after 40 text)))
 
 pub indirect_back : (make : ℕ → ℕ → ℕ) (offset base : ℕ) → offset < 2 ^ 32 → base < 2 ^ 64 → of_indirect make (signed_text offset ++ codes "(" ++ register_text base ++ codes ")") ≡ make offset base
 indirect_back make offset base small few =
@@ -88,9 +88,9 @@ indirect_back make offset base small few =
     let joined : signed_text offset ++ codes "(" ++ register_text base ++ codes ")" ≡ signed_text offset ++ 40 ∷ rest = append_assoc (signed_text offset ++ codes "(") (register_text base) (codes ")") ∙ append_assoc (signed_text offset) (codes "(") rest in
     let lacks = signed_lacks 40 offset (omega arith) small in
     let first : before 40 (signed_text offset ++ 40 ∷ rest) ≡ signed_text offset = before-append 40 (signed_text offset) rest lacks in
-    let second : behind 40 (signed_text offset ++ 40 ∷ rest) ≡ rest = behind-append 40 (signed_text offset) rest lacks in
+    let second : after 40 (signed_text offset ++ 40 ∷ rest) ≡ rest = after-append 40 (signed_text offset) rest lacks in
     let inner : before 41 rest ≡ register_text base = before-append 41 (register_text base) [] (register_lacks 41 base (omega arith) few) in
-    ap (of_indirect make) joined ∙ ap (λ (t : List ℕ). make (signed_read t) (register_read (before 41 (behind 40 (signed_text offset ++ 40 ∷ rest))))) first
+    ap (of_indirect make) joined ∙ ap (λ (t : List ℕ). make (signed_read t) (register_read (before 41 (after 40 (signed_text offset ++ 40 ∷ rest))))) first
     ∙ ap (λ (t : List ℕ). make (signed_read (signed_text offset)) (register_read (before 41 t))) second
     ∙ ap (λ (t : List ℕ). make (signed_read (signed_text offset)) (register_read t)) inner
     ∙ ap (λ (n : ℕ). make n (register_read (register_text base))) (signed_back offset small)

@@ -15,7 +15,7 @@ abbrev pub word_from : List ℕ → ℕ → ℕ
 word_from bytes index =
     slice_index bytes index + 2 ^ 8 * slice_index bytes (index + 1) + 2 ^ 16 * slice_index bytes (index + 2) + 2 ^ 24 * slice_index bytes (index + 3)
 
--- whether an address is a multiple of 4 and no byte of its word lies behind the segment's file bytes
+-- whether an address is a multiple of 4 and no byte of its word lies after the segment's file bytes
 abbrev pub has_word : LoadSegment → ℕ → Bool
 has_word segment address = (address % 4 == 0) && nat_le (address + 4) (segment.vaddr + length segment.bytes)
 

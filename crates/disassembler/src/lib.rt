@@ -8,7 +8,7 @@
 //! - [`text`] is the text of a word at an address. Distinct words at one address have distinct texts.
 //! - [`listing`] is the listing of a program: a line for each word of its executable segments.
 //!
-//! Both fail only for want of memory.
+//! Both fail only when memory runs out.
 #![tactic(auto)]
 
 mod disassembly;

@@ -37,7 +37,7 @@ fn write_segment(text: &mut String, segment: &Segment) -> Result<(), AllocError>
     Ok(())
 }
 
-/// Whether an address is a multiple of 4 and no byte of its word lies behind the segment's file bytes.
+/// Whether an address is a multiple of 4 and no byte of its word lies after the segment's file bytes.
 fn begins_word(segment: &Segment, address: u32) -> bool
     ensures { result ≡ has_word segment.now address }
 {

@@ -1,7 +1,7 @@
 -- Which call a hart makes at an ecall.
 use Rattle.std.specs.Prelude.{ℕ, ◌==◌, if◌then◌else◌}
-use Rattle.calls.specs.declared.call.Call.{Call}
-use Rattle.calls.specs.declared.call.Call.TheVariants.{Exit, ThreadExit, Create, Join, Lock, Unlock, Wait, Signal, Broadcast, Barrier, Write, Read, Memory, Sync, Release, Unknown}
+use Rattle.abi.specs.declared.call.Call.{Call}
+use Rattle.abi.specs.declared.call.Call.TheVariants.{Exit, ThreadExit, Create, Join, Lock, Unlock, Wait, Signal, Broadcast, Barrier, Write, Read, Memory, Sync, Release, Unknown}
 use Rattle.hart.specs.HartState.{HartState, register}
 
 -- the call of a number, with what the three argument registers hold

@@ -1,11 +1,11 @@
 ghost use Rattle.std.specs.Prelude.{◌≡◌};
 ghost use Rattle.ecalls.specs.Answer.{finished};
 
-use calls::Code;
+use abi::Code;
 use hart::Hart;
 
 /// Completes the call that a hart at an ecall makes: x10 becomes the code's number, x11 the value where
-/// there is one and stays as it is where there is none, and pc goes on behind the ecall, modulo 2^32.
+/// there is one and stays as it is where there is none, and pc goes on after the ecall, modulo 2^32.
 #[tactic(auto, unfolding(crate::specs::Answer::finished))]
 pub fn finish(hart: &mut Hart, code: Code, value: Option<u32>)
     ensures { hart.new ≡ finished hart.old code value }

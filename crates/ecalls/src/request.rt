@@ -1,7 +1,7 @@
 ghost use Rattle.std.specs.Prelude.{◌≡◌};
 ghost use Rattle.ecalls.specs.Request as spec;
 
-use calls::Call;
+use abi::Call;
 use hart::Hart;
 
 /// The call that a hart at an ecall makes: its number stands in x17, its arguments in x10, x11 and x12.

@@ -1,4 +1,4 @@
--- Want of memory is none of the refusals.
+-- Out of memory is none of the refusals.
 use Rattle.std.proofs.Common.{◌≡◌, ℕ, zero, suc, ◌+◌, Bool, true, false, cond, Some, List, [], ◌∷◌, ◌++◌, refl}
 use Rattle.std.proofs.lemmas.Bool.{and_parts, false≢true}
 use Rattle.std.specs.Prelude.{nat_lt}
@@ -34,12 +34,12 @@ all_of_rows file start zero = refl
 all_of_rows file start (suc count) =
     all_of_both (row_refusals file start) (flat_map (row_refusals file) (range_with_len (start + 1) count)) refl (all_of_rows file (start + 1) count)
 
--- a file's first refusal isn't want of memory
+-- a file's first refusal isn't out of memory
 pub memory_apart : (file : List ℕ) → first_refusal file ≡ Some OutOfMemory → ⊥
 unfolding first_refusal table_refusals file_refusals size_refusals ident_refusals header_refusals image_refusals
 memory_apart file first =
     let header = all_of_both (size_refusals file) (ident_refusals file ++ header_refusals file) refl (all_of_both (ident_refusals file) (header_refusals file) refl refl) in
     let table = all_of_rows file 0 (file_header file).e_phnum in
-    let behind = all_of_both (table_refusals file (file_header file).e_phnum) (image_refusals (image_of file)) table refl in
-    let numbered : nat_lt (number_of OutOfMemory) 21 ≡ true = first_numbered (refusals_of file) OutOfMemory (all_of_both (file_refusals file) (table_refusals file (file_header file).e_phnum ++ image_refusals (image_of file)) header behind) first in
+    let after = all_of_both (table_refusals file (file_header file).e_phnum) (image_refusals (image_of file)) table refl in
+    let numbered : nat_lt (number_of OutOfMemory) 21 ≡ true = first_numbered (refusals_of file) OutOfMemory (all_of_both (file_refusals file) (table_refusals file (file_header file).e_phnum ++ image_refusals (image_of file)) header after) first in
     false≢true numbered

@@ -26,7 +26,7 @@ page_count segment = last_page segment + 1 - first_page segment
 abbrev pub covers : ℕ → LoadSegment → Bool
 covers address segment = nat_le (first_page segment) (page_of address) && nat_le (page_of address) (last_page segment)
 
--- what stands at an address of a segment's pages: the file's byte, and zero before the segment and behind its bytes
+-- what stands at an address of a segment's pages: the file's byte, and zero before the segment and after its bytes
 abbrev pub cell_at : ℕ → LoadSegment → Cell
 cell_at address segment =
     record { perm = segment.perm; byte = if nat_le segment.vaddr address then slice_index segment.bytes (address - segment.vaddr) else 0 }

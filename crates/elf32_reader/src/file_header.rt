@@ -107,7 +107,7 @@ fn test_header(file: &[u8], header: &FileHeader) -> Result<(), ElfFault>
 }
 
 impl FileHeader {
-    /// The offset behind the table of program headers.
+    /// The offset after the table of program headers.
     fn table_end(&self) -> usize
         ensures { result ≡ self.now.e_phoff + PROGRAM_HEADER_SIZE * self.now.e_phnum }
     {

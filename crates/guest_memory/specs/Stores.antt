@@ -5,13 +5,13 @@ use Rattle.guest_memory.specs.declared.fault.StoreFault.{StoreFault}
 use Rattle.guest_memory.specs.declared.fault.StoreFault.TheVariants.{Refused, OutOfMemory}
 
 -- What a store answered, the memory before it, what the store makes of it, and the memory after it: they are
--- as wanted, or nothing has changed. Memory is wanting only at a store that is permitted.
+-- as wanted, or nothing has changed. Memory runs out only at a store that is permitted.
 abbrev pub Stores : Result (Unit {0}) StoreFault → Memory → Result Memory AccessFault → Memory → Type 0
 Stores (Ok done) old wanted new = wanted ≡ Ok new
 Stores (Err (Refused fault)) old wanted new = (wanted ≡ Err fault) × (new ≡ old)
 Stores (Err (OutOfMemory error)) old wanted new = IsOk wanted × (new ≡ old)
 
--- whether a store wasn't made for want of memory
+-- whether a store wasn't made because memory ran out
 abbrev pub IsOutOfMemory : Result (Unit {0}) StoreFault → Type 0
 IsOutOfMemory (Ok done) = ⊥
 IsOutOfMemory (Err (Refused fault)) = ⊥

@@ -12,7 +12,7 @@ use crate::stepped::{Stepped, trapped};
 use decoder::{BranchOffset, Register};
 
 impl Hart {
-    /// Sets a register, and goes on behind the instruction.
+    /// Sets a register, and goes on after the instruction.
     #[inline(always)]
     pub(crate) fn put(&mut self, rd: Register, value: u32) -> Stepped
         ensures step { result ≡ Stepped.Next }
@@ -22,7 +22,7 @@ impl Hart {
         self.go_on()
     }
 
-    /// Goes on behind the instruction.
+    /// Goes on after the instruction.
     #[inline(always)]
     pub(crate) fn go_on(&mut self) -> Stepped
         ensures step { result ≡ Stepped.Next }

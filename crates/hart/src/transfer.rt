@@ -3,7 +3,7 @@
 ghost use Rattle.std.specs.Prelude.{◌≡◌, ℕ, ◌%◌, ◌^◌, Result};
 ghost use Rattle.std.specs.Int.{w8, w16};
 ghost use Rattle.guest_memory.specs.Memory.{Memory, loaded, stored};
-ghost use Rattle.guest_memory.specs.Stores.{Stores, IsOutOfMemory as IsWanting};
+ghost use Rattle.guest_memory.specs.Stores.{Stores, IsOutOfMemory as IsRefused};
 ghost use Rattle.guest_memory.specs.declared.fault.AccessFault.{AccessFault as Fault};
 ghost use Rattle.hart.specs.Arithmetic.{sign_extended};
 ghost use Rattle.hart.specs.Next.{loads, stores, viewed};
@@ -37,13 +37,13 @@ impl Hart {
         }
     }
 
-    /// Goes on behind a store, as it answered.
+    /// Goes on after a store, as it answered.
     #[tactic(auto, unfolding(crate::specs::Next::stores))]
     #[inline(always)]
     fn store(&mut self, address: u32, answer: Result<(), StoreFault>) -> Stepped
         ensures steps { (before after : Memory) (wanted : Result Memory Fault) → Stores answer before wanted after
             → Steps result (stores self.old address wanted) self.old before self.new after }
-        ensures grows { IsOutOfMemory result → IsWanting answer }
+        ensures grows { IsOutOfMemory result → IsRefused answer }
     {
         match answer {
             Ok(()) => self.go_on(),

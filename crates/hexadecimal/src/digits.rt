@@ -8,7 +8,7 @@ use std::alloc::AllocError;
 ///
 /// # Errors
 ///
-/// Only want of memory. The text may then have some of the digits.
+/// Only out of memory. The text may then have some of the digits.
 pub fn write_hexadecimal(text: &mut String, count: u32, number: u32) -> Result<(), AllocError>
     requires { count ≤ 8 }
     ensures { OnOk result (string_bytes text.new ≡ string_bytes text.old ++ hexadecimal count number) }

@@ -144,8 +144,8 @@ written-more start count bytes byte x cell size =
         | inr past ↦ elim (cases_lt x (start + count + 1)) [
           | inl last ↦
               (let first : x - (start + count) ≡ 0 = omega arith in
-              let behind : x - start ≡ count = omega arith in
-              rw (is_among-inside (start + count) 1 x past last, is_among-outside start (length bytes) x (λ above. omega arith), is_among-inside start (length (bytes ++ byte ∷ [])) x above (omega arith), first, behind, get_or_push bytes byte 0 count size))
+              let after : x - start ≡ count = omega arith in
+              rw (is_among-inside (start + count) 1 x past last, is_among-outside start (length bytes) x (λ above. omega arith), is_among-inside start (length (bytes ++ byte ∷ [])) x above (omega arith), first, after, get_or_push bytes byte 0 count size))
           | inr beyond ↦
               rw (is_among-outside (start + count) 1 x (λ above. beyond), is_among-outside start (length bytes) x (λ above. omega arith), is_among-outside start (length (bytes ++ byte ∷ [])) x (λ above. omega arith))
         ]

@@ -12,7 +12,7 @@ pub(crate) trait Change: Drop {
     /// What it makes of the page, or of none.
     ghost makes: { Self → Option PageValue → Option PageValue };
 
-    /// Does it. Where memory is wanting the page stays.
+    /// Does it. When memory runs out the page stays.
     fn make(self, page: &mut Option<Arc<Page>>) -> Result<(), AllocError>
         ensures made { OnOk result (option_map arc_value page.new ≡ makes self (option_map arc_value page.old)) }
         ensures kept { OnErr result (option_map arc_value page.new ≡ option_map arc_value page.old) };

@@ -25,7 +25,7 @@ pub trait PageStore: PageMemory {
     ghost takes: { Self → ℕ → Type 0 };
 
     /// Writes a number to an address, whatever the page permits. The address's page is mapped, and it has
-    /// all bytes of the number. Nothing changes where memory is wanting.
+    /// all bytes of the number. Nothing changes when memory runs out.
     fn write(&mut self, address: u32, number: Number) -> Result<(), AllocError>
         requires mapped { IsSome (Self.pages self.old (page_of address)) }
         requires inside { address % 4096 + width_of number ≤ 4096 }

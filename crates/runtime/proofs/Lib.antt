@@ -1,4 +1,4 @@
-pub mod Fronts
+pub mod Prefixes
 pub mod Needs
 pub mod OneReport
 pub mod Sent

@@ -3,7 +3,7 @@ use Rattle.std.proofs.Common.{◌≡◌, ℕ, Option, Some, None, List, [], ◌+
 use Rattle.std.proofs.Math.Seq.{take-append-add}
 use Rattle.std.specs.Io.{StartsWith}
 use Rattle.std.specs.Io.KnownBytes.{Appends}
-use Rattle.runtime.specs.Sending.{AppendsFront}
+use Rattle.runtime.specs.Sending.{AppendsPrefix}
 
 -- no byte more
 pub appends_none : (known : Option (List ℕ)) → Appends known known []
@@ -19,16 +19,16 @@ appends_more (Some before) (Some here) (Some after) bytes more first second =
     let joined : here ++ more ≡ (before ++ bytes) ++ more = ap (λ all. all ++ more) first in
     second ∙ joined ∙ append_assoc before bytes more
 
-starts_more : (before fresh front : List ℕ) → StartsWith fresh front → StartsWith (before ++ fresh) (before ++ front)
-starts_more before fresh front starts =
-    ap (λ (n : ℕ). take n (before ++ fresh)) (length-append before front) ∙ take-append-add before fresh (length front) ∙ ap (λ (rest : List ℕ). before ++ rest) starts
+starts_more : (before fresh prefix : List ℕ) → StartsWith fresh prefix → StartsWith (before ++ fresh) (before ++ prefix)
+starts_more before fresh prefix starts =
+    ap (λ (n : ℕ). take n (before ++ fresh)) (length-append before prefix) ∙ take-append-add before fresh (length prefix) ∙ ap (λ (rest : List ℕ). before ++ rest) starts
 
--- all of an output, and then a beginning of what it is longer by
-pub front_more : (start old new : Option (List ℕ)) (before fresh whole : List ℕ) → whole ≡ before ++ fresh → Appends start old before → AppendsFront fresh old new
-    → AppendsFront whole start new
-front_more start old new before fresh whole is sent front =
-    subst (λ (bytes : List ℕ). AppendsFront bytes start new) (sym is)
-    (before ++ front.0, starts_more before fresh front.0 front.1, appends_more start old new before front.0 sent front.2)
+-- all of an output, and then a prefix of what it is longer by
+pub prefix_more : (start old new : Option (List ℕ)) (before fresh whole : List ℕ) → whole ≡ before ++ fresh → Appends start old before → AppendsPrefix fresh old new
+    → AppendsPrefix whole start new
+prefix_more start old new before fresh whole is sent prefix =
+    subst (λ (bytes : List ℕ). AppendsPrefix bytes start new) (sym is)
+    (before ++ prefix.0, starts_more before fresh prefix.0 prefix.1, appends_more start old new before prefix.0 sent prefix.2)
 
 -- all of an output, and then all of what it is longer by
 pub whole_more : (start old new : Option (List ℕ)) (before fresh whole : List ℕ) → whole ≡ before ++ fresh → Appends start old before → Appends old new fresh

@@ -24,7 +24,7 @@ IsAccepted elf input config = IsRunnable input config × (first_refusal elf ≡ 
 abbrev pub setup_from : List ℕ → List ℕ → Config → Setup
 setup_from elf input config = setup_of (image_of elf) input config.bound config.quantum
 
--- Why there is no report: the configuration is looked at first, then the input, then the file. Want of memory and a failure of the
+-- Why there is no report: the configuration is looked at first, then the input, then the file. Out of memory and a failure of the
 -- sink may come where all are in order.
 abbrev pub Refuses : List ℕ → List ℕ → Config → RunFault → Type 0
 Refuses elf input config BadConfig = is_valid config ≡ false

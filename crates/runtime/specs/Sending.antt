@@ -8,15 +8,15 @@ use Rattle.runtime.specs.declared.report.Report.{Report}
 use Rattle.runtime.specs.declared.run_fault.RunFault.{RunFault}
 use Rattle.runtime.specs.declared.run_fault.RunFault.TheVariants.{Elf, BadConfig, InputTooLarge, OutOfMemory, WriteFailed}
 
--- a beginning of these bytes was taken
-abbrev pub AppendsFront : List ℕ → Option (List ℕ) → Option (List ℕ) → Type 0
-AppendsFront bytes old new = (front : List ℕ) × StartsWith bytes front × Appends old new front
+-- a prefix of these bytes was taken
+abbrev pub AppendsPrefix : List ℕ → Option (List ℕ) → Option (List ℕ) → Type 0
+AppendsPrefix bytes old new = (prefix : List ℕ) × StartsWith bytes prefix × Appends old new prefix
 
--- a beginning of the output of some legal history was taken
+-- a prefix of the output of some legal history was taken
 abbrev pub SendsFront : Setup → Option (List ℕ) → Option (List ℕ) → Type 0
-SendsFront setup old new = (history : History) × IsLegal setup history × AppendsFront (present setup history).output old new
+SendsFront setup old new = (history : History) × IsLegal setup history × AppendsPrefix (present setup history).output old new
 
--- What was taken: all of the output where a report is given, a beginning of the output of some legal history where memory was refused
+-- What was taken: all of the output where a report is given, a prefix of the output of some legal history where memory was refused
 -- or the sink failed, and nothing at any other fault.
 abbrev pub Sends : Setup → Result Report RunFault → Option (List ℕ) → Option (List ℕ) → Type 0
 Sends setup (Ok report) old new = Appends old new report.output.items
@@ -35,11 +35,11 @@ CountsFailures (Err (Elf fault)) old new = new ≡ old
 CountsFailures (Err BadConfig) old new = new ≡ old
 CountsFailures (Err InputTooLarge) old new = new ≡ old
 
--- all of an output was taken, or a beginning of it where memory was refused or the sink failed
+-- all of an output was taken, or a prefix of it where memory was refused or the sink failed
 abbrev pub SendsOutput : {T : Type 0} → Result T RunFault → List ℕ → Option (List ℕ) → Option (List ℕ) → Type 0
 SendsOutput (Ok given) output old new = Appends old new output
-SendsOutput (Err OutOfMemory) output old new = AppendsFront output old new
-SendsOutput (Err WriteFailed) output old new = AppendsFront output old new
+SendsOutput (Err OutOfMemory) output old new = AppendsPrefix output old new
+SendsOutput (Err WriteFailed) output old new = AppendsPrefix output old new
 SendsOutput (Err (Elf fault)) output old new = ⊥
 SendsOutput (Err BadConfig) output old new = ⊥
 SendsOutput (Err InputTooLarge) output old new = ⊥

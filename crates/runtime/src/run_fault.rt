@@ -46,7 +46,7 @@ impl From<AllocError> for RunFault {
 
     ghost from_gives = { λ _ fault. fault ≡ OutOfMemory };
 
-    /// Want of memory.
+    /// Out of memory.
     fn from(_error: AllocError) -> Self {
         RunFault::OutOfMemory
     }

@@ -1,6 +1,6 @@
 ghost use Rattle.std.specs.Prelude.{◌≡◌, ◌+◌, ◌-◌, ◌^◌, ◌<◌, OnOk, OnErr};
 ghost use Rattle.std.specs.Io.KnownBytes.{Appends};
-ghost use Rattle.runtime.specs.Sending.{AppendsFront};
+ghost use Rattle.runtime.specs.Sending.{AppendsPrefix};
 
 use crate::sink::{Sink, SinkFault};
 
@@ -9,7 +9,7 @@ pub(crate) fn send<S: Sink>(bytes: &[u8], sink: &mut S) -> Result<(), SinkFault>
     requires { S.failed sink.old < 2 ^ 64 - 1 }
     ensures sent { OnOk result (Appends (S.taken sink.old) (S.taken sink.new) bytes.now) }
     ensures steady { OnOk result (S.failed sink.new ≡ S.failed sink.old) }
-    ensures front { OnErr result (AppendsFront bytes.now (S.taken sink.old) (S.taken sink.new)) }
+    ensures prefix { OnErr result (AppendsPrefix bytes.now (S.taken sink.old) (S.taken sink.new)) }
     ensures failed { OnErr result (S.failed sink.new ≡ S.failed sink.old + 1) }
 {
     let mut sent = 0;

@@ -17,7 +17,7 @@ pub trait Sink {
     /// How often it failed so far.
     ghost failed: { Self → ℕ };
 
-    /// Takes a beginning of these bytes, at least one byte where there are any, and answers how many it took. Or
+    /// Takes a prefix of these bytes, at least one byte where there are any, and answers how many it took. Or
     /// fails: then it took nothing, and failed once more than before.
     fn put(&mut self, bytes: &[u8]) -> Result<usize, SinkFault>
         requires { failed self.old < 2 ^ 64 - 1 }

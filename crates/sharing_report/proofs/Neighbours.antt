@@ -49,11 +49,11 @@ list_any-map p f [] = refl
 list_any-map p f (x ∷ xs) = ap (λ (b : Bool). p (f x) || b) (list_any-map p f xs)
 
 module _ {K : Type 0} {eq : K → K → Bool} (laws : IsEquivalence eq) where
-  -- the contested neighbours among marks behind one
-  abbrev neighbours_behind : Mark K → List (Mark K) → List K
-  neighbours_behind before [] = []
-  neighbours_behind before (mark ∷ marks) =
-      cond (eq before.place mark.place && not (eqb before.thread mark.thread)) (mark.place ∷ neighbours_behind mark marks) (neighbours_behind mark marks)
+  -- the contested neighbours among marks after one
+  abbrev neighbours_after : Mark K → List (Mark K) → List K
+  neighbours_after before [] = []
+  neighbours_after before (mark ∷ marks) =
+      cond (eq before.place mark.place && not (eqb before.thread mark.thread)) (mark.place ∷ neighbours_after mark marks) (neighbours_after mark marks)
 
   -- marks at one place stand side by side
   abbrev Runs : Mark K → List (Mark K) → Type 0
@@ -71,7 +71,7 @@ module _ {K : Type 0} {eq : K → K → Bool} (laws : IsEquivalence eq) where
 
   -- the contested neighbours and the threads with one mark more, by whether it stands at the place, at the next mark's place, with its thread
   abbrev left : (q : K) (y : Mark K) (rest : List (Mark K)) (tied same : Bool) → Bool
-  left q y rest tied same = is_member eq (cond (tied && not same) (y.place ∷ neighbours_behind y rest) (neighbours_behind y rest)) q
+  left q y rest tied same = is_member eq (cond (tied && not same) (y.place ∷ neighbours_after y rest) (neighbours_after y rest)) q
 
   abbrev right : (q : K) (x : Mark K) (marks : List (Mark K)) (here : Bool) → Bool
   right q x marks here = two_of (map (λ mark. mark.thread) (cond here (x ∷ filter (λ mark. eq q mark.place) marks) (filter (λ mark. eq q mark.place) marks)))
@@ -81,14 +81,14 @@ module _ {K : Type 0} {eq : K → K → Bool} (laws : IsEquivalence eq) where
       laws.symm q y.place ∙ sym (laws.congr x.place y.place q tied) ∙ laws.symm x.place q ∙ away
 
   by_cases : (q : K) (x y : Mark K) (rest : List (Mark K)) →
-      is_member eq (neighbours_behind y rest) q ≡ two_of (threads_at eq (y ∷ rest) q) →
+      is_member eq (neighbours_after y rest) q ≡ two_of (threads_at eq (y ∷ rest) q) →
       (eq x.place y.place ≡ false → list_any (λ mark. eq x.place mark.place) (y ∷ rest) ≡ false) →
       (here tied same : Bool) → eq q x.place ≡ here → eq x.place y.place ≡ tied → eqb x.thread y.thread ≡ same →
       left q y rest tied same ≡ right q x (y ∷ rest) here
   by_cases q x y rest later alone false false same eh et es = later
   by_cases q x y rest later alone false true true eh et es = later
   by_cases q x y rest later alone false true false eh et es =
-      ap (λ (b : Bool). b || is_member eq (neighbours_behind y rest) q) (off_place q x y rest eh et) ∙ later
+      ap (λ (b : Bool). b || is_member eq (neighbours_after y rest) q) (off_place q x y rest eh et) ∙ later
   by_cases q x y rest later alone true false same eh et es =
       let none : filter (λ mark. eq q mark.place) (y ∷ rest) ≡ [] = at_same q x.place (y ∷ rest) eh ∙ filter_none (λ mark. eq x.place mark.place) (y ∷ rest) (alone et) in
       later
@@ -96,34 +96,34 @@ module _ {K : Type 0} {eq : K → K → Bool} (laws : IsEquivalence eq) where
       ∙ sym (ap (λ (marks : List (Mark K)). two_of (map (λ mark. mark.thread) (x ∷ marks))) none)
   by_cases q x y rest later alone true true false eh et es =
       let there : eq q y.place ≡ true = laws.congr q x.place y.place eh ∙ et in
-      let behind : List (Mark K) = filter (λ mark. eq q mark.place) rest in
-      ap (λ (b : Bool). b || is_member eq (neighbours_behind y rest) q) there
-      ∙ sym (two-different x.thread y.thread (map (λ mark. mark.thread) behind) es)
-      ∙ sym (ap (λ (b : Bool). two_of (map (λ mark. mark.thread) (x ∷ cond b (y ∷ behind) behind))) there)
+      let after : List (Mark K) = filter (λ mark. eq q mark.place) rest in
+      ap (λ (b : Bool). b || is_member eq (neighbours_after y rest) q) there
+      ∙ sym (two-different x.thread y.thread (map (λ mark. mark.thread) after) es)
+      ∙ sym (ap (λ (b : Bool). two_of (map (λ mark. mark.thread) (x ∷ cond b (y ∷ after) after))) there)
   by_cases q x y rest later alone true true true eh et es =
       let there : eq q y.place ≡ true = laws.congr q x.place y.place eh ∙ et in
-      let behind : List (Mark K) = filter (λ mark. eq q mark.place) rest in
-      let threads : List ℕ = map (λ mark. mark.thread) behind in
+      let after : List (Mark K) = filter (λ mark. eq q mark.place) rest in
+      let threads : List ℕ = map (λ mark. mark.thread) after in
       later
-      ∙ ap (λ (b : Bool). two_of (map (λ mark. mark.thread) (cond b (y ∷ behind) behind))) there
+      ∙ ap (λ (b : Bool). two_of (map (λ mark. mark.thread) (cond b (y ∷ after) after))) there
       ∙ sym (ap (λ (b : Bool). leb 2 (length (cond (b || is_member eqb threads x.thread) (unique_keys eqb (y.thread ∷ threads)) (x.thread ∷ unique_keys eqb (y.thread ∷ threads))))) es)
-      ∙ sym (ap (λ (b : Bool). two_of (map (λ mark. mark.thread) (x ∷ cond b (y ∷ behind) behind))) there)
+      ∙ sym (ap (λ (b : Bool). two_of (map (λ mark. mark.thread) (x ∷ cond b (y ∷ after) after))) there)
 
   -- a place is among the contested neighbours where at least two threads have a mark there
-  member-behind : (q : K) (x : Mark K) (rest : List (Mark K)) → Runs x rest →
-      is_member eq (neighbours_behind x rest) q ≡ two_of (threads_at eq (x ∷ rest) q)
-  member-behind q x [] runs = single (eq q x.place) x
-  member-behind q x (y ∷ rest) runs =
-      by_cases q x y rest (member-behind q y rest runs.1) runs.0 (eq q x.place) (eq x.place y.place) (eqb x.thread y.thread) refl refl refl
+  member-after : (q : K) (x : Mark K) (rest : List (Mark K)) → Runs x rest →
+      is_member eq (neighbours_after x rest) q ≡ two_of (threads_at eq (x ∷ rest) q)
+  member-after q x [] runs = single (eq q x.place) x
+  member-after q x (y ∷ rest) runs =
+      by_cases q x y rest (member-after q y rest runs.1) runs.0 (eq q x.place) (eq x.place y.place) (eqb x.thread y.thread) refl refl refl
 
-  -- the contested neighbours behind a first mark
-  neighbours-cons : (x : Mark K) (rest : List (Mark K)) → contested_neighbours eq (x ∷ rest) ≡ neighbours_behind x rest
+  -- the contested neighbours after a first mark
+  neighbours-cons : (x : Mark K) (rest : List (Mark K)) → contested_neighbours eq (x ∷ rest) ≡ neighbours_after x rest
   unfolding contested_neighbours
   neighbours-cons x [] = refl
   neighbours-cons x (y ∷ rest) = step (eq x.place y.place && not (eqb x.thread y.thread)) (neighbours-cons y rest)
     where
-      step : (b : Bool) → contested_neighbours eq (y ∷ rest) ≡ neighbours_behind y rest → map (λ (pair : Mark K × Mark K). pair.1.place) (cond b ((x, y) ∷ filter (λ (pair : Mark K × Mark K). eq pair.0.place pair.1.place && not (eqb pair.0.thread pair.1.thread)) (zip (y ∷ rest) rest)) (filter (λ (pair : Mark K × Mark K). eq pair.0.place pair.1.place && not (eqb pair.0.thread pair.1.thread)) (zip (y ∷ rest) rest)))
-          ≡ cond b (y.place ∷ neighbours_behind y rest) (neighbours_behind y rest)
+      step : (b : Bool) → contested_neighbours eq (y ∷ rest) ≡ neighbours_after y rest → map (λ (pair : Mark K × Mark K). pair.1.place) (cond b ((x, y) ∷ filter (λ (pair : Mark K × Mark K). eq pair.0.place pair.1.place && not (eqb pair.0.thread pair.1.thread)) (zip (y ∷ rest) rest)) (filter (λ (pair : Mark K × Mark K). eq pair.0.place pair.1.place && not (eqb pair.0.thread pair.1.thread)) (zip (y ∷ rest) rest)))
+          ≡ cond b (y.place ∷ neighbours_after y rest) (neighbours_after y rest)
       step true same = ap (λ (places : List K). y.place ∷ places) same
       step false same = same
 
@@ -165,7 +165,7 @@ module _ {K : Type 0} {eq : K → K → Bool} (laws : IsEquivalence eq) where
     unfolding contested_neighbours
     sorted-neighbours q [] up = refl
     sorted-neighbours q (x ∷ rest) up =
-        ap (λ (places : List K). is_member eq places q) (neighbours-cons x rest) ∙ member-behind q x rest (runs-from_sorted x rest up)
+        ap (λ (places : List K). is_member eq places q) (neighbours-cons x rest) ∙ member-after q x rest (runs-from_sorted x rest up)
 
     -- a contested place is the place of a mark
     contested_there : (marks : List (Mark K)) (q : K) → (is_member eq (map (λ mark. mark.place) marks) q && is_contested eq marks q) ≡ is_contested eq marks q

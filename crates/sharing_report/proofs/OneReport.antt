@@ -18,8 +18,8 @@ split : (x : ℕ) (xs : List ℕ) (q : ℕ) → Contains (x ∷ xs) q → Split 
 split x xs q (zero, inside, here) = first here
 split x xs q (suc k, inside, here) = rest (k, omega arith, here)
 
-behind : (x : ℕ) (xs : List ℕ) (q : ℕ) → Contains xs q → Contains (x ∷ xs) q
-behind x xs q (k, inside, here) = (suc k, omega arith, here)
+after : (x : ℕ) (xs : List ℕ) (q : ℕ) → Contains xs q → Contains (x ∷ xs) q
+after x xs q (k, inside, here) = (suc k, omega arith, here)
 
 -- the first of ascending numbers is below the others
 below : (x : ℕ) (xs : List ℕ) (q : ℕ) → IsStrictlyIncreasing (x ∷ xs) → Contains xs q → x < q
@@ -47,8 +47,8 @@ same_ascending (x ∷ xs) [] up other same = let found = (same x).0 (0, omega ar
 same_ascending (x ∷ xs) (y ∷ ys) up other same =
     let firsts : x ≡ y = same_first x y xs ys up other (split y ys x ((same x).0 (0, omega arith, refl))) (split x xs y ((same y).1 (0, omega arith, refl))) in
     let rests : xs ≡ ys = same_ascending xs ys (tail x xs up) (tail y ys other) (λ q. (
-      λ found. in_rest y q ys (subst (λ (n : ℕ). n < q) firsts (below x xs q up found)) (split y ys q ((same q).0 (behind x xs q found))),
-      λ found. in_rest x q xs (subst (λ (n : ℕ). n < q) (sym firsts) (below y ys q other found)) (split x xs q ((same q).1 (behind y ys q found))),
+      λ found. in_rest y q ys (subst (λ (n : ℕ). n < q) firsts (below x xs q up found)) (split y ys q ((same q).0 (after x xs q found))),
+      λ found. in_rest x q xs (subst (λ (n : ℕ). n < q) (sym firsts) (below y ys q other found)) (split x xs q ((same q).1 (after y ys q found))),
     )) in
     ap (λ (n : ℕ). n ∷ xs) firsts ∙ ap (λ (all : List ℕ). y ∷ all) rests
 

@@ -4,7 +4,7 @@
 //! - [`report_text`] is the text of rows, a line for each.
 //! - [`one_report`] says that the changes of turns have one report. It has no code.
 //!
-//! The first two fail only for want of memory.
+//! The first two fail only when memory runs out.
 #![tactic(auto)]
 
 mod byte_change;

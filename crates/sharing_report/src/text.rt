@@ -33,7 +33,7 @@ fn write_row(text: &mut String, row: PageRow) -> Result<(), AllocError>
     text.push_str("\n")
 }
 
-/// Appends a count behind its name.
+/// Appends a count after its name.
 fn write_count(text: &mut String, name: &str, count: u64) -> Result<(), AllocError>
     ensures { OnOk result (string_bytes text.new ≡ string_bytes text.old ++ name.now ++ decimal count) }
 {

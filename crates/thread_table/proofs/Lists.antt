@@ -35,11 +35,11 @@ numbers_where-push : (test : Thread → Bool) (threads : List Thread) (thread : 
     → numbers_where test (threads ++ thread ∷ []) ≡ numbers_where test threads ++ cond (test thread) (length threads ∷ []) []
 unfolding numbers_where
 numbers_where-push test threads thread =
-    let front : List ℕ = numbers_where test threads in
+    let prefix : List ℕ = numbers_where test threads in
     let first : (ℕ × Thread) → ℕ = λ row. row.0 in
     rw (enumerate_from-push, filter-append, map-append)
-    (elim (test thread) as (λ passes. front ++ map first (cond passes ((0 + length threads, thread) ∷ []) []) ≡ front ++ cond passes (length threads ∷ []) [])
-    [ true ↦ ap (λ k. front ++ k ∷ []) (omega arith) | false ↦ refl ])
+    (elim (test thread) as (λ passes. prefix ++ map first (cond passes ((0 + length threads, thread) ∷ []) []) ≡ prefix ++ cond passes (length threads ∷ []) [])
+    [ true ↦ ap (λ k. prefix ++ k ∷ []) (omega arith) | false ↦ refl ])
 
 -- a loop over the threads
 numbers_where-more : (test : Thread → Bool) (threads : List Thread) (i : ℕ) (thread : Thread)
@@ -47,9 +47,9 @@ numbers_where-more : (test : Thread → Bool) (threads : List Thread) (i : ℕ) 
     → numbers_where test (take (i + 1) threads) ≡ numbers_where test (take i threads) ++ cond (test thread) (i ∷ []) []
 numbers_where-more test threads i thread below read =
     let within : i ≤ length threads = omega arith in
-    let front = take_more threads i thread below in
+    let prefix = take_more threads i thread below in
     let known : get_or threads i thread ≡ thread = sym read in
-    rw (front, known, numbers_where-push, length-take-le) refl
+    rw (prefix, known, numbers_where-push, length-take-le) refl
 
 -- where the thread at the place passes the test
 pub numbers_where-more_picked : (test : Thread → Bool) (threads : List Thread) (i : ℕ) (thread : Thread) (numbers : List ℕ)

@@ -1,6 +1,6 @@
 use Rattle.std.specs.Prelude.{ℕ, Bool, false, ◌==◌, ◌&&◌, if◌then◌else◌}
-use Rattle.calls.specs.declared.call.Call.{Call}
-use Rattle.calls.specs.declared.call.Call.TheVariants.{Join}
+use Rattle.abi.specs.declared.call.Call.{Call}
+use Rattle.abi.specs.declared.call.Call.TheVariants.{Join}
 use Rattle.ecalls.specs.Request.{call_of}
 use Rattle.hart.specs.HartState.{HartState, started_registers}
 use Rattle.thread_table.specs.Status.{is_blocked}
@@ -24,6 +24,6 @@ is_join_of n _ = false
 unfoldable pub is_joiner_of : ℕ → Thread → Bool
 is_joiner_of n thread = is_blocked thread.status && is_join_of n (call_of thread.hart)
 
--- the thread behind thread n's end: ready where it waits for it, else as it was
+-- the thread after thread n's end: ready where it waits for it, else as it was
 unfoldable pub let_go : ℕ → Thread → Thread
 let_go n thread = if is_joiner_of n thread then record thread { status = Ready } else thread

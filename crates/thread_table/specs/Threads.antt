@@ -2,11 +2,11 @@
 use Rattle.std.specs.Prelude.{ℕ, ◌<◌, Bool, Option, Some, None, List, [], ◌∷◌, ◌++◌, ◌==◌, if◌then◌else◌, nat_lt, All, length, map, filter, slice_get, slice_set}
 use Rattle.std.specs.List.{enumerate_from}
 use Rattle.std.specs.List.Sorted.{IsStrictlyIncreasing}
-use Rattle.calls.specs.declared.code.Code.{Code}
-use Rattle.calls.specs.declared.code.Code.TheVariants.{Done as Success, NoSuchThread, HoldsLock}
-use Rattle.calls.specs.declared.reply.Reply.{Reply}
-use Rattle.calls.specs.declared.reply.Reply.TheVariants.{Completed, Waits, Ends}
-use Rattle.calls.specs.declared.limits.TheConstants.{THREADS}
+use Rattle.abi.specs.declared.code.Code.{Code}
+use Rattle.abi.specs.declared.code.Code.TheVariants.{Done as Success, NoSuchThread, HoldsLock}
+use Rattle.abi.specs.declared.reply.Reply.{Reply}
+use Rattle.abi.specs.declared.reply.Reply.TheVariants.{Completed, Waits, Ends}
+use Rattle.abi.specs.declared.limits.TheConstants.{THREADS}
 use Rattle.hart.specs.HartState.{HartState}
 use Rattle.thread_table.specs.Status.{is_ready, has_turn}
 use Rattle.thread_table.specs.Thread.{started, is_joiner_of, let_go}
@@ -71,16 +71,16 @@ unfoldable pub join_reply : List Thread → ℕ → ℕ → Bool → Reply
 join_reply threads caller n holds_lock =
     if n == caller then refused NoSuchThread else join_of (slice_get threads n) holds_lock
 
--- the threads behind a call that came to this reply: its caller is blocked where it waits
-abbrev pub behind_reply : List Thread → ℕ → Reply → List Thread
-behind_reply threads caller (Completed code value) = threads
-behind_reply threads caller Waits = with_status threads caller Blocked
-behind_reply threads caller Ends = threads
+-- the threads after a call that came to this reply: its caller is blocked where it waits
+abbrev pub after_reply : List Thread → ℕ → Reply → List Thread
+after_reply threads caller (Completed code value) = threads
+after_reply threads caller Waits = with_status threads caller Blocked
+after_reply threads caller Ends = threads
 
--- the threads behind the call join of n
+-- the threads after the call join of n
 abbrev pub joined : List Thread → ℕ → ℕ → Bool → List Thread
-joined threads caller n holds_lock = behind_reply threads caller (join_reply threads caller n holds_lock)
+joined threads caller n holds_lock = after_reply threads caller (join_reply threads caller n holds_lock)
 
--- the threads behind thread n's end: who waited for it is ready, and it is done with a value
+-- the threads after thread n's end: who waited for it is ready, and it is done with a value
 abbrev pub ended : List Thread → ℕ → ℕ → List Thread
 ended threads n value = with_status (map (let_go n) threads) n (Done value)

@@ -5,7 +5,7 @@ ghost use Rattle.thread_table.specs.Threads as spec;
 
 use crate::thread::Thread;
 use arrayvec::ArrayVec;
-use calls::limits::THREADS;
+use abi::limits::THREADS;
 
 /// How many threads a table has room for.
 pub const CAPACITY: usize = THREADS as usize;

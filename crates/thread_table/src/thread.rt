@@ -1,7 +1,7 @@
 ghost use Rattle.std.specs.Prelude.{◌≡◌, ◌%◌};
 
 use crate::status::Status;
-use calls::Call;
+use abi::Call;
 use ecalls::call_of;
 use hart::Hart;
 

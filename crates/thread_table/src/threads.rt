@@ -6,7 +6,7 @@ use crate::numbers::{CAPACITY, ThreadNumbers, numbers_where};
 use crate::status::Status;
 use crate::thread::Thread;
 use arrayvec::ArrayVec;
-use calls::{Code, Reply};
+use abi::{Code, Reply};
 use hart::Hart;
 use std::marker::Model;
 

@@ -1,16 +1,16 @@
--- Behind each call, who waits at an object is blocked there.
+-- After each call, who waits at an object is blocked there.
 use Rattle.std.proofs.Common.{◌≡◌, ℕ, zero, suc, ◌+◌, Bool, true, false, not, ◌&&◌, Option, Some, None, List, [], ◌∷◌, ◌++◌, length, map, filter, take, refl, ap, ◌∙◌}
 use Rattle.std.specs.Prelude.{unwrap_or, if◌then◌else◌, nat_le, nat_lt, ◌==◌, ◌||◌, ◌%◌, slice_get, slice_set}
 use Rattle.std.specs.List.{list_any, list_all}
 use Rattle.std.proofs.lemmas.Option.{slice_get-map}
 use Rattle.std.proofs.lemmas.List.Folds.{list_all-append}
-use Rattle.calls.specs.declared.call.Call.{Call}
-use Rattle.calls.specs.declared.call.Call.TheVariants as call
-use Rattle.calls.specs.declared.code.Code.TheVariants.{Done as Success}
-use Rattle.calls.specs.declared.reply.Reply.{Reply}
-use Rattle.calls.specs.declared.limits.TheConstants.{OBJECTS, BARRIER_COUNT, TRANSFER, OUTPUT}
+use Rattle.abi.specs.declared.call.Call.{Call}
+use Rattle.abi.specs.declared.call.Call.TheVariants as call
+use Rattle.abi.specs.declared.code.Code.TheVariants.{Done as Success}
+use Rattle.abi.specs.declared.reply.Reply.{Reply}
+use Rattle.abi.specs.declared.limits.TheConstants.{OBJECTS, BARRIER_COUNT, TRANSFER, OUTPUT}
 use Rattle.guest_memory.specs.declared.layout.TheConstants.{PAGE_SIZE, HEAP_PAGES}
-use Rattle.calls.specs.declared.reply.Reply.TheVariants.{Completed, Waits, Ends}
+use Rattle.abi.specs.declared.reply.Reply.TheVariants.{Completed, Waits, Ends}
 use Rattle.ecalls.specs.Request.{call_of}
 use Rattle.condvar_barrier.specs.Objects.{is_among}
 use Rattle.condvar_barrier.specs.Objects.{ObjectState, is_waiting, with_waiter, with_holder, without}
@@ -33,25 +33,25 @@ use Rattle.token.specs.History.{row_of}
 use Rattle.token.specs.Parts.{state_in, came_to}
 use Rattle.token.specs.declared.parts.Parts.{Parts}
 use Rattle.token.specs.Effects as effects
-use Rattle.token.specs.Effects.{Effect, effect, settled, behind_reply, call_finished, completed, with_outcome, by_objects, let_pass, wake_up, create_numbered, is_permitted_range, is_page_count, is_mapped_heap}
+use Rattle.token.specs.Effects.{Effect, effect, settled, after_reply, call_finished, completed, with_outcome, by_objects, let_pass, wake_up, create_numbered, is_permitted_range, is_page_count, is_mapped_heap}
 use Rattle.token.specs.Waiting.{is_join, waits_at_object, is_parked, are_parked}
 use Rattle.token.proofs.Parked.{slice_get-itself, slice_get-other, parked-kept, parked-elsewhere, parked_fewer, not_among, among_fewer, apart, left, not_listed, with_thread-other, with_status-other, let_pass-other, wake_up-other}
 
--- behind a reply
-behind : (threads : List Thread) (thread : ℕ) (reply : Reply) (waiters : List Waiter) → is_among thread waiters ≡ false → are_parked threads waiters ≡ true
-    → are_parked (behind_reply threads thread reply) waiters ≡ true
-behind threads thread (Completed code value) waiters idle parked =
-    parked-elsewhere threads (behind_reply threads thread (Completed code value)) waiters
+-- after a reply
+parked_after : (threads : List Thread) (thread : ℕ) (reply : Reply) (waiters : List Waiter) → is_among thread waiters ≡ false → are_parked threads waiters ≡ true
+    → are_parked (after_reply threads thread reply) waiters ≡ true
+parked_after threads thread (Completed code value) waiters idle parked =
+    parked-elsewhere threads (after_reply threads thread (Completed code value)) waiters
     (λ m among. with_thread-other threads thread m (call_finished code value) (apart thread m waiters idle among)) parked
-behind threads thread Waits waiters idle parked =
+parked_after threads thread Waits waiters idle parked =
     parked-elsewhere threads (with_status threads thread Blocked) waiters (λ m among. with_status-other threads thread m Blocked (apart thread m waiters idle among)) parked
-behind threads thread Ends waiters idle parked = parked
+parked_after threads thread Ends waiters idle parked = parked
 
-behind_join : (threads : List Thread) (thread : ℕ) (reply : Reply) (waiters : List Waiter) → is_among thread waiters ≡ false → are_parked threads waiters ≡ true
-    → are_parked (table.behind_reply threads thread reply) waiters ≡ true
-behind_join threads thread (Completed code value) waiters idle parked = parked
-behind_join threads thread Waits waiters idle parked = behind threads thread Waits waiters idle parked
-behind_join threads thread Ends waiters idle parked = parked
+parked_after_join : (threads : List Thread) (thread : ℕ) (reply : Reply) (waiters : List Waiter) → is_among thread waiters ≡ false → are_parked threads waiters ≡ true
+    → are_parked (table.after_reply threads thread reply) waiters ≡ true
+parked_after_join threads thread (Completed code value) waiters idle parked = parked
+parked_after_join threads thread Waits waiters idle parked = parked_after threads thread Waits waiters idle parked
+parked_after_join threads thread Ends waiters idle parked = parked
 
 -- one thread more
 one_more : (threads : List Thread) (thread : Thread) (m : ℕ) → is_parked (slice_get threads m) ≡ true → is_parked (slice_get (threads ++ thread ∷ []) m) ≡ true
@@ -92,9 +92,9 @@ unfolding let_go
 stays n row other = rw other refl
 
 module _ (state : State) (thread : ℕ) where
-  -- behind this effect who waits at an object is blocked there
+  -- after this effect who waits at an object is blocked there
   pub record IsFine (effect : Effect) : Type 0 where
-    pub is_fine : are_parked (behind_reply effect.state.threads thread effect.reply) effect.state.objects.waiters ≡ true
+    pub is_fine : are_parked (after_reply effect.state.threads thread effect.reply) effect.state.objects.waiters ≡ true
 
   pub record IsFineOutcome (outcome : Outcome) : Type 0 where
     pub is_fine : IsFine (with_outcome outcome state)
@@ -109,8 +109,8 @@ module _ (state : State) (thread : ℕ) where
 
   module _ (idle : is_among thread state.objects.waiters ≡ false) (parked : are_parked state.threads state.objects.waiters ≡ true) where
     -- threads and objects as they were
-    fine : (reply : Reply) → are_parked (behind_reply state.threads thread reply) state.objects.waiters ≡ true
-    fine reply = behind state.threads thread reply state.objects.waiters idle parked
+    fine : (reply : Reply) → are_parked (after_reply state.threads thread reply) state.objects.waiters ≡ true
+    fine reply = parked_after state.threads thread reply state.objects.waiters idle parked
 
     -- nobody comes to wait, and nobody is let go
     kept-outcome : {outcome : Outcome} → outcome.objects.waiters ≡ state.objects.waiters → outcome.woken ≡ [] → outcome.passed ≡ [] → IsFineOutcome outcome
@@ -130,7 +130,7 @@ module _ (state : State) (thread : ℕ) where
         record {
           is_fine = record {
             is_fine =
-                behind (wake_up woken state.threads) thread (Completed Success (Some (length woken))) waiters (among_fewer stay thread state.objects.waiters idle)
+                parked_after (wake_up woken state.threads) thread (Completed Success (Some (length woken))) waiters (among_fewer stay thread state.objects.waiters idle)
                 (parked-elsewhere state.threads (wake_up woken state.threads) waiters (λ m among. wake_up-other woken state.threads m (left numbers m state.objects.waiters among))
                 (parked_fewer state.threads stay state.objects.waiters parked));
           };
@@ -144,7 +144,7 @@ module _ (state : State) (thread : ℕ) where
         record {
           is_fine = record {
             is_fine =
-                behind (let_pass 0 numbers state.threads) thread (Completed Success (Some 1)) waiters (among_fewer stay thread state.objects.waiters idle)
+                parked_after (let_pass 0 numbers state.threads) thread (Completed Success (Some 1)) waiters (among_fewer stay thread state.objects.waiters idle)
                 (parked-elsewhere state.threads (let_pass 0 numbers state.threads) waiters (λ m among. let_pass-other 0 numbers state.threads m (left numbers m state.objects.waiters among))
                 (parked_fewer state.threads stay state.objects.waiters parked));
           };
@@ -229,7 +229,7 @@ module _ (state : State) (thread : ℕ) where
             let made : Thread = started (hart_at entry stack_pointer argument number) in
             record {
               is_fine =
-                  behind (state.threads ++ made ∷ []) thread (Completed Success (Some number)) state.objects.waiters idle
+                  parked_after (state.threads ++ made ∷ []) thread (Completed Success (Some number)) state.objects.waiters idle
                   (parked-kept state.threads (state.threads ++ made ∷ []) state.objects.waiters (λ m among was. one_more state.threads made m was) parked);
             }
 
@@ -239,8 +239,8 @@ module _ (state : State) (thread : ℕ) where
         let holds_lock : Bool = objects.holds state.objects thread in
         record {
           is_fine =
-              behind (joined state.threads thread n holds_lock) thread (join_reply state.threads thread n holds_lock) state.objects.waiters idle
-              (behind_join state.threads thread (join_reply state.threads thread n holds_lock) state.objects.waiters idle parked);
+              parked_after (joined state.threads thread n holds_lock) thread (join_reply state.threads thread n holds_lock) state.objects.waiters idle
+              (parked_after_join state.threads thread (join_reply state.threads thread n holds_lock) state.objects.waiters idle parked);
         }
 
     fine-write : (address count : ℕ) → IsFine (effects.write state address count)
@@ -284,7 +284,7 @@ module _ (state : State) (thread : ℕ) where
     fine-effect own is (call.Release address count) named = fine-release address count
     fine-effect own is (call.Unknown number) named = kept-effect refl refl
 
--- behind a call of a thread who waits at an object is blocked there
+-- after a call of a thread who waits at an object is blocked there
 pub parked-settled : (state : State) (thread : ℕ) (own : Thread) → slice_get state.threads thread ≡ Some own → is_among thread state.objects.waiters ≡ false
     → are_parked state.threads state.objects.waiters ≡ true
     → are_parked (settled thread (effect state thread (call_of own.hart))).threads (settled thread (effect state thread (call_of own.hart))).objects.waiters ≡ true
@@ -310,7 +310,7 @@ pub idle-ready : (parts : Parts) (thread : ℕ) → is_ready (row_of (state_in p
 unfolding state_in is_waiting
 idle-ready parts thread ready parked = waits_nowhere (state_in parts) thread (not_blocked (row_of (state_in parts) thread).status ready) parked
 
--- behind a call that was carried out and settled
+-- after a call that was carried out and settled
 pub parked-called : (parts carried before : Parts) (thread : ℕ) (reply : Reply) (own : Thread) (what : Call) → state_in parts ≡ settled thread (came_to reply carried)
     → came_to reply carried ≡ effect (state_in before) thread what → what ≡ call_of own.hart → slice_get before.threads thread ≡ Some own
     → is_ready (row_of (state_in before) thread).status ≡ true → are_parked before.threads before.objects.waiters ≡ true → are_parked parts.threads parts.objects.waiters ≡ true
@@ -329,7 +329,7 @@ parked-made state thread made runs parked =
     parked-elsewhere state.threads (with_thread state.threads thread made) state.objects.waiters
     (λ m among. with_thread-other state.threads thread m made (apart thread m state.objects.waiters idle among)) parked
 
--- behind the turn of a woken thread
+-- after the turn of a woken thread
 pub parked-woken : (before : State) (thread mutex : ℕ) (threads : List Thread) (objects : ObjectState) → threads ≡ with_thread before.threads thread (completed None)
     → objects ≡ row.take_back before.objects thread mutex → (row_of before thread).status ≡ Woken mutex → are_parked before.threads before.objects.waiters ≡ true
     → are_parked threads objects.waiters ≡ true

@@ -47,7 +47,7 @@ pub committed_len : (state : State) (thread : ℕ) (bytes : ℕ → Option ℕ) 
 unfolding committed_bytes
 committed_len state thread bytes hart executed = length-with_thread state.threads thread (λ row. record row { hart = hart; executed = executed })
 
--- the thread of a turn is there behind it
+-- the thread of a turn is there after it
 pub run_there : (state : State) (thread : ℕ) (bytes : ℕ → Option ℕ) (hart : HartState) (executed : ℕ) (stop : Stop) → thread < length state.threads
     → thread < length (after_stop (committed_bytes state thread bytes hart executed) thread hart stop).state.threads
 run_there state thread bytes hart executed stop below =

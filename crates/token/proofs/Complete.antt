@@ -4,7 +4,7 @@ use Rattle.std.proofs.lemmas.Bool.{cases_lt, and_parts, eqb-true, not-true}
 use Rattle.thread_table.specs.Threads.{serial_list}
 use Rattle.token.specs.State.{Setup}
 use Rattle.token.specs.History.{History, Follows, IsLegal, IsDue, IsNextOfList, present, phase_of, list_of, heads, keeps, last_outcome, is_quiet, quiet_outcome, outcome}
-use Rattle.token.specs.Law.{IsBeginning, NothingFollows, OneAnswer}
+use Rattle.token.specs.Law.{IsPrefix, NothingFollows, OneAnswer}
 use Rattle.token.specs.declared.outcome.RunOutcome.{RunOutcome}
 use Rattle.token.proofs.OneStep.{used_up}
 use Rattle.token.proofs.OneHistory.{shorter}
@@ -38,7 +38,7 @@ no_next setup history phase thread legal quiet next =
     ]
   where
     no_list : (setup : Setup) (history : History) (phase thread : ℕ) → IsLegal setup history → Quiet setup history → IsNextOfList setup history phase thread → phase ≡ suc (phase_of history) → ⊥
-    no_list setup history phase thread legal quiet next behind =
+    no_list setup history phase thread legal quiet next later =
         let list : list_of setup history phase ≡ serial_list (present setup history).threads = list_of_next setup history phase legal (omega arith) in
         let none : length (list_of setup history phase) ≡ 0 = ap length list ∙ quiet.empty in
         let some = ap length next.next ∙ length-append (heads history phase) (thread ∷ next.rest) in
@@ -55,20 +55,20 @@ nothing_follows setup history step ends legal is follows =
     let all = quiet_from setup history (quiet_of ends (last_outcome history) (is_quiet setup history) (quiet_outcome (present setup history)) follows.cut is) in
     not_due setup history step.turn.phase step.turn.thread (keeps history) all.lets_go legal all follows.order
 
--- no steps are behind a history with an outcome
-nothing_behind : (setup : Setup) (history newer : History) (ends : RunOutcome) → outcome setup history ≡ Some ends → IsLegal setup (newer ++ history) → newer ≡ []
+-- no steps are after a history with an outcome
+nothing_after : (setup : Setup) (history newer : History) (ends : RunOutcome) → outcome setup history ≡ Some ends → IsLegal setup (newer ++ history) → newer ≡ []
 unfolding IsLegal
-nothing_behind setup history [] ends is legal = refl
-nothing_behind setup history (step ∷ newer) ends is legal =
-    let none : newer ≡ [] = nothing_behind setup history newer ends is legal.1 in
+nothing_after setup history [] ends is legal = refl
+nothing_after setup history (step ∷ newer) ends is legal =
+    let none : newer ≡ [] = nothing_after setup history newer ends is legal.1 in
     let follows : Follows setup history step = subst (λ steps. Follows setup (steps ++ history) step) none legal.0 in
-    let front : IsLegal setup history = subst (λ steps. IsLegal setup (steps ++ history)) none legal.1 in
-    absurd (nothing_follows setup history step ends front is follows)
+    let prefix : IsLegal setup history = subst (λ steps. IsLegal setup (steps ++ history)) none legal.1 in
+    absurd (nothing_follows setup history step ends prefix is follows)
 
-complete_is_whole : (setup : Setup) (one other : History) (ends : RunOutcome) → outcome setup one ≡ Some ends → IsLegal setup other → IsBeginning one other → one ≡ other
-complete_is_whole setup one other ends is legal front =
-    let none : front.0 ≡ [] = nothing_behind setup one front.0 ends is (subst (IsLegal setup) front.1 legal) in
-    sym (front.1 ∙ ap (λ newer. newer ++ one) none)
+complete_is_whole : (setup : Setup) (one other : History) (ends : RunOutcome) → outcome setup one ≡ Some ends → IsLegal setup other → IsPrefix one other → one ≡ other
+complete_is_whole setup one other ends is legal prefix =
+    let none : prefix.0 ≡ [] = nothing_after setup one prefix.0 ends is (subst (IsLegal setup) prefix.1 legal) in
+    sym (prefix.1 ∙ ap (λ newer. newer ++ one) none)
 
 one_complete : (setup : Setup) (one other : History) (ends other_ends : RunOutcome) → IsLegal setup one → IsLegal setup other
     → outcome setup one ≡ Some ends → outcome setup other ≡ Some other_ends → one ≡ other

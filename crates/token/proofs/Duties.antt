@@ -12,7 +12,7 @@ use Rattle.thread_table.specs.declared.thread.Thread.{Thread}
 use Rattle.token.specs.History.{History, IsDue, IsNextOfList, keeps, last_outcome, phase_of, present, row_of, thread_of}
 use Rattle.token.specs.Point.{Point, due_at, due_by}
 use Rattle.token.specs.Progress.{HasDue}
-use Rattle.token.specs.Serial.{StandsBehind}
+use Rattle.token.specs.Serial.{StandsAfter}
 use Rattle.token.specs.State.{Setup}
 use Rattle.token.proofs.Standing.{keeper_is, list_is, no_keeper}
 use Rattle.token.proofs.TurnThere.{next_has_turn, thread_there}
@@ -24,22 +24,22 @@ serial_below threads place below = (AreNumbersOf-numbers_where (λ thread. has_t
 
 -- the thread whose turn it is
 
-front_and_rest : (n : ℕ) (list : List ℕ) → n < length list → list ≡ take n list ++ slice_index list n ∷ drop (suc n) list
-front_and_rest n [] below = absurd (omega arith)
-front_and_rest zero (m ∷ list) below = refl
-front_and_rest (suc n) (m ∷ list) below = ap (λ rest. m ∷ rest) (front_and_rest n list (omega arith))
+prefix_and_rest : (n : ℕ) (list : List ℕ) → n < length list → list ≡ take n list ++ slice_index list n ∷ drop (suc n) list
+prefix_and_rest n [] below = absurd (omega arith)
+prefix_and_rest zero (m ∷ list) below = refl
+prefix_and_rest (suc n) (m ∷ list) below = ap (λ rest. m ∷ rest) (prefix_and_rest n list (omega arith))
 
-next_due : (point : Point) (history : History) → StandsBehind point history → point.given < length point.list → IsNextOfList point.setup history point.phase (slice_index point.list point.given)
+next_due : (point : Point) (history : History) → StandsAfter point history → point.given < length point.list → IsNextOfList point.setup history point.phase (slice_index point.list point.given)
 next_due point history stands below =
     record {
       rest = drop (suc point.given) point.list;
       next =
           list_is point.setup history point.phase point.first point.base_threads point.list stands.first stands.base_threads stands.list
-          ∙ front_and_rest point.given point.list below ∙ ap (λ front. front ++ slice_index point.list point.given ∷ drop (suc point.given) point.list) (sym stands.heads);
+          ∙ prefix_and_rest point.given point.list below ∙ ap (λ prefix. prefix ++ slice_index point.list point.given ∷ drop (suc point.given) point.list) (sym stands.heads);
       current = elim stands.phase [ inl here ↦ inl here | inr there ↦ inr (there.0, there.2) ];
     }
 
-due_by_keeper : (point : Point) (history : History) → StandsBehind point history → (keeper : Option ℕ) → point.keeper ≡ keeper → (keeper ≡ None → point.given < length point.list)
+due_by_keeper : (point : Point) (history : History) → StandsAfter point history → (keeper : Option ℕ) → point.keeper ≡ keeper → (keeper ≡ None → point.given < length point.list)
     → IsDue (keeps history) point.setup history point.phase (due_by keeper point.list point.given)
 due_by_keeper point history stands (Some thread) is listed =
     let kept = keeper_is history thread (stands.keeper ∙ is) in
@@ -52,13 +52,13 @@ due_by_keeper point history stands None is listed =
     let free = no_keeper history (stands.keeper ∙ is) in
     subst (λ keeper. IsDue keeper point.setup history point.phase (slice_index point.list point.given)) (sym free) (next_due point history stands (listed refl))
 
-pub due_is : (point : Point) (history : History) → StandsBehind point history → point.ended ≡ None → IsDue (keeps history) point.setup history point.phase (due_at point)
+pub due_is : (point : Point) (history : History) → StandsAfter point history → point.ended ≡ None → IsDue (keeps history) point.setup history point.phase (due_at point)
 unfolding due_at
 due_is point history stands going = due_by_keeper point history stands point.keeper refl (stands.next going)
 
 -- it is there
 
-now_there : (point : Point) (history : History) → StandsBehind point history → (keeper : Option ℕ) → point.keeper ≡ keeper → (keeper ≡ None → point.given < length point.list)
+now_there : (point : Point) (history : History) → StandsAfter point history → (keeper : Option ℕ) → point.keeper ≡ keeper → (keeper ≡ None → point.given < length point.list)
     → due_by keeper point.list point.given < length point.state.threads
 now_there point history stands (Some thread) is listed =
     let kept = keeper_is history thread (stands.keeper ∙ is) in
@@ -72,14 +72,14 @@ now_there point history stands None is listed =
     let state = ap (λ state. length state.threads) stands.state in
     omega arith
 
-base_there : (point : Point) (history : History) → StandsBehind point history → (keeper : Option ℕ) → keeper ≡ None → point.given < length point.list
+base_there : (point : Point) (history : History) → StandsAfter point history → (keeper : Option ℕ) → keeper ≡ None → point.given < length point.list
     → due_by keeper point.list point.given < length point.base_threads
 base_there point history stands (Some thread) is below = cc
 base_there point history stands None is below =
     subst (λ list. slice_index list point.given < length point.base_threads) stands.list
     (serial_below point.base_threads point.given (subst (λ list. point.given < length list) (sym stands.list) below))
 
-pub has_due : (point : Point) (history : History) → StandsBehind point history → point.ended ≡ None → HasDue point
+pub has_due : (point : Point) (history : History) → StandsAfter point history → point.ended ≡ None → HasDue point
 unfolding due_at
 has_due point history stands going =
     record {
@@ -109,7 +109,7 @@ ready_unless Blocked (Some thread) has ready other = let no = ready refl in cc
 ready_unless (Done value) None has ready other = let no = has refl in cc
 ready_unless (Done value) (Some thread) has ready other = let no = ready refl in cc
 
-pub due_ready : (point : Point) (history : History) → StandsBehind point history → (keeper : Option ℕ) → point.keeper ≡ keeper → (keeper ≡ None → point.given < length point.list)
+pub due_ready : (point : Point) (history : History) → StandsAfter point history → (keeper : Option ℕ) → point.keeper ≡ keeper → (keeper ≡ None → point.given < length point.list)
     → ((mutex : ℕ) → keeper ≡ None → (row_of point.state (due_by keeper point.list point.given)).status ≡ Woken mutex → ⊥)
     → (row_of point.state (due_by keeper point.list point.given)).status ≡ Ready
 due_ready point history stands (Some thread) is listed other =

@@ -53,7 +53,7 @@ keeper_has_turn setup (step ∷ before) keeper =
     let parts = and_parts (not (is_some (last_outcome (step ∷ before)))) (is_ready status && holds step.after.objects step.turn.thread) keeper in
     has_turn_of_ready status (and_parts (is_ready status) (holds step.after.objects step.turn.thread) parts.1).0
 
--- the next of the last phase, or of the one behind it, where nobody keeps the token
+-- the next of the last phase, or of the one after it, where nobody keeps the token
 goes_on_in : (setup : Setup) (history : History) → keeps history ≡ false → last_outcome history ≡ None → (rest : List ℕ)
     → list_of setup history (phase_of history) ≡ heads history (phase_of history) ++ rest → Rises (HasTurnIn setup history) (low_of history) rest
     → (rest ≡ [] → Follower setup history) → Follower setup history
@@ -76,7 +76,7 @@ opens_phase setup history legal next cut lively used (thread ∷ rest) begins =
     let none : heads history phase ≡ [] = heads_none setup history phase legal (omega arith) in
     let turns : Rises (HasTurnIn setup history) 0 (thread ∷ rest) = subst (Rises (HasTurnIn setup history) 0) begins (serial_list_rises (present setup history).threads) in
     takes_turn setup history phase thread false next turns.1.1
-    (record { rest = rest; next = listed ∙ ap (λ front. front ++ thread ∷ rest) (sym none); current = inr (refl, used) }) cut
+    (record { rest = rest; next = listed ∙ ap (λ prefix. prefix ++ thread ∷ rest) (sym none); current = inr (refl, used) }) cut
 
 -- a history without an outcome wasn't ended by its last turn, and isn't quiet
 no_outcome : (last : Option RunOutcome) (quiet : Bool) (there : RunOutcome) → (if is_some last then last else (if quiet then Some there else None)) ≡ None

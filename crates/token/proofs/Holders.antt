@@ -2,14 +2,14 @@
 use Rattle.std.proofs.Common.{◌≡◌, ◌⊎◌, ℕ, zero, suc, ◌%◌, Bool, true, false, not, ◌||◌, ◌==◌, nat_le, if◌then◌else◌, Option, Some, None, List, [], ◌∷◌, map, slice_set, refl, ap, sym, ◌∙◌, subst, inl, inr}
 use Rattle.std.specs.List.{list_any}
 use Rattle.std.proofs.lemmas.Bool.{or_cases, or_left, or_right, eqb-true}
-use Rattle.calls.specs.declared.call.Call.{Call}
-use Rattle.calls.specs.declared.call.Call.TheVariants as call
+use Rattle.abi.specs.declared.call.Call.{Call}
+use Rattle.abi.specs.declared.call.Call.TheVariants as call
 use Rattle.condvar_barrier.specs.Objects.{ObjectState, holds, holds_mutex, is_held_by, with_holder, with_waiter, without}
 use Rattle.condvar_barrier.specs.declared.place.Place.{Place}
 use Rattle.condvar_barrier.specs.declared.place.Place.TheVariants.{Condition}
-use Rattle.calls.specs.declared.code.Code.TheVariants.{BadArgument, NotHolder, HoldsLock}
-use Rattle.calls.specs.declared.reply.Reply.TheVariants.{Waits}
-use Rattle.calls.specs.declared.limits.TheConstants.{OBJECTS}
+use Rattle.abi.specs.declared.code.Code.TheVariants.{BadArgument, NotHolder, HoldsLock}
+use Rattle.abi.specs.declared.reply.Reply.TheVariants.{Waits}
+use Rattle.abi.specs.declared.limits.TheConstants.{OBJECTS}
 use Rattle.condvar_barrier.specs.Rows.{Outcome, refused, replied, barrier, broadcast, lock, release_all, released_by, signal, take_back, unlock, wait}
 use Rattle.ecalls.specs.Request.{call_of}
 use Rattle.hart.specs.HartState.{HartState}
@@ -124,7 +124,7 @@ either_effect thread false one other first second = second
 
 by_objects_only : (thread : ℕ) (row : ObjectState → Outcome) (state : State) → OnlyHolder thread (row state.objects).objects → IsOnly thread (by_objects row state)
 unfolding by_objects
-by_objects_only thread row state behind = behind
+by_objects_only thread row state after = after
 
 thread_exit_only : (state : State) (thread value : ℕ) → OnlyHolder thread state.objects → IsOnly thread (thread_exit state thread value)
 unfolding thread_exit
@@ -192,7 +192,7 @@ step_only state base phase thread number None before = given_to state.objects th
 step_only state base phase thread number (Some ran) before =
     after_stop_only (committed state thread base.memory (row_of base thread).executed ran) thread ran.hart ran.stop before
 
--- Where who holds a mutex before a turn is the turn's thread, so is who holds one behind it.
+-- Where who holds a mutex before a turn is the turn's thread, so is who holds one after it.
 pub turn_only : (setup : Setup) (history : History) (step : Step) → Follows setup history step → OnlyHolder step.turn.thread (present setup history).objects
     → OnlyHolder step.turn.thread step.after.objects
 turn_only setup history step follows before =

@@ -5,7 +5,7 @@ use Rattle.thread_table.specs.Threads.{numbers_where}
 use Rattle.token.specs.State.{Setup, first_state}
 use Rattle.token.specs.Turns.{Step}
 use Rattle.token.specs.History.{History, Follows, IsLegal, IsDue, IsNextOfList, first_version, heads, keeps, list_of, phase_of, present, thread_of, version}
-use Rattle.token.proofs.SerialList.{Rises, Rises-behind, Rises-like, serial_list_rises}
+use Rattle.token.proofs.SerialList.{Rises, Rises-after, Rises-like, serial_list_rises}
 use Rattle.token.proofs.Statuses.{HasTurnIn, turn_kept}
 use Rattle.token.proofs.Versions.{heads_keeper, heads_next, list_of_kept, list_of_next}
 
@@ -24,7 +24,7 @@ in_order_at_start : (setup : Setup) → InOrder setup []
 unfolding list_of version first_version heads phase_of present first_state numbers_where low_of
 in_order_at_start setup = record { rest = 0 ∷ []; list = refl; turns = (omega arith, (omega arith, refl), tt) }
 
--- the threads behind the next of a list
+-- the threads after the next of a list
 turns_behind : (setup : Setup) (history : History) (phase thread : ℕ) → IsLegal setup history → InOrder setup history
     → (next : IsNextOfList setup history phase thread) → Rises (HasTurnIn setup history) (suc thread) next.rest
 turns_behind setup history phase thread legal order next =
@@ -44,9 +44,9 @@ turns_behind setup history phase thread legal order next =
     in_new setup history phase thread legal next there =
         let listed = sym (list_of_next setup history phase legal (omega arith)) ∙ next.next in
         let turns = subst (Rises (HasTurnIn setup history) 0) listed (serial_list_rises (present setup history).threads) in
-        (Rises-behind (HasTurnIn setup history) 0 (heads history phase) thread next.rest turns).1
+        (Rises-after (HasTurnIn setup history) 0 (heads history phase) thread next.rest turns).1
 
--- the others that had a turn have one behind a step
+-- the others that had a turn have one after a step
 turns_left : (setup : Setup) (before : History) (step : Step) (rest : List ℕ) → Follows setup before step
     → Rises (HasTurnIn setup before) (suc step.turn.thread) rest → Rises (HasTurnIn setup (step ∷ before)) (suc step.turn.thread) rest
 turns_left setup before step rest follows =
@@ -68,13 +68,13 @@ in_order_next setup before step true is follows legal order due =
     let low : low_of before ≡ suc step.turn.thread = low_of_keeper before is ∙ ap suc (sym due.1) in
     record {
       rest = order.rest;
-      list = list_of_kept setup before step phase (omega arith) ∙ listed ∙ ap (λ front. front ++ order.rest) (sym (heads_keeper before step phase is));
+      list = list_of_kept setup before step phase (omega arith) ∙ listed ∙ ap (λ prefix. prefix ++ order.rest) (sym (heads_keeper before step phase is));
       turns = turns_left setup before step order.rest follows (subst (λ bound. Rises (HasTurnIn setup before) bound order.rest) low order.turns);
     }
 in_order_next setup before step false is follows legal order due =
     let phase : ℕ = step.turn.phase in
     let listed : heads before phase ++ step.turn.thread ∷ due.rest ≡ heads (step ∷ before) phase ++ due.rest =
-    sym (append_assoc (heads before phase) (step.turn.thread ∷ []) due.rest) ∙ ap (λ front. front ++ due.rest) (sym (heads_next before step is)) in
+    sym (append_assoc (heads before phase) (step.turn.thread ∷ []) due.rest) ∙ ap (λ prefix. prefix ++ due.rest) (sym (heads_next before step is)) in
     record {
       rest = due.rest;
       list = list_of_kept setup before step phase (omega arith) ∙ due.next ∙ listed;

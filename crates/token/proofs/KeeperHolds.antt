@@ -3,7 +3,7 @@ use Rattle.std.proofs.Common.{◌≡◌, ℕ, zero, suc, ◌+◌, ◌<◌, Bool,
 use Rattle.std.specs.Prelude.{slice_index_or}
 use Rattle.std.specs.List.{list_any}
 use Rattle.std.proofs.lemmas.Bool.{and_from, or_left, or_right}
-use Rattle.calls.specs.declared.limits.TheConstants.{OBJECTS}
+use Rattle.abi.specs.declared.limits.TheConstants.{OBJECTS}
 use Rattle.condvar_barrier.specs.Objects.{all_free, holds, holds_mutex, is_held_by}
 use Rattle.condvar_barrier.specs.Rows.{take_back}
 use Rattle.ecalls.specs.Request.{call_of}
@@ -128,9 +128,9 @@ holder_due setup before step kept follows =
           holder.1 ∙ sym (subst (λ (keeper : Bool). IsDue keeper setup before step.turn.phase step.turn.thread) holder.0 follows.order).1;
     }
 
-kept_behind : (setup : Setup) (before : History) (step : Step) → IsLegal setup before → Follows setup before step → IsKept setup before → IsKept setup (step ∷ before)
+kept_after : (setup : Setup) (before : History) (step : Step) → IsLegal setup before → Follows setup before step → IsKept setup before → IsKept setup (step ∷ before)
 unfolding present thread_of keeps last_outcome
-kept_behind setup before step legal follows kept =
+kept_after setup before step legal follows kept =
     let leaves = step_leaves setup before step legal follows kept.parked in
     record {
       parked = leaves.parked;
@@ -143,7 +143,7 @@ kept_behind setup before step legal follows kept =
 is_kept : (setup : Setup) (history : History) → IsLegal setup history → IsKept setup history
 unfolding IsLegal
 is_kept setup [] legal = kept_at_start setup
-is_kept setup (step ∷ before) legal = kept_behind setup before step legal.1 legal.0 (is_kept setup before legal.1)
+is_kept setup (step ∷ before) legal = kept_after setup before step legal.1 legal.0 (is_kept setup before legal.1)
 
 -- the law
 
@@ -167,7 +167,7 @@ unfolding holds_mutex holds
 none_else_holds setup history step legal follows thread mutex held =
     (holder_due setup history step (is_kept setup history legal) follows).only thread (one_holds (present setup history).objects.holders mutex thread held)
 
--- where a run stands behind a history
+-- where a run stands after a history
 pub held_by_keeper : (setup : Setup) (history : History) (state : State) (keeper : Option ℕ) (ended : Option RunOutcome) → IsLegal setup history → present setup history ≡ state
     → keeper_of history ≡ keeper → outcome setup history ≡ ended → ended ≡ None → IsHeldByKeeper state.objects keeper
 held_by_keeper setup history state keeper ended legal stands keeps is going thread mutex held =

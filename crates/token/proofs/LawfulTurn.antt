@@ -2,7 +2,7 @@
 use Rattle.std.proofs.Common.{◌≡◌, Option, Result, Ok, Err, OnOk, OnErr, ◌∷◌, sym, subst}
 use Rattle.token.specs.Point.{Point, moved, step_at}
 use Rattle.token.specs.Progress.{point_of}
-use Rattle.token.specs.Serial.{IsLawful, IsNeeded, StandsBehind}
+use Rattle.token.specs.Serial.{IsLawful, IsNeeded, StandsAfter}
 use Rattle.token.specs.declared.progress.Progress.{Progress}
 use Rattle.token.specs.declared.segment_end.SegmentEnd.{SegmentEnd}
 use Rattle.token.proofs.NextStep.{turn_stands}
@@ -11,6 +11,6 @@ pub lawful_behind : {E : Type 0} → (result : Result (Unit {0}) E) (old new : P
     → OnOk result (point_of new ≡ moved (point_of old) (step_at (point_of old) end)) → OnErr result (point_of new ≡ point_of old) → IsLawful new
 lawful_behind (Ok done) old new end lawful needed made kept = (
   step_at (point_of old) end ∷ lawful.0,
-  subst (λ (point : Point). StandsBehind point (step_at (point_of old) end ∷ lawful.0)) (sym made) (turn_stands (point_of old) lawful.0 end lawful.1 needed),
+  subst (λ (point : Point). StandsAfter point (step_at (point_of old) end ∷ lawful.0)) (sym made) (turn_stands (point_of old) lawful.0 end lawful.1 needed),
 )
-lawful_behind (Err error) old new end lawful needed made kept = (lawful.0, subst (λ (point : Point). StandsBehind point lawful.0) (sym kept) lawful.1)
+lawful_behind (Err error) old new end lawful needed made kept = (lawful.0, subst (λ (point : Point). StandsAfter point lawful.0) (sym kept) lawful.1)

@@ -2,9 +2,9 @@
 use Rattle.std.proofs.Common.{◌≡◌, ℕ, ◌+◌, Bool, true, false, ◌||◌, ◌==◌, nat_lt, if◌then◌else◌, Option, Some, is_some, Result, Ok, Err, OnOk, List, [], ◌∷◌, ◌++◌, length, drop, refl, ap, sym, ◌∙◌, subst}
 use Rattle.thread_table.specs.Threads.{serial_list}
 use Rattle.token.specs.History.{History, Follows, quiet_outcome}
-use Rattle.token.specs.Point.{Point, behind, change_of, moved, next_phase, passed_on, recorded, step_at}
+use Rattle.token.specs.Point.{Point, after_step, change_of, moved, next_phase, passed_on, recorded, step_at}
 use Rattle.token.specs.Progress.{point_of}
-use Rattle.token.specs.Serial.{IsAskedFor, IsLawful, IsLonger, IsNeeded, StandsBehind}
+use Rattle.token.specs.Serial.{IsAskedFor, IsLawful, IsLonger, IsNeeded, StandsAfter}
 use Rattle.token.specs.State.{State}
 use Rattle.token.specs.Turns.{Step}
 use Rattle.token.specs.declared.progress.Progress.{Progress}
@@ -36,22 +36,22 @@ passed_leaves point =
     by_test false true = record { setup = refl; state = refl; turns = refl; changes = refl; fresh_from = refl }
     by_test false false = record { setup = refl; state = refl; turns = refl; changes = refl; fresh_from = refl }
 
-drop_front : (front rest : List ℕ) → drop (length front) (front ++ rest) ≡ rest
-drop_front [] rest = drop_none rest
+drop_prefix : (prefix rest : List ℕ) → drop (length prefix) (prefix ++ rest) ≡ rest
+drop_prefix [] rest = drop_none rest
   where
     drop_none : (rest : List ℕ) → drop 0 rest ≡ rest
     drop_none [] = refl
     drop_none (n ∷ rest) = refl
-drop_front (n ∷ front) rest = drop_front front rest
+drop_prefix (n ∷ prefix) rest = drop_prefix prefix rest
 
 fresh_is : (old more whole : List ℕ) (from : ℕ) → whole ≡ old ++ more → from ≡ length old → whole ≡ old ++ drop from whole
 fresh_is old more whole from is at =
-    is ∙ ap (λ rest. old ++ rest) (sym (drop_front old more)) ∙ ap (λ (n : ℕ). old ++ drop n (old ++ more)) (sym at) ∙ ap (λ (all : List ℕ). old ++ drop from all) (sym is)
+    is ∙ ap (λ rest. old ++ rest) (sym (drop_prefix old more)) ∙ ap (λ (n : ℕ). old ++ drop n (old ++ more)) (sym at) ∙ ap (λ (all : List ℕ). old ++ drop from all) (sym is)
 
-moved_longer : (point : Point) (history : History) (step : Step) → StandsBehind point history → Follows point.setup history step → IsLonger point (moved point step)
-unfolding behind recorded
+moved_longer : (point : Point) (history : History) (step : Step) → StandsAfter point history → Follows point.setup history step → IsLonger point (moved point step)
+unfolding after_step recorded
 moved_longer point history step stands follows =
-    let leaves = passed_leaves (behind point step) in
+    let leaves = passed_leaves (after_step point step) in
     let grows = output_grows point.setup history step follows in
     let output : step.after.output ≡ point.state.output ++ grows.more = grows.is ∙ ap (λ (state : State). state.output ++ grows.more) stands.state in
     record {

@@ -16,7 +16,7 @@ use Rattle.thread_table.specs.declared.thread.Thread.{Thread}
 use Rattle.token.specs.History.{History, Follows, IsSegmentFrom, base_of, is_quiet, keeps, last_outcome, mutex_of, outcome, present, row_of, thread_of, version}
 use Rattle.token.specs.Point.{Point, IsEndOf, IsNeededAt, IsNeededBy, base_memory_at, base_number_at, base_row_at, due_at, memory_by, moved, need_at, need_by, ran_step, row_by, step_at, woken_step, work_at}
 use Rattle.token.specs.Progress.{CanRun, HasDue, MayTurn}
-use Rattle.token.specs.Serial.{StandsBehind}
+use Rattle.token.specs.Serial.{StandsAfter}
 use Rattle.token.specs.Shared.{committed_bytes}
 use Rattle.token.specs.State.{Setup, State}
 use Rattle.commit.specs.Patched.{patched}
@@ -36,7 +36,7 @@ record IsBase (point : Point) (keeper : Option ℕ) (thread number : ℕ) (base 
   memory : base.memory ≡ memory_by keeper point.base point.state.memory
   row : row_of base thread ≡ row_by keeper point.base_threads point.state thread
 
-base_by : (point : Point) (history : History) → StandsBehind point history → (keeper : Option ℕ) → point.keeper ≡ keeper → (thread : ℕ)
+base_by : (point : Point) (history : History) → StandsAfter point history → (keeper : Option ℕ) → point.keeper ≡ keeper → (thread : ℕ)
     → IsBase point keeper thread (base_of history point.phase false) (version point.setup history (base_of history point.phase false))
 base_by point history stands (Some keeper) is thread =
     let kept = keeper_is history keeper (stands.keeper ∙ is) in
@@ -57,7 +57,7 @@ base_by point history stands None is thread =
       row = ap (λ state. row_of state thread) there ∙ ap (λ threads. unwrap_or (slice_get threads thread) blank) stands.base_threads;
     }
 
-base_is : (point : Point) (history : History) → StandsBehind point history
+base_is : (point : Point) (history : History) → StandsAfter point history
     → IsBase point point.keeper (due_at point) (base_of history point.phase false) (version point.setup history (base_of history point.phase false))
 base_is point history stands = base_by point history stands point.keeper refl (due_at point)
 
@@ -82,7 +82,7 @@ by_bytes : (state : State) (phase thread number : ℕ) (copy : Memory) (executed
 unfolding run_step committed committed_bytes
 by_bytes state phase thread number copy executed end memory = refl
 
-same_step : (point : Point) (history : History) → StandsBehind point history → (end : SegmentEnd) (memory : Memory) → patched end.patch ≡ changes (base_memory_at point) memory
+same_step : (point : Point) (history : History) → StandsAfter point history → (end : SegmentEnd) (memory : Memory) → patched end.patch ≡ changes (base_memory_at point) memory
     → follower.ready_step point.setup history point.phase (due_at point) (ran_of end memory) ≡ ran_step point end
 unfolding ran_step base_number_at base_row_at base_memory_at
 same_step point history stands end memory patch =
@@ -161,13 +161,13 @@ running : (last : Option RunOutcome) (quiet : Bool) (there : RunOutcome) → (if
 running (Some ends) quiet there is = is
 running None quiet there is = refl
 
-cut_is : (point : Point) (history : History) → StandsBehind point history → point.ended ≡ None → last_outcome history ≡ None
+cut_is : (point : Point) (history : History) → StandsAfter point history → point.ended ≡ None → last_outcome history ≡ None
 unfolding outcome
 cut_is point history stands going = running (last_outcome history) (is_quiet point.setup history) _ (stands.ended ∙ going)
 
 -- the step follows
 
-run_follows : (point : Point) (history : History) (end : SegmentEnd) → StandsBehind point history → IsNeededAt point (Some end) → Follows point.setup history (ran_step point end)
+run_follows : (point : Point) (history : History) (end : SegmentEnd) → StandsAfter point history → IsNeededAt point (Some end) → Follows point.setup history (ran_step point end)
 unfolding due_at base_memory_at base_row_at work_at
 run_follows point history end stands needed =
     let all = run_needed point end needed in
@@ -184,7 +184,7 @@ run_follows point history end stands needed =
     subst (Follows point.setup history) (same_step point history stands end memory all.ended_so.patch)
     (follower.ready_follows point.setup history point.phase thread (ran_of end memory) ready (due_is point history stands all.going) segment (cut_is point history stands all.going))
 
-wake_follows : (point : Point) (history : History) → StandsBehind point history → IsNeededAt point None → Follows point.setup history (woken_step point)
+wake_follows : (point : Point) (history : History) → StandsAfter point history → IsNeededAt point None → Follows point.setup history (woken_step point)
 unfolding woken_step
 wake_follows point history stands needed =
     let all = wake_needed point needed in
@@ -198,7 +198,7 @@ wake_follows point history stands needed =
     subst (Follows point.setup history) same
     (follower.woken_follows point.setup history point.phase thread all.mutex woken (due_is point history stands all.going) (cut_is point history stands all.going))
 
-pub step_follows : (point : Point) (history : History) (end : Option SegmentEnd) → StandsBehind point history → IsNeededAt point end → Follows point.setup history (step_at point end)
+pub step_follows : (point : Point) (history : History) (end : Option SegmentEnd) → StandsAfter point history → IsNeededAt point end → Follows point.setup history (step_at point end)
 step_follows point history (Some end) stands needed = run_follows point history end stands needed
 step_follows point history None stands needed = wake_follows point history stands needed
 
@@ -211,14 +211,14 @@ unfolding ran_step woken_step wake_step
 phase_and_thread point (Some end) = (refl, refl)
 phase_and_thread point None = (refl, refl)
 
--- the run stands behind the longer history
-pub turn_stands : (point : Point) (history : History) (end : Option SegmentEnd) → StandsBehind point history → IsNeededAt point end
-    → StandsBehind (moved point (step_at point end)) (step_at point end ∷ history)
+-- the run stands after the longer history
+pub turn_stands : (point : Point) (history : History) (end : Option SegmentEnd) → StandsAfter point history → IsNeededAt point end
+    → StandsAfter (moved point (step_at point end)) (step_at point end ∷ history)
 turn_stands point history end stands needed =
     let same = phase_and_thread point end in
     stands_next point history (step_at point end) stands (step_follows point history end stands needed) same.0 same.1 (stands.next (is_going point end needed))
 
-pub needed_due : (point : Point) (history : History) (end : Option SegmentEnd) → StandsBehind point history → IsNeededAt point end → HasDue point
+pub needed_due : (point : Point) (history : History) (end : Option SegmentEnd) → StandsAfter point history → IsNeededAt point end → HasDue point
 needed_due point history end stands needed = has_due point history stands (is_going point end needed)
 
 -- a segment executes no more than it may
@@ -277,7 +277,7 @@ count_within hart memory left quantum stop count last_hart last_memory segment =
         other_stop same = cc
 
 -- the next thread may end its segment so
-pub can_run : (point : Point) (history : History) (end : SegmentEnd) → StandsBehind point history → IsNeededAt point (Some end) → CanRun point end
+pub can_run : (point : Point) (history : History) (end : SegmentEnd) → StandsAfter point history → IsNeededAt point (Some end) → CanRun point end
 unfolding due_at work_at
 can_run point history end stands needed =
     let all = run_needed point end needed in
@@ -288,7 +288,7 @@ can_run point history end stands needed =
     }
 
 -- the next thread may have its turn
-pub may_turn : (point : Point) (history : History) (end : Option SegmentEnd) → StandsBehind point history → IsNeededAt point end → MayTurn point end
+pub may_turn : (point : Point) (history : History) (end : Option SegmentEnd) → StandsAfter point history → IsNeededAt point end → MayTurn point end
 may_turn point history (Some end) stands needed = can_run point history end stands needed
 may_turn point history None stands needed =
     let all = wake_needed point needed in

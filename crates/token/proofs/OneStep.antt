@@ -12,15 +12,15 @@ use Rattle.token.specs.History.{History, Follows, IsNextOfList, IsDue, RunsPriva
 use Rattle.token.proofs.SegmentEnds.{one_end}
 
 -- the next of a list is determined
-same_next : (list front : List ℕ) (one other : ℕ) (rest more : List ℕ) → list ≡ front ++ one ∷ rest → list ≡ front ++ other ∷ more → one ≡ other
-same_next list front one other rest more first second =
-    let tails : one ∷ rest ≡ other ∷ more = append_cancel_left front _ _ (sym first ∙ second) in
+same_next : (list prefix : List ℕ) (one other : ℕ) (rest more : List ℕ) → list ≡ prefix ++ one ∷ rest → list ≡ prefix ++ other ∷ more → one ≡ other
+same_next list prefix one other rest more first second =
+    let tails : one ∷ rest ≡ other ∷ more = append_cancel_left prefix _ _ (sym first ∙ second) in
     cc
 
 -- a list that is used up has no next
-pub used_up : (list front : List ℕ) (thread : ℕ) (rest : List ℕ) → length list ≡ length front → list ≡ front ++ thread ∷ rest → ⊥
-used_up list front thread rest same next =
-    let longer = ap length next ∙ length-append front (thread ∷ rest) in
+pub used_up : (list prefix : List ℕ) (thread : ℕ) (rest : List ℕ) → length list ≡ length prefix → list ≡ prefix ++ thread ∷ rest → ⊥
+used_up list prefix thread rest same next =
+    let longer = ap length next ∙ length-append prefix (thread ∷ rest) in
     omega arith
 
 abbrev Same : ℕ → ℕ → ℕ → ℕ → Type 0

@@ -1,7 +1,7 @@
 -- No turn shortens the output.
 use Rattle.std.proofs.Common.{◌≡◌, ℕ, ◌%◌, Bool, true, false, ◌==◌, if◌then◌else◌, Option, Some, None, List, [], ◌++◌, refl, sym, subst, append-nil}
-use Rattle.calls.specs.declared.call.Call.{Call}
-use Rattle.calls.specs.declared.call.Call.TheVariants as call
+use Rattle.abi.specs.declared.call.Call.{Call}
+use Rattle.abi.specs.declared.call.Call.TheVariants as call
 use Rattle.condvar_barrier.specs.Objects.{ObjectState}
 use Rattle.condvar_barrier.specs.Rows.{Outcome}
 use Rattle.ecalls.specs.Request.{call_of}
@@ -22,7 +22,7 @@ pub record Extends (output other : List ℕ) : Type 0 where
 same_output : (output : List ℕ) → Extends output output
 same_output output = record { more = []; is = sym (append-nil output) }
 
--- the output behind a call begins with that before it
+-- the output after a call begins with that before it
 abbrev Writes : State → Effect → Type 0
 Writes state outcome = Extends state.output outcome.state.output
 

@@ -1,14 +1,14 @@
--- Who holds a mutex behind its own call is ready.
+-- Who holds a mutex after its own call is ready.
 use Rattle.std.proofs.Common.{◌≡◌, ℕ, ◌+◌, ◌%◌, Bool, true, false, not, ◌||◌, ◌==◌, nat_le, nat_lt, if◌then◌else◌, Option, Some, None, List, [], ◌∷◌, length, map, take, slice_get, unwrap_or, refl, ap, sym, ◌∙◌, subst}
 use Rattle.std.specs.List.{cons_option, filter_map, list_any}
 use Rattle.std.proofs.lemmas.Bool.{or_from, or_parts}
-use Rattle.calls.specs.declared.call.Call.{Call}
-use Rattle.calls.specs.declared.call.Call.TheVariants as call
-use Rattle.calls.specs.declared.code.Code.{Code}
-use Rattle.calls.specs.declared.code.Code.TheVariants.{Done as Success, NoSuchThread}
-use Rattle.calls.specs.declared.limits.TheConstants.{OBJECTS, BARRIER_COUNT, TRANSFER, OUTPUT}
-use Rattle.calls.specs.declared.reply.Reply.{Reply}
-use Rattle.calls.specs.declared.reply.Reply.TheVariants.{Completed, Waits, Ends}
+use Rattle.abi.specs.declared.call.Call.{Call}
+use Rattle.abi.specs.declared.call.Call.TheVariants as call
+use Rattle.abi.specs.declared.code.Code.{Code}
+use Rattle.abi.specs.declared.code.Code.TheVariants.{Done as Success, NoSuchThread}
+use Rattle.abi.specs.declared.limits.TheConstants.{OBJECTS, BARRIER_COUNT, TRANSFER, OUTPUT}
+use Rattle.abi.specs.declared.reply.Reply.{Reply}
+use Rattle.abi.specs.declared.reply.Reply.TheVariants.{Completed, Waits, Ends}
 use Rattle.condvar_barrier.proofs.Leaving.{queued_thread}
 use Rattle.condvar_barrier.specs.Objects as objects
 use Rattle.condvar_barrier.specs.Objects.{ObjectState, holds, is_among, is_held_by, queued_at, with_holder, with_waiter}
@@ -25,7 +25,7 @@ use Rattle.thread_table.specs.declared.status.Status.{Status}
 use Rattle.thread_table.specs.declared.status.Status.TheVariants.{Ready, Woken, Blocked, Done}
 use Rattle.thread_table.specs.declared.thread.Thread.{Thread}
 use Rattle.token.specs.Effects as effects
-use Rattle.token.specs.Effects.{Effect, behind_reply, by_objects, call_finished, completed, create_numbered, effect, is_mapped_heap, is_page_count, is_permitted_range, let_pass, settled, wake_up, with_outcome}
+use Rattle.token.specs.Effects.{Effect, after_reply, by_objects, call_finished, completed, create_numbered, effect, is_mapped_heap, is_page_count, is_permitted_range, let_pass, settled, wake_up, with_outcome}
 use Rattle.token.specs.State.{State, hart_at, with_thread}
 use Rattle.token.proofs.Parked.{is_one_of, wake_up-other}
 use Rattle.token.proofs.Statuses.{status_at, status_of_more, status_of_others}
@@ -91,9 +91,9 @@ join_is_no_wait threads caller n = by_test (n == caller)
     by_test true = refl
     by_test false = by_place (slice_get threads n)
 
--- behind an effect its caller is ready, where it holds a mutex
+-- after an effect its caller is ready, where it holds a mutex
 pub record IsReadyHolder (thread : ℕ) (effect : Effect) : Type 0 where
-  pub ready : holds effect.state.objects thread ≡ true → is_ready (status_at (behind_reply effect.state.threads thread effect.reply) thread) ≡ true
+  pub ready : holds effect.state.objects thread ≡ true → is_ready (status_at (after_reply effect.state.threads thread effect.reply) thread) ≡ true
 
 module _ (state : State) (thread : ℕ) where
   record IsReadyOutcome (outcome : Outcome) : Type 0 where
@@ -116,23 +116,23 @@ module _ (state : State) (thread : ℕ) where
     ready_kept : (code : Code) (value : Option ℕ) {other : State} → other.threads ≡ state.threads → IsReadyHolder thread (record { reply = Completed code value; state = other })
     ready_kept code value {other} threads = record { ready = λ held. completes code value _ (ap (λ threads. is_ready (status_at threads thread)) threads ∙ ready) }
 
-    ready_replied : (code : Code) (value : Option ℕ) (behind : ObjectState) → IsReadyOutcome (row.replied (Completed code value) behind)
+    ready_replied : (code : Code) (value : Option ℕ) (after : ObjectState) → IsReadyOutcome (row.replied (Completed code value) after)
     unfolding let_pass wake_up
-    ready_replied code value behind = record { fine = record { ready = λ held. completes code value state.threads ready } }
+    ready_replied code value after = record { fine = record { ready = λ held. completes code value state.threads ready } }
 
-    ready_waits : (behind : ObjectState) → holds behind thread ≡ false → IsReadyOutcome (row.replied Waits behind)
+    ready_waits : (after : ObjectState) → holds after thread ≡ false → IsReadyOutcome (row.replied Waits after)
     unfolding let_pass wake_up
-    ready_waits behind free = record { fine = record { ready = λ held. cc } }
+    ready_waits after free = record { fine = record { ready = λ held. cc } }
 
-    ready_wakes : (woken : List WokenThread) (behind : ObjectState) → is_one_of thread (map (λ (one : WokenThread). one.thread) woken) ≡ false
-        → IsReadyOutcome (row.woke (Completed Success (Some (length woken))) woken behind)
+    ready_wakes : (woken : List WokenThread) (after : ObjectState) → is_one_of thread (map (λ (one : WokenThread). one.thread) woken) ≡ false
+        → IsReadyOutcome (row.woke (Completed Success (Some (length woken))) woken after)
     unfolding let_pass wake_up
-    ready_wakes woken behind others =
+    ready_wakes woken after others =
         record { fine = record { ready = λ held. completes Success (Some (length woken)) _ (ap (λ place. is_ready (unwrap_or place blank).status) (wake_up-other woken state.threads thread others) ∙ ready) } }
 
-    ready_passes : (numbers : List ℕ) (behind : ObjectState) → IsReadyOutcome (row.let_pass (Completed Success (Some 1)) numbers behind)
+    ready_passes : (numbers : List ℕ) (after : ObjectState) → IsReadyOutcome (row.let_pass (Completed Success (Some 1)) numbers after)
     unfolding wake_up
-    ready_passes numbers behind = record { fine = record { ready = λ held. completes Success (Some 1) _ (let_pass_ready thread 0 numbers state.threads ready) } }
+    ready_passes numbers after = record { fine = record { ready = λ held. completes Success (Some 1) _ (let_pass_ready thread 0 numbers state.threads ready) } }
 
     ready_by_objects : (row : ObjectState → Outcome) → IsReadyOutcome (row state.objects) → IsReadyHolder thread (by_objects row state)
     unfolding by_objects
@@ -192,7 +192,7 @@ module _ (state : State) (thread : ℕ) where
     ready_join n =
         record { ready = λ held. by_reply _ (subst (λ (holds_lock : Bool). is_wait (join_reply state.threads thread n holds_lock) ≡ false) (sym held) (join_is_no_wait state.threads thread n)) }
       where
-        by_reply : (reply : Reply) → is_wait reply ≡ false → is_ready (status_at (behind_reply (table.behind_reply state.threads thread reply) thread reply) thread) ≡ true
+        by_reply : (reply : Reply) → is_wait reply ≡ false → is_ready (status_at (after_reply (table.after_reply state.threads thread reply) thread reply) thread) ≡ true
         by_reply (Completed code value) no_wait = completes code value state.threads ready
         by_reply Waits no_wait = cc
         by_reply Ends no_wait = ready
@@ -241,7 +241,7 @@ module _ (state : State) (thread : ℕ) where
     ready_effect (call.Release address count) = ready_release address count
     ready_effect (call.Unknown number) = ready_kept _ _ refl
 
--- who holds a mutex behind its call is ready, where it was ready before
+-- who holds a mutex after its call is ready, where it was ready before
 pub ready_settled : (state : State) (thread : ℕ) (what : Call) → is_ready (status_at state.threads thread) ≡ true → is_among thread state.objects.waiters ≡ false
     → holds (settled thread (effect state thread what)).objects thread ≡ true → is_ready (status_at (settled thread (effect state thread what)).threads thread) ≡ true
 unfolding settled

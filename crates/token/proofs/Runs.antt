@@ -143,27 +143,27 @@ option_map-twice : (cell : Option Cell) (f g h : Cell → Cell) → ((c : Cell) 
 option_map-twice None f g h same = refl
 option_map-twice (Some c) f g h same = ap Some (same c)
 
--- what stands at an address behind a store of some bytes
+-- what stands at an address after a store of some bytes
 abbrev stored : ℕ → List ℕ → ℕ → Cell → Cell
 stored start bytes x cell = if is_among start (length bytes) x then record { perm = cell.perm; byte = slice_index bytes (x - start) } else cell
 
-stored_more : (start : ℕ) (front back : List ℕ) (x : ℕ) (cell : Cell) → stored (start + length front) back x (stored start front x cell) ≡ stored start (front ++ back) x cell
-stored_more start front back x cell =
-    let count : ℕ = length front in
-    let longer : length (front ++ back) ≡ length front + length back = length-append front back in
+stored_more : (start : ℕ) (prefix back : List ℕ) (x : ℕ) (cell : Cell) → stored (start + length prefix) back x (stored start prefix x cell) ≡ stored start (prefix ++ back) x cell
+stored_more start prefix back x cell =
+    let count : ℕ = length prefix in
+    let longer : length (prefix ++ back) ≡ length prefix + length back = length-append prefix back in
     elim (cases_lt x (start + count)) [
       | inl below ↦ elim (cases_lt x start) [
         | inl before ↦
-            rw (is_among-outside (start + length front) (length back) x (λ above. omega arith), is_among-outside start (length front) x (λ above. omega arith), is_among-outside start (length (front ++ back)) x (λ above. omega arith)) refl
+            rw (is_among-outside (start + length prefix) (length back) x (λ above. omega arith), is_among-outside start (length prefix) x (λ above. omega arith), is_among-outside start (length (prefix ++ back)) x (λ above. omega arith)) refl
         | inr above ↦
-            rw (is_among-outside (start + length front) (length back) x (λ past. omega arith), is_among-inside start (length front) x above below, is_among-inside start (length (front ++ back)) x above (omega arith), get_or_append_left front back 0 (x - start) (omega arith)) refl
+            rw (is_among-outside (start + length prefix) (length back) x (λ past. omega arith), is_among-inside start (length prefix) x above below, is_among-inside start (length (prefix ++ back)) x above (omega arith), get_or_append_left prefix back 0 (x - start) (omega arith)) refl
       ]
       | inr past ↦ elim (cases_lt x (start + count + length back)) [
         | inl within ↦
-            (let place : x - start - length front ≡ x - (start + length front) = omega arith in
-            rw (is_among-inside (start + length front) (length back) x past within, is_among-outside start (length front) x (λ above. past), is_among-inside start (length (front ++ back)) x (omega arith) (omega arith), get_or-append_right front back (x - start) 0 (omega arith), place) refl)
+            (let place : x - start - length prefix ≡ x - (start + length prefix) = omega arith in
+            rw (is_among-inside (start + length prefix) (length back) x past within, is_among-outside start (length prefix) x (λ above. past), is_among-inside start (length (prefix ++ back)) x (omega arith) (omega arith), get_or-append_right prefix back (x - start) 0 (omega arith), place) refl)
         | inr beyond ↦
-            rw (is_among-outside (start + length front) (length back) x (λ above. beyond), is_among-outside start (length front) x (λ above. past), is_among-outside start (length (front ++ back)) x (λ above. omega arith)) refl
+            rw (is_among-outside (start + length prefix) (length back) x (λ above. beyond), is_among-outside start (length prefix) x (λ above. past), is_among-outside start (length (prefix ++ back)) x (λ above. omega arith)) refl
       ]
     ]
 

@@ -21,7 +21,7 @@ last_of ran = (ran.hart, ran.memory)
 same_parts : (one other : Ran) → one.hart ≡ other.hart → one.memory ≡ other.memory → one.stop ≡ other.stop → one.count ≡ other.count → one ≡ other
 same_parts one other hart memory stop count = λ i. record { hart = hart i; memory = memory i; stop = stop i; count = count i }
 
--- a segment doesn't go on behind the end of another
+-- a segment doesn't go on after the end of another
 not_shorter : (hart : HartState) (memory : Memory) (left : ℕ) (quantum : Option ℕ) (one other : Ran) (ends : IsRan hart memory left quantum one)
     → (goes : IsRan hart memory left quantum other) → ends.steps < goes.steps → ⊥
 not_shorter hart memory left quantum one other ends goes shorter =

@@ -23,10 +23,10 @@ Rises-below P low lower (n ∷ numbers) below rises =
     let within = rises.0 in
     (omega arith, rises.1, rises.2)
 
--- behind a number of the list
-pub Rises-behind : (P : ℕ → Type 0) (low : ℕ) (front : List ℕ) (n : ℕ) (rest : List ℕ) → Rises P low (front ++ n ∷ rest) → P n × Rises P (suc n) rest
-Rises-behind P low [] n rest rises = (rises.1, rises.2)
-Rises-behind P low (m ∷ front) n rest rises = Rises-behind P (suc m) front n rest rises.2
+-- after a number of the list
+pub Rises-after : (P : ℕ → Type 0) (low : ℕ) (prefix : List ℕ) (n : ℕ) (rest : List ℕ) → Rises P low (prefix ++ n ∷ rest) → P n × Rises P (suc n) rest
+Rises-after P low [] n rest rises = (rises.1, rises.2)
+Rises-after P low (m ∷ prefix) n rest rises = Rises-after P (suc m) prefix n rest rises.2
 
 -- the numbers of the threads that have a turn
 picked : (P : ℕ → Type 0) (low : ℕ) (thread : Thread) (rest : List (ℕ × Thread)) (passes : Bool) → (passes ≡ true → P low)

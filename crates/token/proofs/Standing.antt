@@ -1,12 +1,12 @@
--- A run that stands behind a history stands behind the longer one once its next step is made.
+-- A run that stands after a history stands after the longer one once its next step is made.
 use Rattle.std.proofs.Common.{◌≡◌, ℕ, zero, suc, ◌+◌, ◌<◌, ◌≤◌, ◌^◌, Bool, true, false, not, ◌||◌, ◌==◌, nat_lt, if◌then◌else◌, Option, Some, None, is_some, List, [], ◌∷◌, ◌++◌, length, take, refl, ap, sym, ◌∙◌, subst, inl, inr, arith, length-append}
 use Rattle.std.proofs.lemmas.Bool.{and_left, and_right, eq-eqb, eqb-false, ne_eqb, ltb-true, ltb-false, not_from_true}
 use Rattle.std.proofs.lemmas.List.{take_more, length-take-le}
 use Rattle.thread_table.specs.Threads.{serial_list}
 use Rattle.thread_table.specs.declared.thread.Thread.{Thread}
 use Rattle.token.specs.History.{History, Follows, IsLegal, first_version, heads, is_quiet, keeper_of, keeps, last_outcome, list_of, outcome, phase_of, present, quiet_outcome, thread_of, turns_of, version}
-use Rattle.token.specs.Point.{Point, behind, change_of, due_at, due_by, keeper_behind, moved, next_phase, passed_on, recorded}
-use Rattle.token.specs.Serial.{StandsBehind, changes_of}
+use Rattle.token.specs.Point.{Point, after_step, change_of, due_at, due_by, keeper_after, moved, next_phase, passed_on, recorded}
+use Rattle.token.specs.Serial.{StandsAfter, changes_of}
 use Rattle.token.specs.State.{Setup, State}
 use Rattle.token.specs.Turns.{Step}
 use Rattle.token.specs.declared.outcome.RunOutcome.{RunOutcome}
@@ -14,7 +14,7 @@ use Rattle.token.proofs.KeeperHolds.{held_by_keeper}
 use Rattle.token.proofs.Outputs.{output_grows}
 use Rattle.token.proofs.Versions.{first_version_kept, first_version_next, first_version_within, heads_keeper, heads_next, heads_none, version_last, version_older}
 
--- a run stands behind a history in the phase of its last turn
+-- a run stands after a history in the phase of its last turn
 pub record StandsIn (point : Point) (history : History) : Type 0 where
   pub legal : IsLegal point.setup history
   pub turns : turns_of history ≡ point.turns
@@ -70,19 +70,19 @@ heads_behind : (history : History) (step : Step) (phase given : ℕ) (list : Lis
 heads_behind history step phase given list (Some keeper) keeps now same thread listed = heads_keeper history step phase (keeper_is history keeper keeps).0 ∙ now
 heads_behind history step phase given list None keeps now same thread listed =
     let more = subst (λ p. heads (step ∷ history) p ≡ heads history p ++ step.turn.thread ∷ []) same (heads_next history step (no_keeper history keeps)) in
-    more ∙ ap (λ front. front ++ step.turn.thread ∷ []) now ∙ ap (λ n. take given list ++ n ∷ []) thread ∙ sym (take_more list given 0 (listed refl))
+    more ∙ ap (λ prefix. prefix ++ step.turn.thread ∷ []) now ∙ ap (λ n. take given list ++ n ∷ []) thread ∙ sym (take_more list given 0 (listed refl))
 
 within_behind : (given : ℕ) (list : List ℕ) (keeper : Option ℕ) → given ≤ length list → (keeper ≡ None → given < length list) → (if is_some keeper then given else given + 1) ≤ length list
 within_behind given list (Some keeper) within listed = within
 within_behind given list None within listed = let below = listed refl in omega arith
 
-keeper_made : (history : History) (step : Step) → keeper_of (step ∷ history) ≡ keeper_behind step.after step.turn.thread step.turn.stop
-unfolding keeps last_outcome thread_of keeper_behind
+keeper_made : (history : History) (step : Step) → keeper_of (step ∷ history) ≡ keeper_after step.after step.turn.thread step.turn.stop
+unfolding keeps last_outcome thread_of keeper_after
 keeper_made history step = refl
 
-stands_in : (point : Point) (history : History) (step : Step) → StandsBehind point history → Follows point.setup history step → step.turn.phase ≡ point.phase
-    → step.turn.thread ≡ due_at point → (point.keeper ≡ None → point.given < length point.list) → StandsIn (behind point step) (step ∷ history)
-unfolding behind recorded IsLegal turns_of changes_of present last_outcome phase_of due_at
+stands_in : (point : Point) (history : History) (step : Step) → StandsAfter point history → Follows point.setup history step → step.turn.phase ≡ point.phase
+    → step.turn.thread ≡ due_at point → (point.keeper ≡ None → point.given < length point.list) → StandsIn (after_step point step) (step ∷ history)
+unfolding after_step recorded IsLegal turns_of changes_of present last_outcome phase_of due_at
 stands_in point history step stands follows same thread listed =
     let begins : first_version (step ∷ history) point.phase ≡ point.first = first_version_kept history step point.phase (omega arith) ∙ stands.first in
     let first : point.first ≤ length history = subst (λ n. n ≤ length history) stands.first (first_version_within history point.phase) in
@@ -155,7 +155,7 @@ lively_by point history stands goes false keeper running =
     let list = ap length (last_list point history stands) in
     and_right (not (keeps history)) _ (and_left (length (heads history (phase_of history)) == length (list_of point.setup history (phase_of history))) _ (ne_eqb _ _ (λ same. omega arith)))
 
-goes : (point : Point) (history : History) → StandsIn point history → goes_on point ≡ true → StandsBehind point history
+goes : (point : Point) (history : History) → StandsIn point history → goes_on point ≡ true → StandsAfter point history
 unfolding outcome
 goes point history stands on =
     let ended : outcome point.setup history ≡ point.ended = outcome_of_last (last_outcome history) (is_quiet point.setup history) _ (lively_by point history stands on (keeps history) refl) ∙ stands.ended in
@@ -193,7 +193,7 @@ quiet_if point history stands free used empty is =
 
 -- the run ends
 ends : (point : Point) (history : History) → StandsIn point history → point.ended ≡ None → is_quiet point.setup history ≡ true
-    → StandsBehind (record point { ended = Some (quiet_outcome point.state) }) history
+    → StandsAfter (record point { ended = Some (quiet_outcome point.state) }) history
 unfolding outcome
 ends point history stands running quiet =
     let last : last_outcome history ≡ None = stands.ended ∙ running in
@@ -221,7 +221,7 @@ ends point history stands running quiet =
 -- the next phase begins
 begins : (point : Point) (history : History) → StandsIn point history → point.ended ≡ None → point.keeper ≡ None → length point.list ≤ point.given
     → is_quiet point.setup history ≡ false → (length (serial_list point.state.threads) == 0) ≡ false
-    → StandsBehind
+    → StandsAfter
     (record point { phase = point.phase + 1; first = length point.turns; base = point.state.memory; base_threads = point.state.threads; list = serial_list point.state.threads; given = 0 })
     history
 unfolding outcome
@@ -269,7 +269,7 @@ begins point history stands running free used lively filled =
     take_all zero (m ∷ list) within = absurd (omega arith)
     take_all (suc n) (m ∷ list) within = ap (λ rest. m ∷ rest) (take_all n list (omega arith))
 
-next_stands : (point : Point) (history : History) → StandsIn point history → goes_on point ≡ false → StandsBehind (next_phase point (serial_list point.state.threads)) history
+next_stands : (point : Point) (history : History) → StandsIn point history → goes_on point ≡ false → StandsAfter (next_phase point (serial_list point.state.threads)) history
 unfolding next_phase
 next_stands point history stands over =
     let parts = used_up point.ended point.keeper (nat_lt point.given (length point.list)) over in
@@ -277,7 +277,7 @@ next_stands point history stands over =
   where
     by_list : (point : Point) (history : History) → StandsIn point history → point.ended ≡ None → point.keeper ≡ None → length point.list ≤ point.given → (empty : Bool)
         → (length (serial_list point.state.threads) == 0) ≡ empty
-        → StandsBehind
+        → StandsAfter
         (if empty then record point { ended = Some (quiet_outcome point.state) }
         else record point { phase = point.phase + 1; first = length point.turns; base = point.state.memory; base_threads = point.state.threads; list = serial_list point.state.threads; given = 0 })
         history
@@ -286,17 +286,17 @@ next_stands point history stands over =
     by_list point history stands running free used false is =
         begins point history stands running free used (quiet_if point history stands (no_keeper history (stands.keeper ∙ free)) used false is) is
 
--- behind a step in its phase the run passes on
-pub passes_on : (point : Point) (history : History) → StandsIn point history → StandsBehind (passed_on point) history
+-- after a step in its phase the run passes on
+pub passes_on : (point : Point) (history : History) → StandsIn point history → StandsAfter (passed_on point) history
 unfolding passed_on
 passes_on point history stands = by_test (goes_on point) refl
   where
-    by_test : (on : Bool) → goes_on point ≡ on → StandsBehind (if on then point else next_phase point (serial_list point.state.threads)) history
+    by_test : (on : Bool) → goes_on point ≡ on → StandsAfter (if on then point else next_phase point (serial_list point.state.threads)) history
     by_test true is = goes point history stands is
     by_test false is = next_stands point history stands is
 
--- behind a step that follows
-pub stands_next : (point : Point) (history : History) (step : Step) → StandsBehind point history → Follows point.setup history step → step.turn.phase ≡ point.phase
-    → step.turn.thread ≡ due_at point → (point.keeper ≡ None → point.given < length point.list) → StandsBehind (moved point step) (step ∷ history)
+-- after a step that follows
+pub stands_next : (point : Point) (history : History) (step : Step) → StandsAfter point history → Follows point.setup history step → step.turn.phase ≡ point.phase
+    → step.turn.thread ≡ due_at point → (point.keeper ≡ None → point.given < length point.list) → StandsAfter (moved point step) (step ∷ history)
 stands_next point history step stands follows same thread listed =
-    passes_on (behind point step) (step ∷ history) (stands_in point history step stands follows same thread listed)
+    passes_on (after_step point step) (step ∷ history) (stands_in point history step stands follows same thread listed)

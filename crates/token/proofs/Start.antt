@@ -1,9 +1,9 @@
--- A run that begins stands behind the history without a turn.
+-- A run that begins stands after the history without a turn.
 use Rattle.std.proofs.Common.{◌≡◌, ℕ, ◌≤◌, ◌^◌, None, List, [], ◌∷◌, length, take, refl, ap, sym, ◌∙◌, subst, inl, arith}
 use Rattle.thread_table.specs.Threads.{numbers_where, serial_list}
 use Rattle.token.specs.History.{IsLegal, first_version, heads, is_quiet, keeps, last_outcome, list_of, outcome, phase_of, present, turns_of, version}
 use Rattle.token.specs.Point.{Point}
-use Rattle.token.specs.Serial.{StandsBehind, changes_of}
+use Rattle.token.specs.Serial.{StandsAfter, changes_of}
 use Rattle.guest_memory.specs.Memory.{Memory}
 use Rattle.token.specs.State.{Setup, State, first_state, started_state}
 use Rattle.token.proofs.KeeperHolds.{held_by_keeper}
@@ -39,7 +39,7 @@ no_heads given list is = subst (λ n. [] ≡ take n list) (sym is) (none list)
     none [] = refl
     none (n ∷ list) = refl
 
-pub stands_at_start : (point : Point) → Begins point → StandsBehind point []
+pub stands_at_start : (point : Point) → Begins point → StandsAfter point []
 unfolding IsLegal turns_of changes_of present first_version version heads keeps phase_of
 stands_at_start point begins =
     let given = begins.given in

@@ -1,10 +1,10 @@
 -- A turn leaves the other threads their turns.
 use Rattle.std.proofs.Common.{◌≡◌, ◌≢◌, ℕ, zero, suc, ◌<◌, ◌≤◌, ◌%◌, Bool, true, false, ◌==◌, if◌then◌else◌, Option, Some, None, List, [], ◌∷◌, ◌++◌, length, map, slice_get, unwrap_or, refl, ap, sym, subst, arith, length-append, length-set}
 use Rattle.std.proofs.lemmas.List.{length-map}
-use Rattle.calls.specs.declared.call.Call.{Call}
-use Rattle.calls.specs.declared.call.Call.TheVariants as call
-use Rattle.calls.specs.declared.reply.Reply.{Reply}
-use Rattle.calls.specs.declared.reply.Reply.TheVariants.{Completed, Waits, Ends}
+use Rattle.abi.specs.declared.call.Call.{Call}
+use Rattle.abi.specs.declared.call.Call.TheVariants as call
+use Rattle.abi.specs.declared.reply.Reply.{Reply}
+use Rattle.abi.specs.declared.reply.Reply.TheVariants.{Completed, Waits, Ends}
 use Rattle.condvar_barrier.specs.Objects.{ObjectState, holds}
 use Rattle.condvar_barrier.specs.Rows.{Outcome}
 use Rattle.condvar_barrier.specs.declared.woken.Woken.{Woken as WokenThread}
@@ -23,7 +23,7 @@ use Rattle.guest_memory.specs.Memory.{Memory}
 use Rattle.token.specs.State.{Setup, State, hart_at, with_thread, with_thread_by}
 use Rattle.token.specs.History.{History, Follows, present, row_of, step_of, version}
 use Rattle.token.specs.Turns.{Ran, Step, after_stop, committed, run_step, wake_step}
-use Rattle.token.specs.Effects.{Effect, behind_reply, by_objects, create, create_numbered, effect, join, let_pass, new_pages, read, release, settled, thread_exit, wake_up, write}
+use Rattle.token.specs.Effects.{Effect, after_reply, by_objects, create, create_numbered, effect, join, let_pass, new_pages, read, release, settled, thread_exit, wake_up, write}
 
 -- the status of a thread
 abbrev pub status_at : List Thread → ℕ → Status
@@ -171,7 +171,7 @@ unfolding release
 release_kept n state address count = search (as_it_was, either_kept)
 
 -- the caller of join is blocked where it waits
-waiting_kept : (n : ℕ) (threads : List Thread) (thread : ℕ) (reply : Reply) → n ≢ thread → Keeps n threads (table.behind_reply threads thread reply)
+waiting_kept : (n : ℕ) (threads : List Thread) (thread : ℕ) (reply : Reply) → n ≢ thread → Keeps n threads (table.after_reply threads thread reply)
 waiting_kept n threads thread (Completed code value) other = as_it_was n threads
 waiting_kept n threads thread Waits other = status_kept n thread threads Blocked (λ same. absurd (other same))
 waiting_kept n threads thread Ends other = as_it_was n threads
@@ -199,7 +199,7 @@ effect_kept n state thread call.Sync other = as_it_was n state.threads
 effect_kept n state thread (call.Release address count) other = release_kept n state address count
 effect_kept n state thread (call.Unknown number) other = as_it_was n state.threads
 
-reply_kept : (n : ℕ) (threads : List Thread) (thread : ℕ) (reply : Reply) → n ≢ thread → Keeps n threads (behind_reply threads thread reply)
+reply_kept : (n : ℕ) (threads : List Thread) (thread : ℕ) (reply : Reply) → n ≢ thread → Keeps n threads (after_reply threads thread reply)
 reply_kept n threads thread (Completed code value) other = changed_kept n thread threads _ (λ same row has. has)
 reply_kept n threads thread Waits other = status_kept n thread threads Blocked (λ same. absurd (other same))
 reply_kept n threads thread Ends other = as_it_was n threads

@@ -5,7 +5,7 @@ use Rattle.token.specs.History.{History, Follows, IsLegal, IsDue, IsNextOfList, 
 use Rattle.token.specs.State.{Setup}
 use Rattle.token.specs.Turns.{Step}
 use Rattle.token.proofs.InOrder.{in_order, low_of}
-use Rattle.token.proofs.SerialList.{Rises, Rises-behind, serial_list_rises}
+use Rattle.token.proofs.SerialList.{Rises, Rises-after, serial_list_rises}
 use Rattle.token.proofs.Statuses.{HasTurnIn, threads_grow}
 use Rattle.token.proofs.Versions.{list_of_next}
 
@@ -28,7 +28,7 @@ next_has_turn setup history phase thread legal next =
     in_new setup history phase thread legal next there =
         let listed = sym (list_of_next setup history phase legal (omega arith)) ∙ next.next in
         let turns = subst (Rises (HasTurnIn setup history) 0) listed (serial_list_rises (present setup history).threads) in
-        (Rises-behind (HasTurnIn setup history) 0 (heads history phase) thread next.rest turns).0
+        (Rises-after (HasTurnIn setup history) 0 (heads history phase) thread next.rest turns).0
 
 due_there : (setup : Setup) (before : History) (phase thread : ℕ) → IsLegal setup before → (keeper : Bool) → keeps before ≡ keeper → IsDue keeper setup before phase thread
     → (keeps before ≡ true → thread_of before < length (present setup before).threads) → thread < length (present setup before).threads

@@ -43,18 +43,18 @@ next_phase : (setup : Setup) (before : History) (phase thread : ℕ) → (keeper
 next_phase setup before phase thread true due = inl due.0
 next_phase setup before phase thread false due = elim due.current [ inl here ↦ inl here | inr there ↦ inr there.0 ]
 
--- a step is of the last phase or of the one behind it
+-- a step is of the last phase or of the one after it
 pub phase_of_next : (setup : Setup) (before : History) (step : Step) → Follows setup before step → (step.turn.phase ≡ phase_of before) ⊎ (step.turn.phase ≡ suc (phase_of before))
 phase_of_next setup before step follows = next_phase setup before step.turn.phase step.turn.thread (keeps before) follows.order
 
--- a phase behind the last one begins with the last version
+-- a phase after the last one begins with the last version
 pub first_version_next : (setup : Setup) (history : History) (phase : ℕ) → IsLegal setup history → phase_of history < phase → first_version history phase ≡ length history
 unfolding IsLegal first_version phase_of
-first_version_next setup [] phase legal behind = refl
-first_version_next setup (step ∷ before) phase legal behind =
+first_version_next setup [] phase legal later = refl
+first_version_next setup (step ∷ before) phase legal later =
     let grows = phase_of_next setup before step legal.0 in
     let rest = first_version_next setup before phase legal.1 (omega arith) in
-    rw (lt-ltb step.turn.phase phase behind) (ap suc rest)
+    rw (lt-ltb step.turn.phase phase later) (ap suc rest)
 
 -- a phase that a step doesn't come before begins with the version with which it began
 pub phase_state_kept : (setup : Setup) (before : History) (step : Step) (phase : ℕ) → phase ≤ step.turn.phase
@@ -68,11 +68,11 @@ pub list_of_kept : (setup : Setup) (before : History) (step : Step) (phase : ℕ
 unfolding list_of
 list_of_kept setup before step phase within = ap (λ state. serial_list state.threads) (phase_state_kept setup before step phase within)
 
--- a phase behind the last one has the list of the last version
+-- a phase after the last one has the list of the last version
 pub list_of_next : (setup : Setup) (history : History) (phase : ℕ) → IsLegal setup history → phase_of history < phase → list_of setup history phase ≡ serial_list (present setup history).threads
 unfolding list_of
-list_of_next setup history phase legal behind =
-    ap (λ number. serial_list (version setup history number).threads) (first_version_next setup history phase legal behind)
+list_of_next setup history phase legal later =
+    ap (λ number. serial_list (version setup history number).threads) (first_version_next setup history phase legal later)
     ∙ ap (λ state. serial_list state.threads) (version_last setup history)
 
 -- a keeper's turn adds no head
@@ -96,25 +96,25 @@ heads_next before step next =
     let one = and_from (step.turn.phase == step.turn.phase) (not (keeps before)) (eq-eqb step.turn.phase step.turn.phase refl) (not_from_false (keeps before) next) in
     rw one refl
 
--- a phase behind the last one has no heads yet
+-- a phase after the last one has no heads yet
 pub heads_none : (setup : Setup) (history : History) (phase : ℕ) → IsLegal setup history → phase_of history < phase → heads history phase ≡ []
 unfolding IsLegal heads phase_of
-heads_none setup [] phase legal behind = refl
-heads_none setup (step ∷ before) phase legal behind =
+heads_none setup [] phase legal later = refl
+heads_none setup (step ∷ before) phase legal later =
     let grows = phase_of_next setup before step legal.0 in
     heads_other before step phase (λ same. omega arith) ∙ heads_none setup before phase legal.1 (omega arith)
 
 -- the first turn of a phase has its first head
 pub heads_first : (setup : Setup) (before : History) (step : Step) → IsLegal setup before → keeps before ≡ false → phase_of before < step.turn.phase
     → heads (step ∷ before) step.turn.phase ≡ step.turn.thread ∷ []
-heads_first setup before step legal next behind =
-    heads_next before step next ∙ ap (λ front. front ++ step.turn.thread ∷ []) (heads_none setup before step.turn.phase legal behind)
+heads_first setup before step legal next later =
+    heads_next before step next ∙ ap (λ prefix. prefix ++ step.turn.thread ∷ []) (heads_none setup before step.turn.phase legal later)
 
 -- the first turn of a phase leaves its first version the last one before it
 pub first_version_first : (setup : Setup) (before : History) (step : Step) → IsLegal setup before → phase_of before < step.turn.phase
     → first_version (step ∷ before) step.turn.phase ≡ length before
-first_version_first setup before step legal behind =
-    first_version_kept before step step.turn.phase (omega arith) ∙ first_version_next setup before step.turn.phase legal behind
+first_version_first setup before step legal later =
+    first_version_kept before step step.turn.phase (omega arith) ∙ first_version_next setup before step.turn.phase legal later
 
 -- a keeper works on a copy of the last version
 pub base_of_keeper : (history : History) (phase : ℕ) (wake : Bool) → keeps history ≡ true → base_of history phase wake ≡ length history

@@ -5,13 +5,13 @@ use Rattle.guest_memory.specs.Layout.{page_of}
 use Rattle.guest_memory.specs.declared.layout.TheConstants.{PAGE_SIZE, HEAP_START, HEAP_PAGES}
 use Rattle.guest_memory.specs.declared.perm.Perm.{Perm}
 use Rattle.paged_memory.specs.Mapping.{with_bytes, with_zeros, without_pages}
-use Rattle.calls.specs.declared.call.Call.{Call}
-use Rattle.calls.specs.declared.call.Call.TheVariants as call
-use Rattle.calls.specs.declared.code.Code.{Code}
-use Rattle.calls.specs.declared.code.Code.TheVariants.{Done, NoSuchCall, BadArgument, BadAddress, Limit}
-use Rattle.calls.specs.declared.reply.Reply.{Reply}
-use Rattle.calls.specs.declared.reply.Reply.TheVariants.{Completed, Waits, Ends}
-use Rattle.calls.specs.declared.limits.TheConstants.{TRANSFER, CALL_PAGES, OUTPUT}
+use Rattle.abi.specs.declared.call.Call.{Call}
+use Rattle.abi.specs.declared.call.Call.TheVariants as call
+use Rattle.abi.specs.declared.code.Code.{Code}
+use Rattle.abi.specs.declared.code.Code.TheVariants.{Done, NoSuchCall, BadArgument, BadAddress, Limit}
+use Rattle.abi.specs.declared.reply.Reply.{Reply}
+use Rattle.abi.specs.declared.reply.Reply.TheVariants.{Completed, Waits, Ends}
+use Rattle.abi.specs.declared.limits.TheConstants.{TRANSFER, CALL_PAGES, OUTPUT}
 use Rattle.ecalls.specs.Answer.{finished}
 use Rattle.thread_table.specs.Threads.{new_number, created, join_reply, joined, joiners, ended, with_status}
 use Rattle.thread_table.specs.declared.thread.Thread.{Thread}
@@ -167,12 +167,12 @@ effect state thread (call.Unknown number) = answered NoSuchCall state
 abbrev pub call_finished : Code → Option ℕ → Thread → Thread
 call_finished code value thread = record thread { hart = finished thread.hart code value }
 
--- the threads behind a call that came to this for its caller: a completed call is finished in its hart, and who waits is blocked
-abbrev pub behind_reply : List Thread → ℕ → Reply → List Thread
-behind_reply threads thread (Completed code value) = with_thread threads thread (call_finished code value)
-behind_reply threads thread Waits = with_status threads thread Blocked
-behind_reply threads thread Ends = threads
+-- the threads after a call that came to this for its caller: a completed call is finished in its hart, and who waits is blocked
+abbrev pub after_reply : List Thread → ℕ → Reply → List Thread
+after_reply threads thread (Completed code value) = with_thread threads thread (call_finished code value)
+after_reply threads thread Waits = with_status threads thread Blocked
+after_reply threads thread Ends = threads
 
--- the state behind a call
+-- the state after a call
 unfoldable pub settled : ℕ → Effect → State
-settled thread outcome = record outcome.state { threads = behind_reply outcome.state.threads thread outcome.reply }
+settled thread outcome = record outcome.state { threads = after_reply outcome.state.threads thread outcome.reply }

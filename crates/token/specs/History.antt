@@ -64,7 +64,7 @@ unfoldable pub thread_of : History → ℕ
 thread_of [] = 0
 thread_of (step ∷ before) = step.turn.thread
 
--- who keeps the token behind a history
+-- who keeps the token after a history
 abbrev pub keeper_of : History → Option ℕ
 keeper_of history = if keeps history then Some (thread_of history) else None
 
@@ -86,7 +86,7 @@ unfoldable pub heads : History → ℕ → List ℕ
 heads [] phase = []
 heads (step ∷ before) phase = if (step.turn.phase == phase) && not (keeps before) then heads before phase ++ step.turn.thread ∷ [] else heads before phase
 
--- a thread is the next of a phase's list, in the phase of the last turn, or in the one behind it where that list is used up
+-- a thread is the next of a phase's list, in the phase of the last turn, or in the one after it where that list is used up
 pub record IsNextOfList (setup : Setup) (before : History) (phase : ℕ) (thread : ℕ) : Type 0 where
   pub rest : List ℕ
   pub next : list_of setup before phase ≡ heads before phase ++ thread ∷ rest

@@ -6,13 +6,13 @@ use Rattle.token.specs.Turns.{Step}
 use Rattle.token.specs.History.{History, Follows, IsLegal, IsHeldByKeeper, keeper_of, outcome, present}
 use Rattle.token.specs.declared.outcome.RunOutcome.{RunOutcome}
 
--- one history is a beginning of another: that has newer steps before it
-abbrev pub IsBeginning : History → History → Type 0
-IsBeginning one other = (newer : List Step) × (other ≡ newer ++ one)
+-- one history is a prefix of another: that has newer steps before it
+abbrev pub IsPrefix : History → History → Type 0
+IsPrefix one other = (newer : List Step) × (other ≡ newer ++ one)
 
--- Of two legal histories of one setup one is a beginning of the other.
-abbrev pub OneBeginning : Type 0
-OneBeginning = (setup : Setup) (one other : History) → IsLegal setup one → IsLegal setup other → IsBeginning one other ⊎ IsBeginning other one
+-- Of two legal histories of one setup one is a prefix of the other.
+abbrev pub OneIsPrefix : Type 0
+OneIsPrefix = (setup : Setup) (one other : History) → IsLegal setup one → IsLegal setup other → IsPrefix one other ⊎ IsPrefix other one
 
 -- Nothing follows a history that has an outcome.
 abbrev pub NothingFollows : Type 0
@@ -30,7 +30,7 @@ OneAnswer =
     (setup : Setup) (one other : History) (ends other_ends : RunOutcome) → IsLegal setup one → IsLegal setup other →
     outcome setup one ≡ Some ends → outcome setup other ≡ Some other_ends → (one ≡ other) × (ends ≡ other_ends)
 
--- Behind a legal history that has no outcome, who holds a mutex keeps the token.
+-- After a legal history that has no outcome, who holds a mutex keeps the token.
 abbrev pub HolderKeeps : Type 0
 HolderKeeps = (setup : Setup) (history : History) → IsLegal setup history → outcome setup history ≡ None → IsHeldByKeeper (present setup history).objects (keeper_of history)
 

@@ -1,5 +1,5 @@
 use Rattle.std.specs.Prelude.{drop}
-use Rattle.calls.specs.declared.reply.Reply.{Reply}
+use Rattle.abi.specs.declared.reply.Reply.{Reply}
 use Rattle.paged_memory.specs.Snapshot.{cells_of}
 use Rattle.token.specs.State.{State}
 use Rattle.token.specs.Effects.{Effect}

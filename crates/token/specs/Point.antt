@@ -131,26 +131,26 @@ step_at point (Some end) = ran_step point end
 abbrev pub change_of : Step → Change
 change_of step = record { phase = step.turn.phase; thread = step.turn.thread; addresses = step.changes }
 
--- who keeps the token behind a turn of a thread
-unfoldable pub keeper_behind : State → ℕ → TurnStop → Option ℕ
-keeper_behind state thread stop =
+-- who keeps the token after a turn of a thread
+unfoldable pub keeper_after : State → ℕ → TurnStop → Option ℕ
+keeper_after state thread stop =
     if not (is_some (outcome_of_stop thread stop)) && (is_ready (row_of state thread).status && holds state.objects thread) then Some thread else None
 
--- where a turn with its change is written down, once the state is the one behind it
+-- where a turn with its change is written down, once the state is the one after it
 unfoldable pub recorded : Point → Turn → Change → ℕ → Point
 recorded point turn change fresh_from =
     record point {
       given = if is_some point.keeper then point.given else point.given + 1;
-      keeper = keeper_behind point.state turn.thread turn.stop;
+      keeper = keeper_after point.state turn.thread turn.stop;
       ended = outcome_of_stop turn.thread turn.stop;
       turns = point.turns ++ turn ∷ [];
       changes = point.changes ++ change ∷ [];
       fresh_from = fresh_from;
     }
 
--- where a run stands behind a step, in the same phase
-unfoldable pub behind : Point → Step → Point
-behind point step = recorded (record point { state = step.after }) step.turn (change_of step) (length point.state.output)
+-- where a run stands after a step, in the same phase
+unfoldable pub after_step : Point → Step → Point
+after_step point step = recorded (record point { state = step.after }) step.turn (change_of step) (length point.state.output)
 
 -- the next phase, or the end where nobody has a turn
 unfoldable pub next_phase : Point → List ℕ → Point
@@ -163,6 +163,6 @@ unfoldable pub passed_on : Point → Point
 passed_on point =
     if is_some point.ended || is_some point.keeper || nat_lt point.given (length point.list) then point else next_phase point (serial_list point.state.threads)
 
--- where a run stands behind a step
+-- where a run stands after a step
 abbrev pub moved : Point → Step → Point
-moved point step = passed_on (behind point step)
+moved point step = passed_on (after_step point step)

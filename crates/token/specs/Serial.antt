@@ -15,14 +15,14 @@ unfoldable pub changes_of : History → List Change
 changes_of [] = []
 changes_of (step ∷ before) = changes_of before ++ change_of step ∷ []
 
--- A phase is the one that the next turn is of: that of the last turn, or the one behind it where its list is used up.
+-- A phase is the one that the next turn is of: that of the last turn, or the one after it where its list is used up.
 abbrev pub IsNextPhase : Setup → History → ℕ → Type 0
 IsNextPhase setup history phase =
     (phase ≡ phase_of history)
     ⊎ ((phase ≡ suc (phase_of history)) × (keeps history ≡ false) × (list_of setup history (phase_of history) ≡ heads history (phase_of history)))
 
--- a run stands behind this history
-pub record StandsBehind (point : Point) (history : History) : Type 0 where
+-- a run stands after this history
+pub record StandsAfter (point : Point) (history : History) : Type 0 where
   pub legal : IsLegal point.setup history
   pub turns : turns_of history ≡ point.turns
   pub changes : changes_of history ≡ point.changes
@@ -43,9 +43,9 @@ pub record StandsBehind (point : Point) (history : History) : Type 0 where
   pub bound : point.setup.bound ≤ 2 ^ 40
   pub fresh : point.fresh_from ≤ length point.state.output
 
--- There is a legal history behind which the run stands.
+-- There is a legal history after which the run stands.
 abbrev pub IsLawful : Progress → Type 0
-IsLawful run = (history : History) × StandsBehind (point_of run) history
+IsLawful run = (history : History) × StandsAfter (point_of run) history
 
 -- the end is what the next turn needs
 abbrev pub IsNeeded : Progress → Option SegmentEnd → Type 0
@@ -55,10 +55,10 @@ IsNeeded run end = IsNeededAt (point_of run) end
 abbrev pub fresh_at : Point → List ℕ
 fresh_at point = drop point.fresh_from point.state.output
 
--- There is a legal history behind which the run stands, and each step made of what the next turn needs follows it.
+-- There is a legal history after which the run stands, and each step made of what the next turn needs follows it.
 abbrev pub IsAskedFor : Progress → Type 0
 IsAskedFor run =
-    (history : History) × StandsBehind (point_of run) history
+    (history : History) × StandsAfter (point_of run) history
     × ((end : Option SegmentEnd) → IsNeeded run end → Follows (point_of run).setup history (step_at (point_of run) end))
 
 -- A run is one turn longer than it was, of what it was given, and its output by the fresh bytes.

@@ -52,7 +52,7 @@ started_state entry memory input =
 unfoldable pub first_state : Setup → State
 first_state setup = started_state setup.entry setup.memory setup.input
 
--- the address behind the pages that the heap was ever given
+-- the address after the pages that the heap was ever given
 abbrev pub heap_top : State → ℕ
 heap_top state = HEAP_START + PAGE_SIZE * state.heap_pages
 

@@ -40,7 +40,7 @@ pub record Stopped : Type 0 where
   pub stop : TurnStop
   pub state : State
 
--- behind the commit: the effect of the call, or nothing after a trap and after a quantum
+-- after the commit: the effect of the call, or nothing after a trap and after a quantum
 unfoldable pub after_stop : State → ℕ → HartState → Stop → Stopped
 after_stop state thread hart (stopped.Trap trap) = record { stop = Trap hart.pc trap; state = state }
 after_stop state thread hart stopped.Quantum = record { stop = Quantum hart.pc; state = state }
@@ -62,7 +62,7 @@ run_step state phase thread base copy executed ran =
       after = end.state;
     }
 
--- the state behind the turn of a woken thread: it takes the mutex of its wait, and the wait is done
+-- the state after the turn of a woken thread: it takes the mutex of its wait, and the wait is done
 abbrev pub after_wake : State → ℕ → ℕ → State
 after_wake state thread mutex =
     record state { objects = take_back state.objects thread mutex; threads = with_thread state.threads thread (completed None) }

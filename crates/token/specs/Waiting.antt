@@ -1,8 +1,8 @@
 -- What holds of the threads that wait at objects.
 use Rattle.std.specs.Prelude.{Bool, true, false, not, ◌&&◌, Option, Some, None, List, slice_get}
 use Rattle.std.specs.List.{list_all}
-use Rattle.calls.specs.declared.call.Call.{Call}
-use Rattle.calls.specs.declared.call.Call.TheVariants.{Join}
+use Rattle.abi.specs.declared.call.Call.{Call}
+use Rattle.abi.specs.declared.call.Call.TheVariants.{Join}
 use Rattle.ecalls.specs.Request.{call_of}
 use Rattle.thread_table.specs.Status.{is_blocked}
 use Rattle.thread_table.specs.declared.thread.Thread.{Thread}

@@ -3,7 +3,7 @@
 
 ghost use Rattle.std.specs.Prelude.{◌≡◌, ◌<◌, ◌≤◌, length};
 ghost use Rattle.guest_memory.specs.declared.layout.TheConstants.{HEAP_PAGES as MOST_PAGES};
-ghost use Rattle.calls.specs.declared.limits.TheConstants.{OUTPUT as MOST_OUTPUT};
+ghost use Rattle.abi.specs.declared.limits.TheConstants.{OUTPUT as MOST_OUTPUT};
 
 mod memory_calls;
 mod object_calls;
@@ -14,7 +14,7 @@ mod transfer_calls;
 
 use crate::parts::replies::answered;
 use crate::parts::threads_change::{complete, finish_call, set_status};
-use calls::{Call, Code, Reply};
+use abi::{Call, Code, Reply};
 use commit::{Patch, apply};
 use condvar_barrier::Objects;
 use ecalls::call_of;
@@ -56,7 +56,7 @@ impl Parts {
     ghost use Rattle.token.specs.Shared.{committed_bytes};
 
     /// Carries out the call that the hart of a ready thread makes, and answers what it came to. Nothing changes
-    /// where memory is wanting.
+    /// when memory runs out.
     #[tactic(auto, unfolding(crate::specs::Parts::state_in))]
     pub(crate) fn call(&mut self, thread: u32) -> Result<Reply, AllocError>
         requires made { thread < length self.old.threads }
@@ -75,8 +75,8 @@ impl Parts {
         Ok(reply)
     }
 
-    /// Carries out a call of a thread, but for what it leaves in the thread itself. Nothing changes where memory
-    /// is wanting.
+    /// Carries out a call of a thread, but for what it leaves in the thread itself. Nothing changes when memory
+    /// runs out.
     #[tactic(auto, unfolding(crate::specs::Parts::state_in, crate::specs::Effects::effect))]
     fn carry_out(&mut self, thread: u32, call: Call) -> Result<Reply, AllocError>
         requires made { thread < length self.old.threads }
@@ -140,7 +140,7 @@ impl Parts {
     }
 
     /// Commits what a ready thread changed. It has this hart and this count of executed instructions then. Nothing
-    /// changes where memory is wanting.
+    /// changes when memory runs out.
     #[tactic(auto, unfolding(crate::specs::Parts::state_in, crate::specs::Shared::committed_bytes, crate::specs::State::with_thread))]
     pub(crate) fn commit(
         &mut self,

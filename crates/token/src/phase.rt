@@ -21,7 +21,7 @@ pub(crate) struct Phase {
 }
 
 impl Phase {
-    /// The next phase begins, with these threads and this list, behind so many turns.
+    /// The next phase begins, with these threads and this list, after so many turns.
     pub(crate) fn begin(&mut self, turns: u64, threads: &Threads, list: ThreadNumbers)
         requires { self.old.number + 1 < 2 ^ 64 }
         ensures number { self.new.number ≡ self.old.number + 1 }

@@ -13,7 +13,7 @@ use crate::segment_turn::run_on;
 use crate::shared_state::SharedState;
 use crate::turn::{Turn, TurnStop};
 use crate::turn_change::TurnChange;
-use crate::verdict::{keeper_behind, mutex_of, outcome_of_stop, quiet_outcome};
+use crate::verdict::{keeper_after, mutex_of, outcome_of_stop, quiet_outcome};
 use commit::changed_addresses;
 use paged_memory::Snapshot;
 use std::alloc::{AllocError, Global};
@@ -112,7 +112,7 @@ impl Progress {
     }
 
     /// Does the next turn, with this end of the segment that it needs.
-    #[tactic(auto, unfolding(crate::specs::Progress::point_of, crate::specs::Point::behind, crate::specs::Point::recorded))]
+    #[tactic(auto, unfolding(crate::specs::Progress::point_of, crate::specs::Point::after_step, crate::specs::Point::recorded))]
     pub(crate) fn turn(&mut self, end: Option<&SegmentEnd>) -> Result<(), AllocError>
         requires due { HasDue (point_of self.old) }
         requires ready { MayTurn (point_of self.old) (option_map (λ end. end.now) end) }
@@ -144,12 +144,12 @@ impl Progress {
     }
 
     /// The turn of a woken thread.
-    #[tactic(auto, unfolding(crate::specs::Progress::point_of, crate::specs::Point::behind, crate::specs::Point::woken_step, crate::specs::Turns::wake_step))]
+    #[tactic(auto, unfolding(crate::specs::Progress::point_of, crate::specs::Point::after_step, crate::specs::Point::woken_step, crate::specs::Turns::wake_step))]
     fn wake_turn(&mut self)
         requires due { HasDue (point_of self.old) }
         requires woken { MayTurn (point_of self.old) None }
         requires room { HasRoom self.old }
-        ensures { point_of self.new ≡ point.behind (point_of self.old) (point.woken_step (point_of self.old)) }
+        ensures { point_of self.new ≡ point.after_step (point_of self.old) (point.woken_step (point_of self.old)) }
     {
         let thread = self.due();
         let mutex = mutex_of(self.shared.threads().get(thread).status);
@@ -167,12 +167,12 @@ impl Progress {
     }
 
     /// The turn of a thread whose segment ended.
-    #[tactic(auto, unfolding(crate::specs::Progress::point_of, crate::specs::Point::behind, crate::specs::Point::ran_step))]
+    #[tactic(auto, unfolding(crate::specs::Progress::point_of, crate::specs::Point::after_step, crate::specs::Point::ran_step))]
     fn run_turn(&mut self, end: &SegmentEnd) -> Result<(), AllocError>
         requires due { HasDue (point_of self.old) }
         requires ready { CanRun (point_of self.old) end.now }
         requires room { HasRoom self.old }
-        ensures moved { OnOk result (point_of self.new ≡ point.behind (point_of self.old) (point.ran_step (point_of self.old) end.now)) }
+        ensures moved { OnOk result (point_of self.new ≡ point.after_step (point_of self.old) (point.ran_step (point_of self.old) end.now)) }
         ensures kept { OnErr result (point_of self.new ≡ point_of self.old) }
     {
         let thread = self.due();
@@ -204,7 +204,7 @@ impl Progress {
         }
     }
 
-    /// Writes a turn down, once the state is the one behind it.
+    /// Writes a turn down, once the state is the one after it.
     #[tactic(auto, unfolding(crate::specs::Progress::point_of, crate::specs::Point::recorded))]
     fn record(&mut self, turn: Turn, addresses: Vec<u32>, fresh_from: usize)
         requires room { HasRoom self.old }
@@ -215,7 +215,7 @@ impl Progress {
         if self.keeper.is_none() {
             self.phase.given += 1;
         }
-        self.keeper = keeper_behind(&self.shared, turn.thread, &turn.stop);
+        self.keeper = keeper_after(&self.shared, turn.thread, &turn.stop);
         self.outcome = outcome_of_stop(turn.thread, &turn.stop);
         self.fresh_from = fresh_from;
         let change = TurnChange::new(turn.phase, turn.thread, addresses);

@@ -13,7 +13,7 @@ use hart::{Hart, Stop};
 use std::alloc::AllocError;
 
 /// Commits what a thread changed, and carries out its call where it stopped by one. Answers how the turn
-/// stopped. Nothing changes where memory is wanting.
+/// stopped. Nothing changes when memory runs out.
 #[tactic(auto, unfolding(crate::specs::Turns::after_stop))]
 pub(crate) fn run_on(
     shared: &mut SharedState,

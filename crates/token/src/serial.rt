@@ -16,7 +16,7 @@ use std::alloc::{AllocError, Global};
 use std::marker::Model;
 use thread_table::Threads;
 
-/// The serial state of a run: what it was given, the turns that it has done, and what stands behind them. Its
+/// The serial state of a run: what it was given, the turns that it has done, and what stands after them. Its
 /// turns are a legal history.
 #[derive(Drop)]
 pub struct Serial {
@@ -170,7 +170,7 @@ impl Serial {
     }
 
     /// Does the next turn, with the end of the segment that it needs, or with none at a wake. Nothing changes
-    /// where memory is wanting.
+    /// when memory runs out.
     pub fn turn(&mut self, end: Option<&SegmentEnd>) -> Result<(), AllocError>
         requires { IsNeeded self.old (option_map (λ end. end.now) end) }
         ensures moved { OnOk result (point_of self.new ≡ moved (point_of self.old) (step_at (point_of self.old) (option_map (λ end. end.now) end.entry))) }

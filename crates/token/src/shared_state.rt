@@ -2,7 +2,7 @@ ghost use Rattle.std.specs.Prelude.{◌≡◌, true};
 ghost use Rattle.token.specs.Waiting.{are_parked};
 
 use crate::parts::Parts;
-use calls::Reply;
+use abi::Reply;
 use commit::Patch;
 use condvar_barrier::Objects;
 use guest_memory::layout::STACK_POINTER;
@@ -84,7 +84,7 @@ impl SharedState {
     }
 
     /// Commits what a ready thread changed. It has this hart and this count of executed instructions then. Nothing
-    /// changes where memory is wanting.
+    /// changes when memory runs out.
     pub fn commit(
         &mut self,
         thread: u32,
@@ -112,7 +112,7 @@ impl SharedState {
     }
 
     /// Carries out the call that the hart of a ready thread makes, by the call table, and answers what it came
-    /// to. Nothing changes where memory is wanting.
+    /// to. Nothing changes when memory runs out.
     pub fn call(&mut self, thread: u32) -> Result<Reply, AllocError>
         requires made { thread < length (state_of self.old).threads }
         requires ready { is_ready (row_of (state_of self.old) thread).status ≡ true }

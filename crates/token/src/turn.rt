@@ -1,4 +1,4 @@
-use calls::Reply;
+use abi::Reply;
 use hart::Trap;
 
 /// What ended a turn's segment, or that the turn had none.

@@ -1,4 +1,4 @@
-//! Whether a run goes on behind a turn, and who keeps the token.
+//! Whether a run goes on after a turn, and who keeps the token.
 ghost use Rattle.std.specs.Prelude.{◌≡◌, ◌<◌, length, slice_get, unwrap_or};
 ghost use Rattle.std.specs.List.{list_all};
 ghost use Rattle.thread_table.specs.Thread.{blank};
@@ -30,10 +30,10 @@ pub(crate) fn outcome_of_stop(thread: u32, stop: &TurnStop) -> Option<RunOutcome
 }
 
 /// The thread of a turn, where it keeps the token: the run goes on, and the thread is ready and holds a mutex.
-#[tactic(auto, unfolding(crate::specs::Point::keeper_behind))]
-pub(crate) fn keeper_behind(shared: &SharedState, thread: u32, stop: &TurnStop) -> Option<u32>
+#[tactic(auto, unfolding(crate::specs::Point::keeper_after))]
+pub(crate) fn keeper_after(shared: &SharedState, thread: u32, stop: &TurnStop) -> Option<u32>
     requires { thread < length (state_of shared.now).threads }
-    ensures { result ≡ point.keeper_behind (state_of shared.now) thread stop.now }
+    ensures { result ≡ point.keeper_after (state_of shared.now) thread stop.now }
 {
     let ends = outcome_of_stop(thread, stop).is_some();
     let ready = shared.threads().get(thread).status.is_ready();

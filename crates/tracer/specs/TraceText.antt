@@ -1,9 +1,9 @@
 -- The text of a trace: one line a turn, each ended by a newline.
 use Rattle.std.specs.Prelude.{ℕ, ◌==◌, if◌then◌else◌, Some, None, List, ◌++◌, codes, decimal, slice_index}
 use Rattle.std.specs.List.{flat_map}
-use Rattle.calls.specs.Codes.{number_of as code_number}
-use Rattle.calls.specs.declared.reply.Reply.{Reply}
-use Rattle.calls.specs.declared.reply.Reply.TheVariants.{Completed, Waits, Ends}
+use Rattle.abi.specs.Codes.{number_of as code_number}
+use Rattle.abi.specs.declared.reply.Reply.{Reply}
+use Rattle.abi.specs.declared.reply.Reply.TheVariants.{Completed, Waits, Ends}
 use Rattle.hart.specs.Cause.{number_of as cause_number}
 use Rattle.hart.specs.declared.trap.Trap.{Trap as Trapped}
 use Rattle.hexadecimal.specs.Digits.{hexadecimal}
@@ -46,7 +46,7 @@ result_text Ends = codes "end"
 abbrev pub turn_text : Turn → List ℕ
 turn_text turn = decimal turn.phase ++ codes " " ++ decimal turn.thread ++ codes " "
 
--- changed=CHANGED ran=RAN, behind it
+-- changed=CHANGED ran=RAN, after it
 abbrev pub counts_text : (changed ran : ℕ) → List ℕ
 counts_text changed ran = codes " changed=" ++ decimal changed ++ codes " ran=" ++ decimal ran ++ codes "\n"
 

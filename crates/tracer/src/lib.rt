@@ -18,7 +18,7 @@
 //! - [`line`] is the line of a turn, with the newline that ends it.
 //! - [`trace_text`] is the lines of some turns.
 //!
-//! Both fail only for want of memory.
+//! Both fail only when memory runs out.
 #![tactic(auto)]
 
 mod call_name;

@@ -2,7 +2,7 @@ ghost use Rattle.std.specs.Prelude.{◌≡◌, ◌++◌, OnOk};
 ghost use Rattle.std.specs.String.{string_bytes};
 ghost use Rattle.tracer.specs.TraceText.{result_text};
 
-use calls::Reply;
+use abi::Reply;
 use hexadecimal::write_hexadecimal;
 use itoa::Buffer;
 use std::alloc::AllocError;

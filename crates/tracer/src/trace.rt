@@ -10,7 +10,7 @@ use token::Turn;
 ///
 /// # Errors
 ///
-/// Only want of memory.
+/// Only out of memory.
 pub fn trace_text(alloc: Global, turns: &[Turn]) -> Result<String, AllocError>
     ensures { IfOk result (λ t. string_bytes t ≡ text_of turns.now) }
 {

@@ -4,7 +4,7 @@ ghost use Rattle.tracer.specs.TraceText.{word_text, turn_text, counts_text, call
 
 use crate::call_name::write_call_name;
 use crate::reply::write_reply;
-use calls::Reply;
+use abi::Reply;
 use hart::Trap;
 use hexadecimal::write_hexadecimal;
 use itoa::Buffer;
@@ -15,7 +15,7 @@ use token::{Turn, TurnStop};
 ///
 /// # Errors
 ///
-/// Only want of memory.
+/// Only out of memory.
 pub fn line(alloc: Global, turn: &Turn) -> Result<String, AllocError>
     ensures { IfOk result (λ t. string_bytes t ≡ line_of turn.now) }
 {

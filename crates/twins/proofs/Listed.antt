@@ -45,10 +45,10 @@ module _ (place : ℕ → ℕ) (numbers : List ℕ) (listed : AreListed place nu
   pub IsDistinct-listed : IsDistinct eqb numbers
   IsDistinct-listed = IsDistinct-from_apart eqb numbers
       (λ index other other' before inside.
-      let front : index < length numbers = omega arith in
-      rw (get_or_default_zero numbers index other' front, get_or_default_zero numbers other other' inside)
+      let prefix : index < length numbers = omega arith in
+      rw (get_or_default_zero numbers index other' prefix, get_or_default_zero numbers other other' inside)
       (ne_eqb (slice_index numbers index) (slice_index numbers other)
-      (λ same. let both : index ≡ other = numbers-apart index other front inside same in absurd (omega arith))))
+      (λ same. let both : index ≡ other = numbers-apart index other prefix inside same in absurd (omega arith))))
 
   -- one more number
   module _ (number : ℕ) (small : number < 2 ^ 20) (none : place number ≡ 0) where
@@ -74,14 +74,14 @@ module _ (place : ℕ → ℕ) (numbers : List ℕ) (listed : AreListed place nu
         slice_index (numbers ++ number ∷ []) index ≢ slice_index (numbers ++ number ∷ []) other
     apart-each index other before inside same =
         let more = size in
-        let front : index < length numbers = omega arith in
+        let prefix : index < length numbers = omega arith in
         elim (cases_lt other (length numbers)) [
           | inl within ↦
-              (let one : slice_index numbers index ≡ slice_index numbers other = sym (earlier index front) ∙ same ∙ earlier other within in
-              let both : index ≡ other = numbers-apart index other front within one in absurd (omega arith))
+              (let one : slice_index numbers index ≡ slice_index numbers other = sym (earlier index prefix) ∙ same ∙ earlier other within in
+              let both : index ≡ other = numbers-apart index other prefix within one in absurd (omega arith))
           | inr past ↦
               (let end : other ≡ length numbers = omega arith in
-              number-absent number none index front (sym (earlier index front) ∙ same ∙ ap (slice_index (numbers ++ number ∷ [])) end ∙ last))
+              number-absent number none index prefix (sym (earlier index prefix) ∙ same ∙ ap (slice_index (numbers ++ number ∷ [])) end ∙ last))
         ]
 
     -- there are no more numbers than page numbers
@@ -94,8 +94,8 @@ module _ (place : ℕ → ℕ) (numbers : List ℕ) (listed : AreListed place nu
         distinct : (index other other' : ℕ) → index < other → other < length (numbers ++ number ∷ []) →
             eqb (slice_index_or (numbers ++ number ∷ []) index other') (slice_index_or (numbers ++ number ∷ []) other other') ≡ false
         distinct index other other' before inside =
-            let front : index < length (numbers ++ number ∷ []) = omega arith in
-            rw (get_or_default_zero (numbers ++ number ∷ []) index other' front, get_or_default_zero (numbers ++ number ∷ []) other other' inside)
+            let prefix : index < length (numbers ++ number ∷ []) = omega arith in
+            rw (get_or_default_zero (numbers ++ number ∷ []) index other' prefix, get_or_default_zero (numbers ++ number ∷ []) other other' inside)
             (ne_eqb (slice_index (numbers ++ number ∷ []) index) (slice_index (numbers ++ number ∷ []) other) (apart-each index other before inside))
 
         members-small : (member : ℕ) → list_any (eqb member) (numbers ++ number ∷ []) ≡ true → member < 2 ^ 20

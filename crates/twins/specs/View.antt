@@ -53,7 +53,7 @@ abbrev pub writable_page : View → ℕ → Option PageValue
 writable_page view address = permitted_page (λ perm. perm.write) (pages_of view) address
 
 -- What a claim of an address's page for a store answers: the place of its private page, or that stores aren't permitted there, or
--- that memory is wanting for the private page of a page that permits them. The base stays, and no other page becomes private.
+-- that memory runs out for the private page of a page that permits them. The base stays, and no other page becomes private.
 abbrev pub Claims : Result ℕ StoreFault → View → ℕ → View → Type 0
 Claims (Ok place) old address new =
     StandsAt (private_of new) (page_of address) place × IsWritable (pages_of old) address × ((number : ℕ) → is_dirty new number ≡ ((page_of address == number) || is_dirty old number))

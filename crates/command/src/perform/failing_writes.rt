@@ -1,4 +1,4 @@
-//! Writes that fail at any place: what was written before, that nothing is written behind, and the line.
+//! Writes that fail at any place: what was written before, that nothing is written after, and the line.
 
 use super::perform;
 use super::program_file::program_file;

@@ -14,7 +14,7 @@ const RUN: [&str; 7] = [
     "dthreads", "run", "a.elf", "--trace", "trace", "--report", "report",
 ];
 
-/// The lengths of a beginning of `seven`'s file, and the line for it.
+/// The lengths of a prefix of `seven`'s file, and the line for it.
 static CUTS: [(usize, usize, &str); 3] = [
     (0, 51, "elf refused: 2 Truncated\n"),
     (52, 115, "elf refused: 12 TableOutside\n"),

@@ -20,7 +20,7 @@ pub struct WorkedRun {
     pub report: &'static str,
 }
 
-/// Thread 0 locks mutex 0, creates two threads behind this code, unlocks, joins both and exits with the byte at
+/// Thread 0 locks mutex 0, creates two threads after this code, unlocks, joins both and exits with the byte at
 /// 0x00020000.
 const PRELUDE: &[u32] = &[
     0x00010437, 0x00500893, 0x00000073, 0x00300893, 0x04c40513, 0x00000073, 0x04c40513, 0x00000073,

@@ -9,8 +9,8 @@ ghost use Rattle.token.specs.Parts.{state_in, came_to};
 
 use crate::parts::Parts;
 use crate::parts::replies::{answered, answered_with};
-use calls::limits::CALL_PAGES;
-use calls::{Code, Reply};
+use abi::limits::CALL_PAGES;
+use abi::{Code, Reply};
 use guest_memory::layout::{HEAP_PAGES, HEAP_START, PAGE_SIZE};
 use paged_memory::{Perm, Snapshot};
 use std::alloc::AllocError;
@@ -51,7 +51,7 @@ impl Parts {
         Ok(answered(Code::Done))
     }
 
-    /// The address behind the pages that the heap was ever given.
+    /// The address after the pages that the heap was ever given.
     fn heap_top(&self) -> u32
         ensures { result ≡ heap_top (state_in self.now) }
     {

@@ -9,7 +9,7 @@ ghost use Rattle.token.specs.Parts.{state_in, came_to};
 
 use crate::parts::Parts;
 use crate::parts::threads_change::{let_arrived_pass, set_status, wake_up};
-use calls::Reply;
+use abi::Reply;
 use thread_table::Status;
 
 impl Parts {

@@ -1,7 +1,7 @@
 //! The replies to calls that are completed.
 ghost use Rattle.std.specs.Prelude.{◌≡◌, None, Some};
 
-use calls::{Code, Reply};
+use abi::{Code, Reply};
 
 /// The reply to a call that is completed with a code alone.
 pub(super) fn answered(code: Code) -> Reply

@@ -8,7 +8,7 @@ ghost use Rattle.token.specs.Parts.{state_in, came_to};
 use crate::parts::Parts;
 use crate::parts::replies::{answered, answered_with};
 use crate::parts::threads_change::let_pass;
-use calls::{Code, Reply};
+use abi::{Code, Reply};
 use hart::Hart;
 
 impl Parts {

@@ -4,7 +4,7 @@ ghost use Rattle.thread_table.specs.Threads.{with_status};
 ghost use Rattle.token.specs.State.{with_thread};
 ghost use Rattle.token.specs.Effects.{completed, call_finished, wake_up, let_pass};
 
-use calls::Code;
+use abi::Code;
 use condvar_barrier::Woken;
 use ecalls::finish;
 use thread_table::{Status, Thread, ThreadNumbers, Threads};

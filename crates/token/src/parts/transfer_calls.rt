@@ -11,8 +11,8 @@ ghost use Rattle.token.specs.Parts.{state_in, came_to};
 
 use crate::parts::Parts;
 use crate::parts::replies::{answered, answered_with};
-use calls::limits::{OUTPUT, TRANSFER};
-use calls::{Code, Reply};
+use abi::limits::{OUTPUT, TRANSFER};
+use abi::{Code, Reply};
 use guest_memory::layout::PAGE_SIZE;
 use paged_memory::{Page, Perm, Snapshot};
 use std::alloc::AllocError;
@@ -101,7 +101,7 @@ fn run_length(address: u32, count: u32) -> u32
     count.min(PAGE_SIZE - address % PAGE_SIZE)
 }
 
-/// Appends the bytes of a range, with 0 where it isn't mapped. Nothing changes where memory is wanting.
+/// Appends the bytes of a range, with 0 where it isn't mapped. Nothing changes when memory runs out.
 #[tactic(auto, using(crate::proofs::Ranges::lengths))]
 fn append(
     output: &mut Vec<u8>,
@@ -127,7 +127,7 @@ fn append(
     Ok(())
 }
 
-/// Appends the bytes of a range of one page, with 0 where it isn't mapped. Nothing changes where memory is wanting.
+/// Appends the bytes of a range of one page, with 0 where it isn't mapped. Nothing changes when memory runs out.
 fn append_run(
     output: &mut Vec<u8>,
     memory: &Snapshot,

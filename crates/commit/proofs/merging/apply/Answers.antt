@@ -22,7 +22,7 @@ loop-page-preserved c =
     take_more pages done c.page-item.result within ∙ ap (λ page. take done pages ++ page ∷ []) (sym c.page-item.is) in
     c.in_ok-merge_into.ensures ∙ ap (with_changes (patched (c.page-item.result ∷ []))) c.loop-page.invariant
     ∙ with_changes-more (take done pages) c.page-item.result (cells_of c.args.snapshot.now) (AreBelow-item pages done c.page-item.result ascending within c.page-item.is)
-    ∙ ap (λ front. with_changes (patched front) (cells_of c.args.snapshot.now)) (sym more)
+    ∙ ap (λ prefix. with_changes (patched prefix) (cells_of c.args.snapshot.now)) (sym more)
 
 pub returns-clause-merged : goal.returns-clause-merged
 returns-clause-merged c =

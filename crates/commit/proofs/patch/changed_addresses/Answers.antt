@@ -21,7 +21,7 @@ loop-page-preserved c =
     let pushed = c.in_ok-push_addresses.ensures in
     pushed.pushed ∙ ap (λ (before : List ℕ). before ++ addresses_in c.page-item.result) c.loop-page.invariant
     ∙ sym (addresses_of-more (take done pages) c.page-item.result (AreBelow-item pages done c.page-item.result ascending within c.page-item.is) pushed.number pushed.copy pushed.mine)
-    ∙ ap (λ front. addresses_of (patched front)) (sym more)
+    ∙ ap (λ prefix. addresses_of (patched prefix)) (sym more)
 
 pub returns : goal.returns
 returns c =

@@ -1,5 +1,5 @@
 use Rattle.runtime.specs.Run.{setup_from}
-use Rattle.runtime.proofs.Fronts.{nothing_sent}
+use Rattle.runtime.proofs.Prefixes.{nothing_sent}
 use Rattle.runtime.proofs.running.run_into.Goals as goal
 
 pub returns-in-Err-clause-sent : goal.returns-in-Err-clause-sent

@@ -1,7 +1,7 @@
 use Rattle.std.proofs.Common.{◌≡◌, ◌++◌, ◌∙◌, List, ℕ, ap, sym}
 use Rattle.token.specs.Progress.{point_of}
 use Rattle.runtime.proofs.Needs.{goes_on}
-use Rattle.runtime.proofs.Sent.{front_more}
+use Rattle.runtime.proofs.Sent.{prefix_more}
 use Rattle.runtime.proofs.turns.send_turn.Goals as goal
 
 pub returns-in-Err-clause-sent : goal.returns-in-Err-clause-sent
@@ -10,4 +10,4 @@ returns-in-Err-clause-sent g c start sent =
     let longer : (point_of c.take_turn.new.serial).state.output ≡ before ++ c.fresh.result.now =
     goes_on c.in_ok-outcome.field-0 (point_of c.args.serial.now) (point_of c.take_turn.new.serial) c.in_default.not-Some c.in_ok-outcome.ensures.moved
     ∙ ap (λ (bytes : List ℕ). before ++ bytes) (sym c.fresh.ensures) in
-    front_more start _ _ before c.fresh.result.now _ longer sent c.in-Err.ensures.front
+    prefix_more start _ _ before c.fresh.result.now _ longer sent c.in-Err.ensures.prefix

@@ -10,10 +10,10 @@ loop-number-init g c = c.new-numbers.ensures ∙ sym (numbers_where-none g.holds
 pub push-requires : goal.push-requires
 push-requires g c =
     let i = c.loop-number.number in
-    let front = length-take-le i c.args.threads.now (omega arith) in
+    let prefix = length-take-le i c.args.threads.now (omega arith) in
     let fewer = length-numbers_where g.holds (take i c.args.threads.now) in
     let same = ap length c.loop-number.invariant in
-    (lit< tt, omega (arith, front, fewer, same))
+    (lit< tt, omega (arith, prefix, fewer, same))
 
 pub loop-number-preserved : goal.loop-number-preserved
 loop-number-preserved g c =

@@ -1,11 +1,11 @@
 use Rattle.token.proofs.Complete.{nothing_follows, one_answer}
 use Rattle.token.proofs.GoesOn.{some_follows}
 use Rattle.token.proofs.KeeperHolds.{holder_keeps, none_else_holds}
-use Rattle.token.proofs.OneHistory.{one_beginning}
+use Rattle.token.proofs.OneHistory.{one_is_prefix}
 use Rattle.token.proofs.law.one_history.Goals as goal
 
-pub returns-clause-beginning : goal.returns-clause-beginning
-returns-clause-beginning c = one_beginning
+pub returns-clause-prefix : goal.returns-clause-prefix
+returns-clause-prefix c = one_is_prefix
 
 pub returns-clause-follows : goal.returns-clause-follows
 returns-clause-follows c = nothing_follows

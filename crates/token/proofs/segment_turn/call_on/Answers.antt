@@ -40,7 +40,7 @@ restore-requires-clause-ready c =
     let after = c.in-Err.ensures.kept ∙ c.in_ok-commit.ensures.committed in
     ap (λ (after : State). is_ready (row_of after c.args.thread).status) after ∙ ap (λ row. is_ready row.status) row ∙ ap is_ready c.requires.ready
 
--- what the call comes to, from the state behind the commit
+-- what the call comes to, from the state after the commit
 committed_effect : (shared : State) (state : State) (thread : ℕ) (bytes : ℕ → Option ℕ) (hart : HartState) (executed : ℕ) → thread < length state.threads
     → shared ≡ committed_bytes state thread bytes hart executed
     → effect shared thread (call_of (row_of shared thread).hart) ≡ effect (committed_bytes state thread bytes hart executed) thread (call_of hart)

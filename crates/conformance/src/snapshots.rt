@@ -23,7 +23,7 @@ const READ_EXECUTE: Perm = Perm {
     execute: true,
 };
 
-/// An image of a word of code, of three bytes of data across a page border with zeros behind them up to the
+/// An image of a word of code, of three bytes of data across a page border with zeros after them up to the
 /// first byte of a third page, and of the page right above it.
 fn sample(alloc: Global) -> Result<Image, AllocError> {
     let code = vec![in alloc; 0x13, 0x05, 0xA0, 0x02]?;

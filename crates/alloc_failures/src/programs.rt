@@ -11,7 +11,7 @@ const CODE: u32 = 0x0001_0000;
 /// Where each file has a page of zeros.
 pub const DATA: u32 = 0x0002_0000;
 
-/// The words of an ELF header with two program headers right behind it.
+/// The words of an ELF header with two program headers right after it.
 const HEADER: [u32; 13] = [
     0x464C_457F,
     0x0001_0101,
@@ -64,7 +64,7 @@ pub static RELEASE_RACE: [u32; 18] = [
     0x00200893, 0x00000073,
 ];
 
-/// The image of a file whose code are these words, with a page of zeros behind it.
+/// The image of a file whose code are these words, with a page of zeros after it.
 pub fn image_of(alloc: Global, words: &[u32]) -> Result<Image, Failed>
     requires { length words.now < 2 ^ 20 }
 {

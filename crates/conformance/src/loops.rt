@@ -7,7 +7,7 @@ use crate::histories::Answer::{Ends, Gives, Only, Waits};
 use crate::histories::End::Calls;
 use crate::histories::*;
 use crate::worked::PRELUDE;
-use calls::Code;
+use abi::Code;
 use runtime::MAX_BOUND;
 use std::alloc::{AllocError, Global};
 use std::test::Fail;
@@ -170,7 +170,7 @@ fn counts_to_2000(rt: HostRuntime) -> Result<(), Fail> {
     assert_case(&rt, rt.alloc(), &case)
 }
 
-/// The turn of the create that comes behind this many.
+/// The turn of the create that comes after this many.
 fn creates(made: u32) -> Line
     requires { made < 256 }
 {
@@ -242,7 +242,7 @@ fn writes_16_777_216_bytes(rt: HostRuntime) -> Result<(), Fail> {
     )
 }
 
-/// The turn of the call for memory that comes behind this many.
+/// The turn of the call for memory that comes after this many.
 fn asks(done: u32) -> Line
     requires { done < 16 }
 {

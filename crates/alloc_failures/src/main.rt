@@ -48,7 +48,7 @@ fn print_quiet<R: Print>(rt: &R, mut quiet: Quiet) -> io::Result<()> {
     Ok(())
 }
 
-/// What the calls work on that take no memory. Where memory was wanting, it is made once more.
+/// What the calls work on that take no memory. Where memory had run out, it is made once more.
 fn quiet_after_set_up(alloc: Global) -> Result<Quiet, Failed> {
     match Quiet::set_up(alloc) {
         Err(Failed::SetUp(_)) => Quiet::set_up(alloc),

@@ -17,7 +17,7 @@ const READ_EXECUTE: Perm = Perm {
 };
 
 /// The image of a program of one instruction, `addi x10, x0, 42`, of three bytes of data across a page
-/// border with zeros behind them up to the first byte of a third page, and of a page without permissions.
+/// border with zeros after them up to the first byte of a third page, and of a page without permissions.
 fn sample(alloc: Global) -> Result<Image, AllocError> {
     let code = vec![in alloc; 0x13, 0x05, 0xA0, 0x02]?;
     let data = vec![in alloc; 1, 2, 3]?;

@@ -1,4 +1,4 @@
--- A beginning of a legal history's output.
+-- A prefix of a legal history's output.
 use Rattle.std.proofs.Common.{◌≡◌, ℕ, Option, Err, List, [], ◌∷◌, ◌++◌, length, take, refl, ap, sym, ◌∙◌, subst, arith, length-append}
 use Rattle.std.specs.Io.KnownBytes.{Appends}
 use Rattle.token.specs.State.{Setup, State, first_state}
@@ -8,7 +8,7 @@ use Rattle.token.specs.Serial.{IsLawful}
 use Rattle.token.specs.declared.outcome.RunOutcome.{RunOutcome}
 use Rattle.token.specs.declared.progress.Progress.{Progress}
 use Rattle.runtime.specs.Faults.{IsUnderWay}
-use Rattle.runtime.specs.Sending.{AppendsFront, Sends, SendsFront, SendsOutput}
+use Rattle.runtime.specs.Sending.{AppendsPrefix, Sends, SendsFront, SendsOutput}
 use Rattle.runtime.specs.declared.run_fault.RunFault.{RunFault}
 use Rattle.runtime.specs.declared.run_fault.RunFault.TheVariants.{Elf, BadConfig, InputTooLarge, OutOfMemory, WriteFailed}
 use Rattle.runtime.proofs.Sent.{appends_none}
@@ -46,30 +46,30 @@ no_output_yet run lawful none =
     let stands = lawful.1 in
     sym (ap (λ (state : State). state.output) stands.state) ∙ output_at_start (point_of run).setup lawful.0 (stands.turns ∙ none)
 
--- a beginning of the output of a run is one of its history's
-pub front_of_history : (run : Progress) (setup : Setup) (fault : RunFault) (old new : Option (List ℕ)) → IsLawful run → (point_of run).setup ≡ setup
+-- a prefix of the output of a run is one of its history's
+pub prefix_of_history : (run : Progress) (setup : Setup) (fault : RunFault) (old new : Option (List ℕ)) → IsLawful run → (point_of run).setup ≡ setup
     → SendsOutput {T = RunOutcome} (Err fault) (point_of run).state.output old new → Sends setup (Err fault) old new
-front_of_history run setup (Elf fault) old new lawful is sent = absurd sent
-front_of_history run setup BadConfig old new lawful is sent = absurd sent
-front_of_history run setup InputTooLarge old new lawful is sent = absurd sent
-front_of_history run setup OutOfMemory old new lawful is sent =
+prefix_of_history run setup (Elf fault) old new lawful is sent = absurd sent
+prefix_of_history run setup BadConfig old new lawful is sent = absurd sent
+prefix_of_history run setup InputTooLarge old new lawful is sent = absurd sent
+prefix_of_history run setup OutOfMemory old new lawful is sent =
     let stands = lawful.1 in
     subst (λ (given : Setup). SendsFront given old new) is
-    (lawful.0, stands.legal, subst (λ (state : State). AppendsFront state.output old new) (sym stands.state) sent)
-front_of_history run setup WriteFailed old new lawful is sent =
+    (lawful.0, stands.legal, subst (λ (state : State). AppendsPrefix state.output old new) (sym stands.state) sent)
+prefix_of_history run setup WriteFailed old new lawful is sent =
     let stands = lawful.1 in
     subst (λ (given : Setup). SendsFront given old new) is
-    (lawful.0, stands.legal, subst (λ (state : State). AppendsFront state.output old new) (sym stands.state) sent)
+    (lawful.0, stands.legal, subst (λ (state : State). AppendsPrefix state.output old new) (sym stands.state) sent)
 
 starts_with_all : (bytes : List ℕ) → take (length bytes) bytes ≡ bytes
 starts_with_all [] = refl
 starts_with_all (n ∷ bytes) = ap (λ (rest : List ℕ). n ∷ rest) (starts_with_all bytes)
 
--- all of an output is a beginning of it
-pub appends_front : (bytes : List ℕ) (old new : Option (List ℕ)) → Appends old new bytes → AppendsFront bytes old new
-appends_front bytes old new sent = (bytes, starts_with_all bytes, sent)
+-- all of an output is a prefix of it
+pub appends_prefix : (bytes : List ℕ) (old new : Option (List ℕ)) → Appends old new bytes → AppendsPrefix bytes old new
+appends_prefix bytes old new sent = (bytes, starts_with_all bytes, sent)
 
--- a fault that comes with a beginning of the output comes under way
+-- a fault that comes with a prefix of the output comes under way
 pub under_way : (fault : RunFault) (output : List ℕ) (old new : Option (List ℕ)) → SendsOutput {T = RunOutcome} (Err fault) output old new → IsUnderWay fault
 under_way (Elf fault) output old new sent = absurd sent
 under_way BadConfig output old new sent = absurd sent

@@ -1,6 +1,6 @@
 use Rattle.std.specs.Prelude.{ℕ}
-use Rattle.calls.specs.declared.code.Code.{Code}
-use Rattle.calls.specs.declared.code.Code.TheVariants.{Done, NoSuchCall, BadArgument, BadAddress, Limit, NotHolder, HoldsLock, NoSuchThread, AlreadyHeld, CountDiffers}
+use Rattle.abi.specs.declared.code.Code.{Code}
+use Rattle.abi.specs.declared.code.Code.TheVariants.{Done, NoSuchCall, BadArgument, BadAddress, Limit, NotHolder, HoldsLock, NoSuchThread, AlreadyHeld, CountDiffers}
 
 -- the number of a code
 abbrev pub number_of : Code → ℕ

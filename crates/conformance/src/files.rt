@@ -119,7 +119,7 @@ static ONE_CHANGE: [(usize, u32, u8); 75] = [
 
 /// Two words changed.
 static TWO_CHANGES: [(usize, u32, usize, u32, u8); 17] = [
-    // The segment ends at the end of the image window, and one byte behind it.
+    // The segment ends at the end of the image window, and one byte after it.
     (92, 0x1FFF_F000, 104, 0x1000, 0),
     (92, 0x1FFF_F000, 104, 0x1001, 16),
     (92, 0x1FFF_FFFF, 104, 1, 0),

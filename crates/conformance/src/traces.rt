@@ -1,4 +1,4 @@
-use calls::{Code, Reply};
+use abi::{Code, Reply};
 use hart::{Cause, Trap};
 use std::alloc::{AllocError, Global};
 use std::test::Fail;

@@ -1,6 +1,6 @@
 //! The calls of a hart, and the table of threads: create, join, a thread's end and the lists.
 
-use calls::{Call, Code, Reply};
+use abi::{Call, Code, Reply};
 use ecalls::{call_of, finish};
 use hart::Hart;
 use std::process::Abort;
@@ -94,7 +94,7 @@ static CALLS: [(u32, Call); 19] = [
     ),
 ];
 
-/// A code and a value, the old pc, and what x10, x11 and pc are behind the call. x11 was 0xB0000002.
+/// A code and a value, the old pc, and what x10, x11 and pc are after the call. x11 was 0xB0000002.
 static FINISHES: [(Code, Option<u32>, u32, u32, u32, u32); 12] = [
     (Code::Done, None, 0x0001_0008, 0, 0xB000_0002, 0x0001_000C),
     (Code::Done, Some(7), 0x0001_0008, 0, 7, 0x0001_000C),
@@ -123,7 +123,7 @@ static THREADS: [(Status, u32, u32); 7] = [
 ];
 
 /// The caller, the thread that it names, whether it holds a mutex, the reply, and the caller's status
-/// behind it. Thread 2 is done with the value 0x80000000.
+/// after it. Thread 2 is done with the value 0x80000000.
 static JOINS: [(u32, u32, bool, Reply, Status); 12] = [
     (3, 3, false, NO_SUCH_THREAD, Status::Ready),
     (3, 3, true, NO_SUCH_THREAD, Status::Ready),
@@ -284,7 +284,7 @@ fn ends_a_thread_that_is_joined(rt: HostRuntime) {
     let mut threads = threads_of_table(&rt);
     assert!(rt; threads.len() == 7);
     assert_eq!(rt; threads.end(2, 9).as_slice(), [0, 4].as_slice());
-    let behind = [
+    let after = [
         Status::Ready,
         Status::Blocked,
         Status::Done(9),
@@ -293,7 +293,7 @@ fn ends_a_thread_that_is_joined(rt: HostRuntime) {
         Status::Blocked,
         Status::Woken(63),
     ];
-    assert_threads(&rt, &threads, &behind);
+    assert_threads(&rt, &threads, &after);
     assert_eq!(rt; threads.end(3, 0).as_slice(), [1].as_slice());
     assert_eq!(rt; thread_at(&rt, &threads, 1).status, Status::Ready);
 }
@@ -303,9 +303,9 @@ fn ends_a_thread_that_none_joins(rt: HostRuntime) {
     let mut threads = threads_of_table(&rt);
     assert!(rt; threads.len() == 7);
     assert!(rt; threads.end(6, 0xFFFF_FFFF).is_empty());
-    let mut behind = THREADS.map(|row| row.0);
-    behind[6] = Status::Done(0xFFFF_FFFF);
-    assert_threads(&rt, &threads, &behind);
+    let mut after = THREADS.map(|row| row.0);
+    after[6] = Status::Done(0xFFFF_FFFF);
+    assert_threads(&rt, &threads, &after);
 }
 
 #[test]

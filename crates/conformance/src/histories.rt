@@ -3,7 +3,7 @@
 ghost use Rattle.std.specs.Prelude.{◌<◌, ◌≤◌, ◌^◌, length, IfSome};
 
 use crate::fixtures::elf_of;
-use calls::{Code, Reply};
+use abi::{Code, Reply};
 use elf32_reader::read;
 use hart::{Cause, Trap};
 use paged_memory::Snapshot;

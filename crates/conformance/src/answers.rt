@@ -6,7 +6,7 @@ use crate::fixtures::{EXIT as EXIT_WORDS, elf_of, loads};
 use crate::histories::Answer::{Ends, Gives, Only};
 use crate::histories::End::Calls;
 use crate::histories::*;
-use calls::Code;
+use abi::Code;
 use runtime::MAX_BOUND;
 use std::alloc::{AllocError, Global};
 use std::test::Fail;
@@ -79,7 +79,7 @@ fn words_of(alloc: Global, number: u32, first: u32, second: u32) -> Result<Vec<u
     Ok(words)
 }
 
-/// What x10 and x11 are behind the call.
+/// What x10 and x11 are after the call.
 fn left(answer: Answer, second: u32) -> (u32, u32) {
     match answer {
         Only(code) => (code.number(), second),

@@ -50,8 +50,8 @@ fn shows_words(rt: HostRuntime) -> Result<(), Fail> {
     Ok(())
 }
 
-/// An executable segment that begins one byte before a multiple of 4 and ends one byte behind a word, one
-/// that isn't executable, and one with three words and zeros behind them.
+/// An executable segment that begins one byte before a multiple of 4 and ends one byte after a word, one
+/// that isn't executable, and one with three words and zeros after them.
 fn sample(alloc: Global) -> Result<Image, AllocError> {
     let code = Perm {
         read: true,

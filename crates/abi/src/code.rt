@@ -1,5 +1,5 @@
 ghost use Rattle.std.specs.Prelude.{◌≡◌};
-ghost use Rattle.calls.specs.Codes.{number_of};
+ghost use Rattle.abi.specs.Codes.{number_of};
 
 /// What a completed call leaves in x10.
 #[derive(Clone, Copy, Debug, PartialEq, Eq)]

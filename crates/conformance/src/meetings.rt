@@ -5,7 +5,7 @@ use crate::histories::Answer::{Ends, Gives, Only, Waits};
 use crate::histories::End::{Calls, Quantum, Traps, Wakes};
 use crate::histories::*;
 use crate::worked::{PRELUDE, RACE};
-use calls::Code;
+use abi::Code;
 use hart::{Cause, Trap};
 use runtime::MAX_BOUND;
 use std::test::Fail;
@@ -202,8 +202,8 @@ static RUN_OF_A_DEADLOCK_BESIDE_A_THREAD_THAT_ENDED: Case<'static> = Case {
     bytes: &[],
 };
 
-static RUN_OF_NOTHING_IS_COMMITTED_BEHIND_AN_EXIT: Case<'static> = Case {
-    name: "nothing is committed behind an exit",
+static RUN_OF_NOTHING_IS_COMMITTED_AFTER_AN_EXIT: Case<'static> = Case {
+    name: "nothing is committed after an exit",
     words: [EXIT_FIRST, &[]],
     input: b"",
     bound: MAX_BOUND,
@@ -326,7 +326,7 @@ fn meets_as_worked_out(rt: HostRuntime) -> Result<(), Fail> {
         &RUN_OF_A_BARRIER_IN_TWO_PHASES,
         &RUN_OF_A_MUTEX_OF_A_THREAD_THAT_ENDED,
         &RUN_OF_A_DEADLOCK_BESIDE_A_THREAD_THAT_ENDED,
-        &RUN_OF_NOTHING_IS_COMMITTED_BEHIND_AN_EXIT,
+        &RUN_OF_NOTHING_IS_COMMITTED_AFTER_AN_EXIT,
         &RUN_OF_A_TRAP_COMMITS,
         &RUN_OF_A_KEEPER_AT_ITS_BOUND,
         &RUN_OF_A_KEEPER_HAS_NO_QUANTUM,

@@ -7,7 +7,7 @@ pub struct Answer {
     pub count: u64,
     /// A number that was read, or the status of a run.
     pub value: u32,
-    /// The digest of what stands behind the call.
+    /// The digest of what stands after the call.
     pub digest: u64,
 }
 

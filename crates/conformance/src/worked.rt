@@ -4,13 +4,13 @@ use crate::fixtures::SEVEN;
 use crate::histories::Answer::{Ends, Gives, Only, Waits};
 use crate::histories::End::{Calls, Quantum, Traps, Wakes};
 use crate::histories::*;
-use calls::Code;
+use abi::Code;
 use hart::{Cause, Trap};
 use runtime::MAX_BOUND;
 use std::test::Fail;
 use token::RunOutcome;
 
-/// Thread 0 locks mutex 0, creates two threads behind these words, unlocks, joins both and exits with the byte
+/// Thread 0 locks mutex 0, creates two threads after these words, unlocks, joins both and exits with the byte
 /// at 0x00020000.
 pub const PRELUDE: &[u32] = &[
     0x00010437, 0x00500893, 0x00000073, 0x00300893, 0x04C40513, 0x00000073, 0x04C40513, 0x00000073,
@@ -35,7 +35,7 @@ pub const RACE: &[u32] = &[0x000204B7, 0x00B48023, 0x00200893, 0x00000073];
 /// Threads 1 and 2 store their numbers to two bytes side by side.
 const NEIGHBOURS: &[u32] = &[0x000204B7, 0x00B484B3, 0xFEB48FA3, 0x00200893, 0x00000073];
 
-/// Thread 2 meets an illegal word at once, and thread 1 an EBREAK behind a long loop.
+/// Thread 2 meets an illegal word at once, and thread 1 an EBREAK after a long loop.
 const LATE_TRAP: &[u32] = &[
     0xFFF58293, 0x00029A63, 0x0007A337, 0xFFF30313, 0xFE031EE3, 0x00100073, 0x00000000,
 ];

@@ -1,6 +1,6 @@
 //! Mutexes, condition variables and barriers: calls in turn, each by its thread, and what it answers.
 
-use calls::{Call, Reply};
+use abi::{Call, Reply};
 use condvar_barrier::Objects;
 use std::alloc::{AllocError, Global};
 use std::process::Abort;

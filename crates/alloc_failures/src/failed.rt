@@ -4,7 +4,7 @@ use thiserror::Error;
 /// Why a case has no answer.
 #[derive(Debug, Drop, Error)]
 pub enum Failed {
-    /// Memory was wanting in its set-up.
+    /// Memory ran out in its set-up.
     #[error("its set-up was refused")]
     SetUp(#[from] AllocError),
     /// A refused call changed something.

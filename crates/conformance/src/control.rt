@@ -5,7 +5,7 @@ use hart::{Hart, Stepped, step};
 use runtime::RunOutcome;
 use std::test::Fail;
 
-/// A branch on x5 and x6, over the instruction behind it, what x5 and x6 hold, and whether it is taken.
+/// A branch on x5 and x6, over the instruction after it, what x5 and x6 hold, and whether it is taken.
 static BRANCHES: [(u32, u32, u32, bool); 34] = [
     // BEQ.
     (0x0062_8463, 0x0000_0005, 0x0000_0005, true),

@@ -25,7 +25,7 @@ pub const CONFIG: Config = Config {
     workers: 1,
 };
 
-/// The words of an ELF header with two program headers right behind it.
+/// The words of an ELF header with two program headers right after it.
 const HEADER: [u32; 13] = [
     0x464C_457F,
     0x0001_0101,
@@ -45,7 +45,7 @@ const HEADER: [u32; 13] = [
 /// The program header of a page of zeros at 0x00020000 that can be read and written.
 const DATA: [u32; 8] = [1, 116, 0x0002_0000, 0, 0, 4096, 6, 0];
 
-/// The program header of 15 further pages of zeros behind it.
+/// The program header of 15 further pages of zeros after it.
 const MORE: [u32; 8] = [1, 148, 0x0002_1000, 0, 0, 61_440, 6, 0];
 
 /// The bytes of a file: its code are these words, from 0x00010000 on, and a page of zeros is at 0x00020000.
