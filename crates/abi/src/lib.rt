@@ -3,10 +3,12 @@
 #![tactic(auto)]
 
 pub mod call;
+pub mod call_kind;
 pub mod code;
 pub mod limits;
 pub mod reply;
 
 pub use call::Call;
+pub use call_kind::CallKind;
 pub use code::Code;
 pub use reply::Reply;

@@ -1,7 +1,7 @@
 ghost use Rattle.std.specs.Prelude.{◌≡◌};
 ghost use Rattle.ecalls.specs.Request as spec;
 
-use abi::Call;
+use abi::{Call, CallKind};
 use hart::Hart;
 
 /// The call that a hart at an ecall makes: its number stands in x17, its arguments in x10, x11 and x12.
@@ -14,41 +14,44 @@ pub fn call_of(hart: &Hart) -> Call
     let first = hart.reg(10);
     let second = hart.reg(11);
     let third = hart.reg(12);
-    match hart.reg(17) {
-        1 => Call::Exit { status: first },
-        2 => Call::ThreadExit { value: first },
-        3 => Call::Create {
+    let number = hart.reg(17);
+    let Some(kind) = CallKind::from_number(number) else {
+        return Call::Unknown { number };
+    };
+    match kind {
+        CallKind::Exit => Call::Exit { status: first },
+        CallKind::ThreadExit => Call::ThreadExit { value: first },
+        CallKind::Create => Call::Create {
             entry: first,
             argument: second,
             stack_pointer: third,
         },
-        4 => Call::Join { thread: first },
-        5 => Call::Lock { mutex: first },
-        6 => Call::Unlock { mutex: first },
-        7 => Call::Wait {
+        CallKind::Join => Call::Join { thread: first },
+        CallKind::Lock => Call::Lock { mutex: first },
+        CallKind::Unlock => Call::Unlock { mutex: first },
+        CallKind::Wait => Call::Wait {
             condition: first,
             mutex: second,
         },
-        8 => Call::Signal { condition: first },
-        9 => Call::Broadcast { condition: first },
-        10 => Call::Barrier {
+        CallKind::Signal => Call::Signal { condition: first },
+        CallKind::Broadcast => Call::Broadcast { condition: first },
+        CallKind::Barrier => Call::Barrier {
             barrier: first,
             count: second,
         },
-        11 => Call::Write {
+        CallKind::Write => Call::Write {
             address: first,
             length: second,
         },
-        12 => Call::Read {
+        CallKind::Read => Call::Read {
             address: first,
             length: second,
         },
-        13 => Call::Memory { pages: first },
-        14 => Call::Sync,
-        15 => Call::Release {
+        CallKind::Memory => Call::Memory { pages: first },
+        CallKind::Sync => Call::Sync,
+        CallKind::Release => Call::Release {
             address: first,
             pages: second,
         },
-        number => Call::Unknown { number },
     }
 }

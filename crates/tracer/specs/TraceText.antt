@@ -1,7 +1,9 @@
 -- The text of a trace: one line a turn, each ended by a newline.
-use Rattle.std.specs.Prelude.{ℕ, ◌==◌, if◌then◌else◌, Some, None, List, ◌++◌, codes, decimal, slice_index}
+use Rattle.std.specs.Prelude.{ℕ, Option, Some, None, List, ◌++◌, codes, decimal, slice_index}
 use Rattle.std.specs.List.{flat_map}
+use Rattle.abi.specs.Calls.{kind_of, name_of}
 use Rattle.abi.specs.Codes.{number_of as code_number}
+use Rattle.abi.specs.declared.call_kind.CallKind.{CallKind}
 use Rattle.abi.specs.declared.reply.Reply.{Reply}
 use Rattle.abi.specs.declared.reply.Reply.TheVariants.{Completed, Waits, Ends}
 use Rattle.hart.specs.Cause.{number_of as cause_number}
@@ -15,25 +17,13 @@ use Rattle.token.specs.declared.turn.TurnStop.TheVariants.{Call, Trap, Quantum, 
 abbrev pub word_text : ℕ → List ℕ
 word_text word = hexadecimal 8 word
 
--- NAME: that of the call with this number, or call_ and the number where there is none
+-- NAME: that of the call, or call_ and the number where no call has it
+abbrev pub name_by : ℕ → Option CallKind → List ℕ
+name_by number None = codes "call_" ++ word_text number
+name_by number (Some kind) = name_of kind
+
 unfoldable pub name_text : ℕ → List ℕ
-name_text number =
-    if number == 1 then codes "exit"
-    else if number == 2 then codes "thread_exit"
-    else if number == 3 then codes "create"
-    else if number == 4 then codes "join"
-    else if number == 5 then codes "lock"
-    else if number == 6 then codes "unlock"
-    else if number == 7 then codes "wait"
-    else if number == 8 then codes "signal"
-    else if number == 9 then codes "broadcast"
-    else if number == 10 then codes "barrier"
-    else if number == 11 then codes "write"
-    else if number == 12 then codes "read"
-    else if number == 13 then codes "memory"
-    else if number == 14 then codes "sync"
-    else if number == 15 then codes "release"
-    else codes "call_" ++ word_text number
+name_text number = name_by number (kind_of number)
 
 -- RESULT: CODE or CODE VALUE of a completed call, wait of one that blocks, end where the thread or the run has ended
 unfoldable pub result_text : Reply → List ℕ
