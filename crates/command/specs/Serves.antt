@@ -5,10 +5,10 @@ use Rattle.std.specs.Io.KnownBytes.{Appends}
 use Rattle.disassembler.specs.Listings.{listing_of}
 use Rattle.elf32_reader.specs.Segments.{image_of}
 use Rattle.elf32_reader.specs.Refusals.{first_refusal}
-use Rattle.elf32_reader.specs.declared.file_header.TheConstants.{FILE_LIMIT}
+use Rattle.elf32_reader.specs.Format.{file_limit}
 use Rattle.runtime.specs.Run.{Answers, IsAccepted, IsRunnable}
 use Rattle.runtime.specs.declared.config.Config.{Config}
-use Rattle.runtime.specs.declared.limits.TheConstants.{MAX_INPUT}
+use Rattle.runtime.specs.Limits as limit
 use Rattle.runtime.specs.declared.report.Report.{Report}
 use Rattle.runtime.specs.declared.run_fault.RunFault.TheVariants as run
 use Rattle.token.specs.declared.outcome.RunOutcome.{RunOutcome}
@@ -51,7 +51,7 @@ IsUnread path (CannotWrite place) = ⊥
 -- bytes of the file and of the input were read, and such is their run
 abbrev pub AreRun : Option (List ℕ) → Option (List ℕ) → (List ℕ → List ℕ → Type 0) → Type 0
 AreRun content input Is =
-    (elf : List ℕ) × (given : List ℕ) × AreRead FILE_LIMIT content elf × AreRead MAX_INPUT input given × Is elf given
+    (elf : List ℕ) × (given : List ℕ) × AreRead file_limit content elf × AreRead limit.input input given × Is elf given
 
 -- The run of the bytes of the file and of the input gives this report, and all of its output was put after what standard output held.
 abbrev pub RunsFile : Option (List ℕ) → Option (List ℕ) → Config → Report → Option (List ℕ) → Option (List ℕ) → Type 0
@@ -67,8 +67,8 @@ IsUnrun path content input config failure =
 -- their first refusal.
 abbrev pub Lists : {A : Type 0} → (A → List ℕ) → List ℕ → Option (List ℕ) → Result A Failure → Type 0
 Lists bytes_of path content (Ok text) =
-    (elf : List ℕ) × AreRead FILE_LIMIT content elf × (first_refusal elf ≡ None) × (bytes_of text ≡ listing_of (image_of elf))
-Lists bytes_of path content (Err (ElfRefused fault)) = (elf : List ℕ) × AreRead FILE_LIMIT content elf × (first_refusal elf ≡ Some fault)
+    (elf : List ℕ) × AreRead file_limit content elf × (first_refusal elf ≡ None) × (bytes_of text ≡ listing_of (image_of elf))
+Lists bytes_of path content (Err (ElfRefused fault)) = (elf : List ℕ) × AreRead file_limit content elf × (first_refusal elf ≡ Some fault)
 Lists bytes_of path content (Err (CannotRead place)) = IsAt path place
 Lists bytes_of path content (Err OutOfMemory) = Unit {0}
 Lists bytes_of path content (Err OutsideRange) = ⊥
@@ -101,7 +101,7 @@ NamesNoRecord (Replay file schedule config) = Unit {0}
 -- The listing of the file at a path was put after what standard output held before.
 abbrev pub Prints : Option (List ℕ) → Option (List ℕ) → Option (List ℕ) → Type 0
 Prints content old new =
-    (elf : List ℕ) × AreRead FILE_LIMIT content elf × (first_refusal elf ≡ None) × Appends old new (listing_of (image_of elf))
+    (elf : List ℕ) × AreRead file_limit content elf × (first_refusal elf ≡ None) × Appends old new (listing_of (image_of elf))
 
 -- Why there is no listing of the file at a path on standard output: there is none, or it can't be written.
 abbrev pub IsUnlisted : List ℕ → Option (List ℕ) → Failure → Type 0

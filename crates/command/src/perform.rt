@@ -1,5 +1,6 @@
 ghost use Rattle.std.specs.Prelude.{◌≡◌, ◌≢◌, ◌⊎◌, ◌+◌, ◌-◌, ◌^◌, ◌<◌, IfErr, IsNone, OnOk};
 ghost use Rattle.clap.specs.Values.{kind_of};
+ghost use Rattle.runtime.specs.Limits as limit;
 ghost use Rattle.command.specs.Serves.{NamesNoRecord, RunsInto, Serves};
 ghost use Rattle.command.specs.Status.{answer_status, failure_status, outcome_status};
 ghost use Rattle.command.specs.Taken.{TakesAtMost};
@@ -16,7 +17,7 @@ use crate::standard_output::StandardOutput;
 use clap::Error;
 use clap::error::ErrorKind;
 use hart::Trap;
-use runtime::{Config, MAX_INPUT, RunOutcome};
+use runtime::{Config, RunOutcome};
 use std::alloc::Global;
 use std::convert::AsStr;
 use std::io;
@@ -38,7 +39,7 @@ pub fn perform<H: Wait, S: AsStr, F: Files, R: Read, W: Write, E: Write>(
     stderr: &mut E,
 ) -> u8
     requires { stdout.old.failures < 2 ^ 64 - 1 }
-    ensures { TakesAtMost (MAX_INPUT + 1) (R.remaining stdin.old) (R.remaining stdin.new) }
+    ensures { TakesAtMost (limit.input + 1) (R.remaining stdin.old) (R.remaining stdin.new) }
 {
     match parse(alloc, words) {
         Ok(Request::Disasm { file }) => conclude_listing(
@@ -60,7 +61,7 @@ fn answer<'a, H: Wait, F: Files, R: Read, W: Write>(
     stdout: &mut StandardOutput<W>,
 ) -> Result<RunOutcome, Failure<'a>>
     requires { stdout.old.failures < 2 ^ 64 - 1 }
-    ensures input { TakesAtMost (MAX_INPUT + 1) (R.remaining stdin.old) (R.remaining stdin.new) }
+    ensures input { TakesAtMost (limit.input + 1) (R.remaining stdin.old) (R.remaining stdin.new) }
     ensures answer { Serves (F.content files.old) (F.content files.new) (R.remaining stdin.old)
         (W.contents stdout.old.writer) (W.contents stdout.new.writer) request.now result }
     ensures unnamed { NamesNoRecord request.now → files.new ≡ files.old }
@@ -87,7 +88,7 @@ fn run_recorded<'a, H: Wait, F: Files, R: Read, W: Write>(
     stdout: &mut StandardOutput<W>,
 ) -> Result<RunOutcome, Failure<'a>>
     requires { stdout.old.failures < 2 ^ 64 - 1 }
-    ensures input { TakesAtMost (MAX_INPUT + 1) (R.remaining stdin.old) (R.remaining stdin.new) }
+    ensures input { TakesAtMost (limit.input + 1) (R.remaining stdin.old) (R.remaining stdin.new) }
     ensures answer { RunsInto (F.content files.old) (F.content files.new) (R.remaining stdin.old)
         (W.contents stdout.old.writer) (W.contents stdout.new.writer) file.now config.now records.now result }
     ensures unnamed { IsNone records.now.trace → IsNone records.now.report → files.new ≡ files.old }

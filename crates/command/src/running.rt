@@ -1,6 +1,7 @@
 ghost use Rattle.std.specs.Prelude.{◌≡◌, ◌+◌, ◌-◌, ◌^◌, ◌<◌, Ok, IfOk, IfErr};
 ghost use Rattle.std.specs.Io.KnownBytes.{Appends};
 ghost use Rattle.runtime.specs.Run.{Answers};
+ghost use Rattle.runtime.specs.Limits as limit;
 ghost use Rattle.command.specs.Serves.{IsRefused, IsUnrun, RunsFile};
 ghost use Rattle.command.specs.Taken.{TakesAtMost};
 
@@ -26,7 +27,7 @@ pub fn run_file<'a, H: Wait, F: Files, R: Read, W: Write>(
     stdout: &mut StandardOutput<W>,
 ) -> Result<Report, Failure<'a>>
     requires { stdout.old.failures < 2 ^ 64 - 1 }
-    ensures input { TakesAtMost (MAX_INPUT + 1) (R.remaining stdin.old) (R.remaining stdin.new) }
+    ensures input { TakesAtMost (limit.input + 1) (R.remaining stdin.old) (R.remaining stdin.new) }
     ensures ran { IfOk result (λ report. RunsFile (F.content files.now file.now) (R.remaining stdin.old) config.now report
         (W.contents stdout.old.writer) (W.contents stdout.new.writer)) }
     ensures failed { IfErr result (IsUnrun file.now (F.content files.now file.now) (R.remaining stdin.old) config.now) }

@@ -1,7 +1,6 @@
 use Rattle.std.specs.Prelude.{◌≡◌, ℕ, ◌*◌, ◌%◌, ◌^◌, ◌<◌, ◌==◌, if◌then◌else◌, Option, None, List, [], ◌∷◌, length, slice_index, map}
 use Rattle.std.specs.List.Sorted.{IsStrictlyIncreasing}
-use Rattle.guest_memory.specs.Layout.{page_of}
-use Rattle.guest_memory.specs.declared.layout.TheConstants.{PAGE_SIZE}
+use Rattle.guest_memory.specs.Layout.{page_of, page_size}
 use Rattle.commit.specs.Bytes.{differing_count, differing_from}
 use Rattle.commit.specs.Merge.{changed_byte}
 use Rattle.commit.specs.Changed.{addresses_of}
@@ -14,11 +13,11 @@ pub record PageChange : Type 0 where
 
 -- the byte that a page's change has at an address of the page
 abbrev pub byte_of_change : PageChange → ℕ → Option ℕ
-byte_of_change change address = changed_byte (slice_index change.copy (address % PAGE_SIZE)) (slice_index change.mine (address % PAGE_SIZE))
+byte_of_change change address = changed_byte (slice_index change.copy (address % page_size)) (slice_index change.mine (address % page_size))
 
 -- the addresses of a page at which its bytes differ, ascending
 abbrev pub addresses_in : PageChange → List ℕ
-addresses_in change = differing_from (PAGE_SIZE * change.number) change.copy change.mine
+addresses_in change = differing_from (page_size * change.number) change.copy change.mine
 
 -- A patch as a map from address to byte: the byte that the change of the address's page has there, or none.
 unfoldable pub patched : List PageChange → ℕ → Option ℕ

@@ -1,5 +1,6 @@
 ghost use Rattle.std.specs.Prelude.{◌≡◌, ◌^◌, ◌<◌, [], ◌∷◌, ◌++◌, length, OnOk};
 ghost use Rattle.std.specs.Arc.{arc_value};
+ghost use Rattle.guest_memory.specs.Layout.{page_size};
 ghost use Rattle.paged_memory.specs.Page.{PageValue};
 ghost use Rattle.commit.specs.Bytes.{differing_count};
 ghost use Rattle.commit.specs.Patched.{PageChange, IsPageChange};
@@ -61,8 +62,8 @@ impl ChangedPage {
     pub(crate) fn push_addresses(&self, addresses: &mut Vec<u32>) -> Result<(), AllocError>
         ensures pushed { OnOk result (addresses.new.items ≡ addresses.old.items ++ addresses_in self.now) }
         ensures number { self.now.number < 2 ^ 20 }
-        ensures copy { length self.now.copy ≡ 4096 }
-        ensures mine { length self.now.mine ≡ 4096 }
+        ensures copy { length self.now.copy ≡ page_size }
+        ensures mine { length self.now.mine ≡ page_size }
     {
         push_differing(
             addresses,

@@ -8,7 +8,7 @@ use Rattle.std.proofs.lemmas.Bool.Decides.{nat_tests}
 use Rattle.std.proofs.lemmas.Map.Keys.{IsDistinct-cons}
 use Rattle.std.proofs.lemmas.Map.Steps.{length-le_from_distinct_below}
 use Rattle.std.proofs.lemmas.List.Folds.{list_any-append}
-use Rattle.abi.specs.declared.limits.TheConstants.{THREADS}
+use Rattle.abi.specs.Limits as limit
 use Rattle.condvar_barrier.specs.Objects.{is_among}
 use Rattle.condvar_barrier.specs.Sound.{AreApart}
 use Rattle.condvar_barrier.specs.declared.waiter.Waiter.{Waiter}
@@ -45,7 +45,7 @@ AreApart-filter test (waiter ∷ waiters) apart =
     ]
 
 -- so are they with one more that isn't among them
-pub AreApart-push : (waiters : List Waiter) (last : Waiter) → AreApart waiters → last.thread < THREADS → is_among last.thread waiters ≡ false → AreApart (waiters ++ last ∷ [])
+pub AreApart-push : (waiters : List Waiter) (last : Waiter) → AreApart waiters → last.thread < limit.threads → is_among last.thread waiters ≡ false → AreApart (waiters ++ last ∷ [])
 unfolding AreApart
 AreApart-push [] last apart number h = (number, refl, tt)
 AreApart-push (waiter ∷ waiters) last apart number h = (
@@ -68,7 +68,7 @@ distinct_threads [] apart = tt
 distinct_threads (waiter ∷ waiters) apart =
     IsDistinct-cons eqb waiter.thread (map (λ waiter. waiter.thread) waiters) (apart_from waiter.thread waiters apart.1) (distinct_threads waiters apart.2)
 
-small_threads : (waiters : List Waiter) → AreApart waiters → (thread : ℕ) → list_any (eqb thread) (map (λ waiter. waiter.thread) waiters) ≡ true → thread < THREADS
+small_threads : (waiters : List Waiter) → AreApart waiters → (thread : ℕ) → list_any (eqb thread) (map (λ waiter. waiter.thread) waiters) ≡ true → thread < limit.threads
 unfolding AreApart
 small_threads [] apart thread h = absurd (cc)
 small_threads (waiter ∷ waiters) apart thread h =
@@ -78,13 +78,13 @@ small_threads (waiter ∷ waiters) apart thread h =
     ]
 
 -- there is room for one that isn't among them
-pub length-AreApart : (waiters : List Waiter) → AreApart waiters → length waiters ≤ THREADS
+pub length-AreApart : (waiters : List Waiter) → AreApart waiters → length waiters ≤ limit.threads
 length-AreApart waiters apart =
-    let most : length (map (λ (waiter : Waiter). waiter.thread) waiters) ≤ THREADS =
-    length-le_from_distinct_below (map (λ waiter. waiter.thread) waiters) THREADS (distinct_threads waiters apart) (small_threads waiters apart) in
+    let most : length (map (λ (waiter : Waiter). waiter.thread) waiters) ≤ limit.threads =
+    length-le_from_distinct_below (map (λ waiter. waiter.thread) waiters) limit.threads (distinct_threads waiters apart) (small_threads waiters apart) in
     rw length-map at most
 
-pub room : (waiters : List Waiter) (last : Waiter) → AreApart waiters → last.thread < THREADS → is_among last.thread waiters ≡ false → length waiters < THREADS
+pub room : (waiters : List Waiter) (last : Waiter) → AreApart waiters → last.thread < limit.threads → is_among last.thread waiters ≡ false → length waiters < limit.threads
 room waiters last apart number h =
-    let most : length (waiters ++ last ∷ []) ≤ THREADS = length-AreApart (waiters ++ last ∷ []) (AreApart-push waiters last apart number h) in
+    let most : length (waiters ++ last ∷ []) ≤ limit.threads = length-AreApart (waiters ++ last ∷ []) (AreApart-push waiters last apart number h) in
     omega (arith, length-append waiters (last ∷ []))

@@ -5,7 +5,7 @@ use Rattle.std.proofs.lemmas.Bool.Decides.{nat_tests}
 use Rattle.std.proofs.lemmas.List.{map-id}
 use Rattle.std.proofs.lemmas.List.Elements.{filter_agree}
 use Rattle.abi.specs.declared.code.Code.TheVariants.{Done}
-use Rattle.abi.specs.declared.limits.TheConstants.{OBJECTS, BARRIER_COUNT}
+use Rattle.abi.specs.Limits as limit
 use Rattle.abi.specs.declared.reply.Reply.TheVariants.{Completed}
 use Rattle.condvar_barrier.specs.Objects.{ObjectState, queue, queued_at, arrivals, arrived_at, counts_differ, holds, without}
 use Rattle.condvar_barrier.specs.Rows.{woke, let_pass, signal, broadcast, barrier}
@@ -21,8 +21,8 @@ filter-always (waiter ∷ waiters) = ap (λ (rest : List Waiter). waiter ∷ res
 other_thread : (one other : ℕ) → not (one == other) ≡ not ((other == one) || false)
 other_thread one other = grind (arith, nat_tests)
 
-module _ (objects : ObjectState) (condition : ℕ) (within : condition < OBJECTS) where
-  in_range : nat_le OBJECTS condition ≡ false
+module _ (objects : ObjectState) (condition : ℕ) (within : condition < limit.objects) where
+  in_range : nat_le limit.objects condition ≡ false
   in_range = grind (arith, nat_tests)
 
   -- nobody waits there
@@ -48,16 +48,16 @@ module _ (objects : ObjectState) (condition : ℕ) (within : condition < OBJECTS
       (ap (λ waiters. woke (Completed Done (Some (length (queue objects condition)))) (queue objects condition) (record objects { waiters = waiters }))
       (left ∙ filter-found (λ (waiter : Waiter). queued_at condition waiter.thread waiter.place) (λ (woken : Woken). woken.thread) (queued_thread condition) objects.waiters apart))
 
-module _ (objects : ObjectState) (thread number count : ℕ) (within : number < OBJECTS) (some : 0 < count) (most : count ≤ BARRIER_COUNT) where
+module _ (objects : ObjectState) (thread number count : ℕ) (within : number < limit.objects) (some : 0 < count) (most : count ≤ limit.barrier_count) where
   -- those who wait there make the count full with the caller
   pub barrier-full : (rest : List Waiter) → AreApart objects.waiters → rest ≡ filter (λ waiter. is_none (arrived_at number waiter.thread waiter.place)) objects.waiters
       → holds objects thread ≡ false → counts_differ objects number count ≡ false → count ≤ length (arrivals objects number) + 1
       → let_pass (Completed Done (Some 1)) (arrivals objects number) (record objects { waiters = rest }) ≡ barrier objects thread number count
   unfolding barrier without arrivals
   barrier-full rest apart left free alike full =
-      let in_range : nat_le OBJECTS number ≡ false = grind (arith, nat_tests) in
+      let in_range : nat_le limit.objects number ≡ false = grind (arith, nat_tests) in
       let not_none : (count == 0) ≡ false = grind (arith, nat_tests) in
-      let not_over : nat_lt BARRIER_COUNT count ≡ false = grind (arith, nat_tests) in
+      let not_over : nat_lt limit.barrier_count count ≡ false = grind (arith, nat_tests) in
       let not_below : nat_lt (length (arrivals objects number) + 1) count ≡ false = grind (arith, nat_tests) in
       rw (in_range, not_none, not_over, free, alike, not_below)
       (ap (λ waiters. let_pass (Completed Done (Some 1)) (arrivals objects number) (record objects { waiters = waiters }))

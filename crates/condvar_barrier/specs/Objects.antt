@@ -1,7 +1,7 @@
 -- The mutexes, condition variables and barriers of a run.
 use Rattle.std.specs.Prelude.{ℕ, Bool, false, not, ◌&&◌, ◌==◌, if◌then◌else◌, Option, Some, None, List, [], ◌∷◌, ◌++◌, replicate, slice_index_or, slice_set, filter}
 use Rattle.std.specs.List.{list_any, filter_map}
-use Rattle.abi.specs.declared.limits.TheConstants.{OBJECTS}
+use Rattle.abi.specs.Limits as limit
 use Rattle.condvar_barrier.specs.declared.place.Place.{Place}
 use Rattle.condvar_barrier.specs.declared.place.Place.TheVariants.{Condition, Barrier}
 use Rattle.condvar_barrier.specs.declared.waiter.Waiter.{Waiter}
@@ -15,7 +15,7 @@ pub record ObjectState : Type 0 where
 
 -- every mutex is free and nobody waits
 unfoldable pub all_free : ObjectState
-all_free = record { holders = replicate OBJECTS None; waiters = [] }
+all_free = record { holders = replicate limit.objects None; waiters = [] }
 
 -- whether a mutex with this holder is held by a thread
 abbrev pub is_held_by : ℕ → Option ℕ → Bool

@@ -2,7 +2,7 @@
 use Rattle.std.specs.Prelude.{ℕ, ◌+◌, not, ◌||◌, ◌==◌, nat_le, nat_lt, if◌then◌else◌, Option, Some, None, List, [], map, length, take}
 use Rattle.abi.specs.declared.code.Code.{Code}
 use Rattle.abi.specs.declared.code.Code.TheVariants.{Done, BadArgument, NotHolder, HoldsLock, AlreadyHeld, CountDiffers}
-use Rattle.abi.specs.declared.limits.TheConstants.{OBJECTS, BARRIER_COUNT}
+use Rattle.abi.specs.Limits as limit
 use Rattle.abi.specs.declared.reply.Reply.{Reply}
 use Rattle.abi.specs.declared.reply.Reply.TheVariants.{Completed, Waits}
 use Rattle.condvar_barrier.specs.Objects.{ObjectState, is_held_by, holds, holds_mutex, with_holder, queue, arrivals, counts_differ, with_waiter, without}
@@ -44,21 +44,21 @@ passes threads objects = let_pass (Completed Done (Some 1)) threads (without obj
 -- lock(mutex): a mutex that another thread holds changes its holder, which no run comes to
 unfoldable pub lock : ObjectState → ℕ → ℕ → Outcome
 lock objects thread mutex =
-    if nat_le OBJECTS mutex then refused BadArgument objects
+    if nat_le limit.objects mutex then refused BadArgument objects
     else (if holds_mutex objects thread mutex then refused AlreadyHeld objects
     else replied (Completed Done None) (with_holder objects mutex (Some thread)))
 
 -- unlock(mutex): it is free then
 unfoldable pub unlock : ObjectState → ℕ → ℕ → Outcome
 unlock objects thread mutex =
-    if nat_le OBJECTS mutex then refused BadArgument objects
+    if nat_le limit.objects mutex then refused BadArgument objects
     else (if not (holds_mutex objects thread mutex) then refused NotHolder objects
     else replied (Completed Done None) (with_holder objects mutex None))
 
 -- wait(condition, mutex): the caller may hold no other mutex once this one is given back
 unfoldable pub wait : ObjectState → ℕ → ℕ → ℕ → Outcome
 wait objects thread condition mutex =
-    if nat_le OBJECTS condition || nat_le OBJECTS mutex then refused BadArgument objects
+    if nat_le limit.objects condition || nat_le limit.objects mutex then refused BadArgument objects
     else (if not (holds_mutex objects thread mutex) then refused NotHolder objects
     else (if holds (with_holder objects mutex None) thread then refused HoldsLock objects
     else replied Waits (with_waiter (with_holder objects mutex None) thread (Condition condition mutex))))
@@ -66,19 +66,19 @@ wait objects thread condition mutex =
 -- signal(condition): the first of the queue is woken
 unfoldable pub signal : ObjectState → ℕ → Outcome
 signal objects condition =
-    if nat_le OBJECTS condition then refused BadArgument objects
+    if nat_le limit.objects condition then refused BadArgument objects
     else wakes (take 1 (queue objects condition)) objects
 
 -- broadcast(condition): the whole queue is woken
 unfoldable pub broadcast : ObjectState → ℕ → Outcome
 broadcast objects condition =
-    if nat_le OBJECTS condition then refused BadArgument objects
+    if nat_le limit.objects condition then refused BadArgument objects
     else wakes (queue objects condition) objects
 
 -- barrier(number, count): the one that makes the count full lets all others pass
 unfoldable pub barrier : ObjectState → ℕ → ℕ → ℕ → Outcome
 barrier objects thread number count =
-    if nat_le OBJECTS number || (count == 0) || nat_lt BARRIER_COUNT count then refused BadArgument objects
+    if nat_le limit.objects number || (count == 0) || nat_lt limit.barrier_count count then refused BadArgument objects
     else (if holds objects thread then refused HoldsLock objects
     else (if counts_differ objects number count then refused CountDiffers objects
     else (if nat_lt (length (arrivals objects number) + 1) count then replied Waits (with_waiter objects thread (Barrier number count))

@@ -1,5 +1,6 @@
 ghost use Rattle.std.specs.Prelude.{◌≡◌, ◌<◌, None, [], map};
 ghost use Rattle.std.specs.List.{list_any};
+ghost use Rattle.abi.specs.Limits as limit;
 ghost use Rattle.condvar_barrier.specs.Objects.{is_held_by, is_among, names_another};
 ghost use Rattle.condvar_barrier.specs.Rows.{released_by};
 
@@ -7,9 +8,9 @@ use crate::answer::Answer;
 use crate::place::Place;
 use crate::waiter::Waiter;
 use crate::woken::Woken;
-use arrayvec::ArrayVec;
 use abi::limits::{BARRIER_COUNT, OBJECTS, THREADS};
 use abi::{Code, Reply};
+use arrayvec::ArrayVec;
 use std::marker::Model;
 
 /// How many mutexes there are.
@@ -139,7 +140,7 @@ impl Objects {
     /// BadArgument: no mutex has this number. AlreadyHeld: the caller holds it.
     #[tactic(auto, unfolding(crate::specs::Objects::with_holder, crate::specs::Rows::lock))]
     pub fn lock(&mut self, thread: u32, mutex: u32) -> Reply
-        requires { thread < THREADS }
+        requires { thread < limit.threads }
         ensures { replied result self.new ≡ lock self.old thread mutex }
     {
         if mutex >= OBJECTS {
@@ -175,7 +176,7 @@ impl Objects {
     /// mutex. HoldsLock: it holds another one too.
     #[tactic(auto, unfolding(crate::specs::Objects::with_holder, crate::specs::Objects::holds, crate::specs::Objects::is_waiting, crate::specs::Rows::wait))]
     pub fn wait(&mut self, thread: u32, condition: u32, mutex: u32) -> Reply
-        requires number { thread < THREADS }
+        requires number { thread < limit.threads }
         requires idle { is_waiting self.old thread ≡ false }
         ensures { replied result self.new ≡ wait self.old thread condition mutex }
     {
@@ -256,7 +257,7 @@ impl Objects {
     /// mutex. CountDiffers: those who wait there named another count.
     #[tactic(auto, unfolding(crate::specs::Rows::barrier))]
     pub fn barrier(&mut self, thread: u32, number: u32, count: u32) -> Answer<ArrayVec<u8, WAITERS>>
-        requires number { thread < THREADS }
+        requires number { thread < limit.threads }
         requires idle { is_waiting self.old thread ≡ false }
         ensures { let_pass result.reply result.let_go.items self.new ≡ barrier self.old thread number count }
     {
@@ -298,7 +299,7 @@ impl Objects {
     /// changes nothing.
     #[tactic(auto, unfolding(crate::specs::Rows::take_back, crate::specs::Objects::with_holder))]
     pub fn take_back(&mut self, thread: u32, mutex: u32)
-        requires { thread < THREADS }
+        requires { thread < limit.threads }
         ensures { self.new ≡ take_back self.old thread mutex }
     {
         if mutex < OBJECTS {
@@ -309,7 +310,7 @@ impl Objects {
     /// Whether a thread holds this mutex.
     #[tactic(auto, unfolding(crate::specs::Objects::holds_mutex))]
     fn holds_mutex(&self, thread: u32, mutex: u32) -> bool
-        requires { mutex < OBJECTS }
+        requires { mutex < limit.objects }
         ensures { result ≡ holds_mutex self.now thread mutex }
     {
         is_held_by(self.holders[mutex as usize], thread)
@@ -318,7 +319,7 @@ impl Objects {
     /// Lets a thread wait, after all who do.
     #[tactic(auto, unfolding(crate::specs::Objects::with_waiter, crate::specs::Objects::is_waiting))]
     fn let_wait(&mut self, thread: u32, place: Place)
-        requires number { thread < THREADS }
+        requires number { thread < limit.threads }
         requires idle { is_waiting self.old thread ≡ false }
         ensures { self.new ≡ with_waiter self.old thread place }
     {

@@ -2,7 +2,7 @@ use Rattle.std.specs.Prelude.{ℕ, ◌+◌, ◌*◌, ◌<◌, ◌≤◌, List, d
 use Rattle.byteorder.specs.Endian.{little_number}
 use Rattle.elf32_reader.specs.declared.file_header.FileHeader.{FileHeader}
 use Rattle.elf32_reader.specs.declared.program_header.ProgramHeader.{ProgramHeader}
-use Rattle.elf32_reader.specs.declared.program_header.TheConstants.{PROGRAM_HEADER_SIZE}
+use Rattle.elf32_reader.specs.Format.{program_header_size}
 
 -- the number in the 2 bytes from an offset on, the lowest first, and that in the 4 bytes (System V ABI: Elf32_Half; Elf32_Word,
 -- Elf32_Addr and Elf32_Off)
@@ -41,10 +41,10 @@ program_header_at file offset =
 
 -- the program header with a number, from 0
 abbrev pub program_header : List ℕ → ℕ → ProgramHeader
-program_header file row = program_header_at file ((file_header file).e_phoff + PROGRAM_HEADER_SIZE * row)
+program_header file row = program_header_at file ((file_header file).e_phoff + program_header_size * row)
 
 -- the file has each program header that its header tells of
 abbrev pub HasTable : List ℕ → Type 0
 HasTable file =
     let header = file_header file in
-    (row : ℕ) → row < header.e_phnum → header.e_phoff + PROGRAM_HEADER_SIZE * row + PROGRAM_HEADER_SIZE ≤ length file
+    (row : ℕ) → row < header.e_phnum → header.e_phoff + program_header_size * row + program_header_size ≤ length file

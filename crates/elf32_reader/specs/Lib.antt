@@ -1,5 +1,6 @@
 pub mod Faults
 pub mod Fields
+pub mod Format
 pub mod LoadSegment
 pub mod LoadImage
 pub mod Refusals

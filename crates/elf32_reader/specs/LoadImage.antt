@@ -1,8 +1,7 @@
 use Rattle.std.specs.Prelude.{◌≡◌, ℕ, ◌%◌, ◌<◌, ◌≤◌, ◌&&◌, true, false, IsTrue, if◌then◌else◌, Some, List, [], ◌∷◌, find, sum_by, option_map}
 use Rattle.std.specs.List.{list_any}
 use Rattle.guest_memory.specs.Memory.{Cell, Memory}
-use Rattle.guest_memory.specs.Layout.{is_in_stack}
-use Rattle.guest_memory.specs.declared.layout.TheConstants.{IMAGE_PAGES}
+use Rattle.guest_memory.specs.Layout.{is_in_stack, image_pages}
 use Rattle.elf32_reader.specs.LoadSegment.{LoadSegment, IsLoadable, first_page, last_page, page_count, covers, cell_at}
 
 -- a loaded program: where thread 0 begins, and the segments
@@ -20,7 +19,7 @@ AreOrdered (segment ∷ next ∷ segments) =
 -- what holds of each image
 pub record IsSound (image : LoadImage) : Type 0 where
   pub ordered : AreOrdered image.segments
-  pub pages : sum_by page_count image.segments ≤ IMAGE_PAGES
+  pub pages : sum_by page_count image.segments ≤ image_pages
   pub aligned : image.entry % 4 ≡ 0
   pub executable : IsTrue (list_any (λ segment. covers image.entry segment && segment.perm.execute) image.segments)
 

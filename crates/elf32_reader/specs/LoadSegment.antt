@@ -1,8 +1,7 @@
 use Rattle.std.specs.Prelude.{ℕ, ◌+◌, ◌-◌, ◌<◌, ◌≤◌, Bool, ◌&&◌, not, IsTrue, nat_le, if◌then◌else◌, List, length, slice_index}
 use Rattle.guest_memory.specs.Memory.{Cell}
-use Rattle.guest_memory.specs.Layout.{page_of}
+use Rattle.guest_memory.specs.Layout.{page_of, image_start, image_end}
 use Rattle.guest_memory.specs.declared.perm.Perm.{Perm}
-use Rattle.guest_memory.specs.declared.layout.TheConstants.{IMAGE_START, IMAGE_END}
 
 -- what a program header of type PT_LOAD says of a segment: where it begins, how many bytes it has in memory, what its pages
 -- permit, and its bytes in the file (System V ABI, program header)
@@ -35,6 +34,6 @@ cell_at address segment =
 pub record IsLoadable (segment : LoadSegment) : Type 0 where
   pub not_empty : 0 < segment.memsz
   pub sizes : length segment.bytes ≤ segment.memsz
-  pub above : IMAGE_START ≤ segment.vaddr
-  pub below : segment.vaddr + segment.memsz ≤ IMAGE_END
+  pub above : image_start ≤ segment.vaddr
+  pub below : segment.vaddr + segment.memsz ≤ image_end
   pub no_writable_code : IsTrue (not (segment.perm.write && segment.perm.execute))

@@ -2,7 +2,7 @@ use Rattle.std.specs.Prelude.{ℕ, ◌+◌, ◌/◌, ◌%◌, Bool, ◌&&◌, �
 use Rattle.std.specs.List.{range_with_len}
 use Rattle.guest_memory.specs.declared.perm.Perm.{Perm}
 use Rattle.elf32_reader.specs.declared.program_header.ProgramHeader.{ProgramHeader}
-use Rattle.elf32_reader.specs.declared.program_header.TheConstants.{PT_LOAD, PF_X, PF_W, PF_R}
+use Rattle.elf32_reader.specs.Format.{pt_load, pf_x, pf_w, pf_r}
 use Rattle.elf32_reader.specs.Fields.{file_header, program_header}
 use Rattle.elf32_reader.specs.LoadSegment.{LoadSegment}
 use Rattle.elf32_reader.specs.LoadImage.{LoadImage}
@@ -14,10 +14,10 @@ has_flag flags flag = flags / flag % 2 == 1
 -- what the flags of a program header permit
 abbrev pub perm_of : ℕ → Perm
 perm_of flags =
-    record { read = has_flag flags PF_R; write = has_flag flags PF_W; execute = has_flag flags PF_X }
+    record { read = has_flag flags pf_r; write = has_flag flags pf_w; execute = has_flag flags pf_x }
 
 abbrev pub is_load : ProgramHeader → Bool
-is_load header = header.p_type == PT_LOAD
+is_load header = header.p_type == pt_load
 
 -- whether a program header describes a segment: others, and those with no byte in memory, are ignored
 abbrev pub is_segment : ProgramHeader → Bool

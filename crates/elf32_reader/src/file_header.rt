@@ -1,4 +1,5 @@
 ghost use Rattle.std.specs.Prelude.{◌≡◌, ◌≤◌, ◌+◌, ◌*◌, ◌<◌, length, OnOk, IfOk};
+ghost use Rattle.elf32_reader.specs.Format.{header_size, program_header_size, segment_limit};
 ghost use Rattle.elf32_reader.specs.Fields.{file_header, program_header, HasTable};
 ghost use Rattle.elf32_reader.specs.Refusals.{Tests, size_refusals, ident_refusals, header_refusals, file_refusals};
 
@@ -48,7 +49,7 @@ pub(crate) struct FileHeader {
 #[tactic(auto, unfolding(crate::specs::Refusals::first_applying, crate::specs::Refusals::size_refusals))]
 fn test_size(file: &[u8]) -> Result<(), ElfFault>
     ensures tests { Tests result (size_refusals file.now) }
-    ensures whole { OnOk result (HEADER_SIZE ≤ length file.now) }
+    ensures whole { OnOk result (header_size ≤ length file.now) }
 {
     if file.len() > FILE_LIMIT {
         Err(ElfFault::TooLarge)
@@ -62,7 +63,7 @@ fn test_size(file: &[u8]) -> Result<(), ElfFault>
 /// Tests the bytes that identify a file as ELF, and its version.
 #[tactic(auto, unfolding(crate::specs::Refusals::first_applying, crate::specs::Refusals::ident_refusals))]
 fn test_ident(file: &[u8], header: &FileHeader) -> Result<(), ElfFault>
-    requires whole { HEADER_SIZE ≤ length file.now }
+    requires whole { header_size ≤ length file.now }
     requires header { header.now ≡ file_header file.now }
     ensures { Tests result (ident_refusals file.now) }
 {
@@ -84,7 +85,7 @@ fn test_ident(file: &[u8], header: &FileHeader) -> Result<(), ElfFault>
 fn test_header(file: &[u8], header: &FileHeader) -> Result<(), ElfFault>
     requires { header.now ≡ file_header file.now }
     ensures tests { Tests result (header_refusals file.now) }
-    ensures few { OnOk result (header.now.e_phnum ≤ SEGMENT_LIMIT) }
+    ensures few { OnOk result (header.now.e_phnum ≤ segment_limit) }
     ensures inside { OnOk result (HasTable file.now) }
 {
     if header.e_type != ET_EXEC {
@@ -109,14 +110,14 @@ fn test_header(file: &[u8], header: &FileHeader) -> Result<(), ElfFault>
 impl FileHeader {
     /// The offset after the table of program headers.
     fn table_end(&self) -> usize
-        ensures { result ≡ self.now.e_phoff + PROGRAM_HEADER_SIZE * self.now.e_phnum }
+        ensures { result ≡ self.now.e_phoff + program_header_size * self.now.e_phnum }
     {
         self.e_phoff as usize + PROGRAM_HEADER_SIZE * usize::from(self.e_phnum)
     }
 
     /// The header of a file that has a whole one.
     pub(crate) fn of(file: &[u8]) -> FileHeader
-        requires { HEADER_SIZE ≤ length file.now }
+        requires { header_size ≤ length file.now }
         ensures { result ≡ file_header file.now }
     {
         FileHeader {
@@ -137,7 +138,7 @@ impl FileHeader {
     pub(crate) fn read(file: &[u8]) -> Result<FileHeader, ElfFault>
         ensures tests { Tests result (file_refusals file.now) }
         ensures header { IfOk result (λ header. header ≡ file_header file.now) }
-        ensures few { OnOk result ((file_header file.now).e_phnum ≤ SEGMENT_LIMIT) }
+        ensures few { OnOk result ((file_header file.now).e_phnum ≤ segment_limit) }
         ensures inside { OnOk result (HasTable file.now) }
     {
         test_size(file)?;

@@ -1,5 +1,6 @@
 ghost use Rattle.std.specs.Prelude.{◌≡◌, ◌+◌, ◌-◌, ◌<◌, ◌≤◌, length, IsTrue, IfOk};
-ghost use Rattle.guest_memory.specs.Layout.{page_of};
+ghost use Rattle.elf32_reader.specs.Format.{program_header_size};
+ghost use Rattle.guest_memory.specs.Layout.{page_of, image_end};
 ghost use Rattle.elf32_reader.specs.Fields.{program_header_at};
 ghost use Rattle.elf32_reader.specs.LoadSegment.{IsLoadable};
 ghost use Rattle.elf32_reader.specs.Segments.{has_flag, is_segment, segment_of, perm_of};
@@ -48,7 +49,7 @@ impl ProgramHeader {
     /// The program header at an offset.
     #[tactic(auto, unfolding(crate::specs::Fields::program_header_at))]
     pub(crate) fn at(file: &[u8], offset: usize) -> ProgramHeader
-        requires { offset + PROGRAM_HEADER_SIZE ≤ length file.now }
+        requires { offset + program_header_size ≤ length file.now }
         ensures { result ≡ program_header_at file.now offset }
     {
         ProgramHeader {
@@ -97,7 +98,7 @@ impl ProgramHeader {
     /// The last page of its segment.
     pub(crate) fn last_page(&self) -> u32
         requires not_empty { 0 < self.now.p_memsz }
-        requires below { self.now.p_vaddr + self.now.p_memsz ≤ IMAGE_END }
+        requires below { self.now.p_vaddr + self.now.p_memsz ≤ image_end }
         ensures { result ≡ page_of (self.now.p_vaddr + self.now.p_memsz - 1) }
     {
         (self.p_vaddr + self.p_memsz - 1) / PAGE_SIZE

@@ -1,4 +1,5 @@
 ghost use Rattle.std.specs.Prelude.{◌≡◌, ◌≢◌, ◌≤◌, Some, None, IfOk, IfErr};
+ghost use Rattle.elf32_reader.specs.Format.{segment_limit};
 ghost use Rattle.elf32_reader.specs.Fields.{file_header, HasTable};
 ghost use Rattle.elf32_reader.specs.Segments.{segments_of, image_of};
 ghost use Rattle.elf32_reader.specs.Summaries.{summary_of};
@@ -34,7 +35,7 @@ pub fn read(alloc: Global, file: &[u8]) -> Result<Image, ElfFault>
 /// Tests each program header, and gives the summary of the segments.
 fn survey(file: &[u8], header: &FileHeader) -> Result<Summary, ElfFault>
     requires header { header.now ≡ file_header file.now }
-    requires few { header.now.e_phnum ≤ SEGMENT_LIMIT }
+    requires few { header.now.e_phnum ≤ segment_limit }
     requires inside { HasTable file.now }
     ensures tests { Tests result (table_refusals file.now (file_header file.now).e_phnum) }
     ensures summary { IfOk result (λ summary. summary ≡ summary_of (file_header file.now).e_entry (segments_of file.now)) }

@@ -1,5 +1,5 @@
 ghost use Rattle.std.specs.Prelude.{◌≡◌, ℕ, ◌+◌, ◌<◌, ◌≤◌, ◌^◌, List};
-ghost use Rattle.guest_memory.specs.declared.layout.TheConstants.{IMAGE_END};
+ghost use Rattle.guest_memory.specs.Layout.{image_end};
 ghost use Rattle.elf32_reader.specs.LoadImage.{LoadImage};
 ghost use Rattle.elf32_reader.specs.Refusals.{Tests, image_refusals};
 
@@ -32,7 +32,7 @@ impl Summary {
     /// The summary with the segment of a program header added.
     pub(crate) fn with(self, header: &ProgramHeader, entry: u32) -> Summary
         requires not_empty { 0 < header.now.p_memsz }
-        requires below { header.now.p_vaddr + header.now.p_memsz ≤ IMAGE_END }
+        requires below { header.now.p_vaddr + header.now.p_memsz ≤ image_end }
         requires few { self.pages < 2 ^ 31 }
         ensures { (file : List ℕ) → result ≡ with_segment entry self (segment_of file header.now) }
     {

@@ -1,9 +1,8 @@
 use Rattle.std.specs.Prelude.{◌≡◌, ℕ, ◌%◌, ◌==◌, if◌then◌else◌, Option, Some, None, MatchOption, Bool, length, slice_index, option_map}
 use Rattle.std.specs.Option.{option_and_then}
 use Rattle.guest_memory.specs.Memory.{Memory}
-use Rattle.guest_memory.specs.Layout.{page_of}
+use Rattle.guest_memory.specs.Layout.{page_of, page_size}
 use Rattle.guest_memory.specs.declared.perm.Perm.{Perm}
-use Rattle.guest_memory.specs.declared.layout.TheConstants.{PAGE_SIZE}
 use Rattle.paged_memory.specs.Page.{PageValue}
 use Rattle.paged_memory.specs.Bytes.{with_low_bytes}
 
@@ -14,7 +13,7 @@ PageMap = ℕ → Option PageValue
 -- the memory of these pages
 unfoldable pub memory_of_pages : PageMap → Memory
 memory_of_pages pages address =
-    option_map (λ page. record { perm = page.perm; byte = slice_index page.bytes (address % PAGE_SIZE) }) (pages (page_of address))
+    option_map (λ page. record { perm = page.perm; byte = slice_index page.bytes (address % page_size) }) (pages (page_of address))
 
 -- the pages with what one number has replaced by what is made of it
 unfoldable pub with_page : ℕ → (Option PageValue → Option PageValue) → PageMap → PageMap
@@ -26,7 +25,7 @@ with_number_in count offset number page = record { perm = page.perm; bytes = wit
 
 -- the pages with the count bytes from an address on replaced, all of one page
 abbrev pub with_number_at : ℕ → ℕ → ℕ → PageMap → PageMap
-with_number_at count address number = with_page (page_of address) (option_map (with_number_in count (address % PAGE_SIZE) number))
+with_number_at count address number = with_page (page_of address) (option_map (with_number_in count (address % page_size) number))
 
 -- the page of an address, where it permits the access
 unfoldable pub permitted_page : (Perm → Bool) → PageMap → ℕ → Option PageValue
@@ -34,4 +33,4 @@ permitted_page may pages address = option_and_then (λ page. if may page.perm th
 
 -- whether an address's page permits stores, and has its bytes
 abbrev pub IsWritable : PageMap → ℕ → Type 0
-IsWritable pages address = MatchOption (permitted_page (λ perm. perm.write) pages address) ⊥ (λ page. length page.bytes ≡ PAGE_SIZE)
+IsWritable pages address = MatchOption (permitted_page (λ perm. perm.write) pages address) ⊥ (λ page. length page.bytes ≡ page_size)

@@ -1,8 +1,7 @@
 use Rattle.std.specs.Prelude.{◌≡◌, ◌≢◌, ℕ, ◌+◌, ◌*◌, ◌%◌, ◌^◌, ◌<◌, ◌==◌, false, if◌then◌else◌, Some, None, List, length, slice_index, slice_index_or}
 use Rattle.guest_memory.specs.Memory.{Memory}
-use Rattle.guest_memory.specs.Layout.{page_of}
+use Rattle.guest_memory.specs.Layout.{page_of, page_size}
 use Rattle.guest_memory.specs.declared.perm.Perm.{Perm}
-use Rattle.guest_memory.specs.declared.layout.TheConstants.{PAGE_SIZE}
 
 -- no access at all
 abbrev pub no_access : Perm
@@ -14,7 +13,7 @@ slot_of table address = slice_index table (page_of address)
 
 -- where an address's byte lies among the bytes of the pages
 abbrev pub place_of : List ℕ → ℕ → ℕ
-place_of table address = PAGE_SIZE * slot_of table address + address % PAGE_SIZE
+place_of table address = page_size * slot_of table address + address % page_size
 
 -- what an address's page permits
 abbrev pub perm_of : List ℕ → List Perm → ℕ → Perm
@@ -30,7 +29,7 @@ cells_in table perms bytes address =
 -- the table names pages alone, and no page has two numbers.
 pub record AreSound (table : List ℕ) (perms : List Perm) (bytes : List ℕ) : Type 0 where
   pub numbers : length table ≡ 2 ^ 20
-  pub sizes : length bytes ≡ PAGE_SIZE * length perms
+  pub sizes : length bytes ≡ page_size * length perms
   pub nothing : slice_index_or perms 0 no_access ≡ no_access
   pub within : (page : ℕ) → slice_index table page < length perms
   pub distinct : (page other : ℕ) → slice_index table page ≢ 0 → slice_index table page ≡ slice_index table other → page ≡ other

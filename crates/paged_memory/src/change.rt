@@ -1,5 +1,6 @@
 ghost use Rattle.std.specs.Prelude.{◌≡◌, ◌+◌, ◌≤◌, option_map};
 ghost use Rattle.std.specs.Arc.{arc_value};
+ghost use Rattle.guest_memory.specs.Layout.{page_size};
 ghost use Rattle.paged_memory.specs.Number.{width_of, value_of};
 ghost use Rattle.paged_memory.specs.PageMap.{with_number_in};
 
@@ -29,7 +30,7 @@ impl Change for Put {
 pub(crate) struct Write {
     pub(crate) offset: usize,
     pub(crate) number: Number,
-    ghost inside: { offset + width_of number ≤ 4096 },
+    ghost inside: { offset + width_of number ≤ page_size },
 }
 
 impl Change for Write {

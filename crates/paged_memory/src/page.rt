@@ -1,4 +1,5 @@
 ghost use Rattle.std.specs.Prelude.{◌≡◌, ◌+◌, ◌-◌, ◌*◌, ◌<◌, ◌≤◌, ℕ, length, slice_index, if◌then◌else◌};
+ghost use Rattle.guest_memory.specs.Layout.{page_size};
 ghost use Rattle.elf32_reader.specs.LoadSegment.{LoadSegment, first_page, last_page, cell_at};
 ghost use Rattle.paged_memory.specs.Mapping.{is_among};
 ghost use Rattle.paged_memory.specs.Page.{PageValue};
@@ -50,7 +51,7 @@ impl Page {
     #[inline(always)]
     pub fn perm(&self) -> Perm
         ensures perm { result ≡ self.now.perm }
-        ensures size { length self.now.bytes ≡ 4096 }
+        ensures size { length self.now.bytes ≡ page_size }
     {
         self.perm
     }
@@ -59,7 +60,7 @@ impl Page {
     #[inline(always)]
     pub fn bytes(&self) -> &[u8; 4096]
         ensures bytes { result.now ≡ self.now.bytes }
-        ensures size { length self.now.bytes ≡ 4096 }
+        ensures size { length self.now.bytes ≡ page_size }
     {
         &self.bytes
     }
@@ -67,7 +68,7 @@ impl Page {
     /// The byte at an offset.
     #[inline(always)]
     pub fn read8(&self, offset: usize) -> u8
-        requires { offset < 4096 }
+        requires { offset < page_size }
         ensures { result ≡ slice_index self.now.bytes offset }
     {
         self.bytes[offset]
@@ -76,7 +77,7 @@ impl Page {
     /// The number of two bytes from an offset on, the lowest first.
     #[inline(always)]
     pub fn read16(&self, offset: usize) -> u16
-        requires { offset + 2 ≤ 4096 }
+        requires { offset + 2 ≤ page_size }
         ensures { result ≡ number_from self.now.bytes 2 offset }
     {
         read16(&self.bytes, offset)
@@ -85,7 +86,7 @@ impl Page {
     /// The number of four bytes from an offset on, the lowest first.
     #[inline(always)]
     pub fn read32(&self, offset: usize) -> u32
-        requires { offset + 4 ≤ 4096 }
+        requires { offset + 4 ≤ page_size }
         ensures { result ≡ number_from self.now.bytes 4 offset }
     {
         read32(&self.bytes, offset)
@@ -94,7 +95,7 @@ impl Page {
     /// Writes a number at an offset.
     #[inline(always)]
     pub fn write(&mut self, offset: usize, number: Number)
-        requires { offset + width_of number ≤ 4096 }
+        requires { offset + width_of number ≤ page_size }
         ensures { self.new ≡ with_number_in (width_of number) offset (value_of number) self.old }
     {
         match number {
@@ -106,9 +107,9 @@ impl Page {
 
     /// Writes bytes from an offset on, as many as the page has place for.
     fn fill(&mut self, offset: usize, bytes: &[u8])
-        requires { offset < 4096 }
+        requires { offset < page_size }
         ensures perm { self.new.perm ≡ self.old.perm }
-        ensures bytes { (index : ℕ) → index < 4096 → slice_index self.new.bytes index ≡ (if is_among offset (length bytes.now) index then slice_index bytes.now (index - offset) else slice_index self.old.bytes index) }
+        ensures bytes { (index : ℕ) → index < page_size → slice_index self.new.bytes index ≡ (if is_among offset (length bytes.now) index then slice_index bytes.now (index - offset) else slice_index self.old.bytes index) }
     {
         let count = bytes.len().min(PAGE_SIZE as usize - offset);
         self.bytes[offset..offset + count].copy_from_slice(&bytes[..count]);
@@ -118,7 +119,7 @@ impl Page {
     pub(crate) fn of_segment(segment: &Segment, number: u32) -> Self
         requires { (first_page segment.now ≤ number) × (number ≤ last_page segment.now) }
         ensures perm { result.perm ≡ segment.now.perm }
-        ensures bytes { (offset : ℕ) → offset < 4096 → slice_index result.bytes offset ≡ (cell_at (4096 * number + offset) segment.now).byte }
+        ensures bytes { (offset : ℕ) → offset < page_size → slice_index result.bytes offset ≡ (cell_at (page_size * number + offset) segment.now).byte }
     {
         let start = segment.vaddr();
         let page_start = number * PAGE_SIZE;

@@ -1,5 +1,5 @@
 ghost use Rattle.std.specs.Prelude.{◌≡◌, ◌+◌, ◌^◌, ◌%◌, ◌<◌, ◌≤◌, ℕ, Option, IsSome, IsErr, OnOk, OnErr, option_map};
-ghost use Rattle.guest_memory.specs.Layout.{page_of};
+ghost use Rattle.guest_memory.specs.Layout.{page_of, page_size};
 ghost use Rattle.paged_memory.specs.Number.{width_of, value_of};
 ghost use Rattle.paged_memory.specs.Page.{PageValue};
 ghost use Rattle.paged_memory.specs.PageMap.{with_number_at};
@@ -28,7 +28,7 @@ pub trait PageStore: PageMemory {
     /// all bytes of the number. Nothing changes when memory runs out.
     fn write(&mut self, address: u32, number: Number) -> Result<(), AllocError>
         requires mapped { IsSome (Self.pages self.old (page_of address)) }
-        requires inside { address % 4096 + width_of number ≤ 4096 }
+        requires inside { address % page_size + width_of number ≤ page_size }
         ensures written { OnOk result (Self.pages self.new ≡ with_number_at (width_of number) address (value_of number) (Self.pages self.old)) }
         ensures kept { OnErr result (Self.pages self.new ≡ Self.pages self.old) }
         ensures takes { IsErr result → takes self.old address }

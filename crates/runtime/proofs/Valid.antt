@@ -1,29 +1,30 @@
 -- The numbers of a configuration in order.
-use Rattle.std.proofs.Common.{◌≡◌, ◌<◌, ◌≤◌, ◌^◌, ◌&&◌, ℕ, true, Option, Some, None, nat_le}
+use Rattle.std.proofs.Common.{◌≡◌, ◌<◌, ◌≤◌, ◌&&◌, ℕ, true, Option, Some, None, nat_le}
 use Rattle.std.specs.Option.{option_map_or, IfSome}
 use Rattle.std.proofs.lemmas.Bool.{and_parts, leb-true}
+use Rattle.abi.specs.Limits as span
 use Rattle.runtime.specs.Config.{is_valid}
 use Rattle.runtime.specs.Span.{is_span}
 use Rattle.runtime.specs.declared.config.Config.{Config}
-use Rattle.runtime.specs.declared.limits.TheConstants.{MAX_BOUND, MAX_WORKERS}
+use Rattle.runtime.specs.Limits as limit
 
 record InSpan (n : ℕ) : Type 0 where
   some : 0 < n
-  within : n ≤ 2 ^ 40
+  within : n ≤ span.instructions
 
 in_span : (n : ℕ) → is_span n ≡ true → InSpan n
 unfolding is_span
 in_span n is =
-    let parts = and_parts (nat_le 1 n) (nat_le n MAX_BOUND) is in
-    record { some = leb-true 1 n parts.0; within = leb-true n MAX_BOUND parts.1 }
+    let parts = and_parts (nat_le 1 n) (nat_le n span.instructions) is in
+    record { some = leb-true 1 n parts.0; within = leb-true n span.instructions parts.1 }
 
 pub record InRange (config : Config) : Type 0 where
-  pub bound : config.bound ≤ 2 ^ 40
+  pub bound : config.bound ≤ span.instructions
   pub some : 0 < config.bound
-  pub quantum : IfSome config.quantum (λ quantum. quantum ≤ 2 ^ 40)
+  pub quantum : IfSome config.quantum (λ quantum. quantum ≤ span.instructions)
   pub some_quantum : IfSome config.quantum (λ quantum. 0 < quantum)
 
-quantum_within : (quantum : Option ℕ) → option_map_or is_span quantum true ≡ true → IfSome quantum (λ quantum. quantum ≤ 2 ^ 40)
+quantum_within : (quantum : Option ℕ) → option_map_or is_span quantum true ≡ true → IfSome quantum (λ quantum. quantum ≤ span.instructions)
 quantum_within None is = tt
 quantum_within (Some quantum) is = (in_span quantum is).within
 
@@ -34,7 +35,7 @@ quantum_some (Some quantum) is = (in_span quantum is).some
 pub in_range : (config : Config) → is_valid config ≡ true → InRange config
 unfolding is_valid
 in_range config is =
-    let workers = and_parts (is_span config.bound && option_map_or is_span config.quantum true && nat_le 1 config.workers) (nat_le config.workers MAX_WORKERS) is in
+    let workers = and_parts (is_span config.bound && option_map_or is_span config.quantum true && nat_le 1 config.workers) (nat_le config.workers limit.workers) is in
     let worker = and_parts (is_span config.bound && option_map_or is_span config.quantum true) (nat_le 1 config.workers) workers.0 in
     let spans = and_parts (is_span config.bound) (option_map_or is_span config.quantum true) worker.0 in
     let bound = in_span config.bound spans.0 in

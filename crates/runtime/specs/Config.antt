@@ -1,10 +1,10 @@
 use Rattle.std.specs.Prelude.{Bool, true, ◌&&◌, nat_le}
 use Rattle.std.specs.Option.{option_map_or}
+use Rattle.runtime.specs.Limits as limit
 use Rattle.runtime.specs.Span.{is_span}
 use Rattle.runtime.specs.declared.config.Config.{Config}
-use Rattle.runtime.specs.declared.limits.TheConstants.{MAX_WORKERS}
 
 -- whether each number of a configuration is in its range
 unfoldable pub is_valid : Config → Bool
 is_valid config =
-    is_span config.bound && option_map_or is_span config.quantum true && nat_le 1 config.workers && nat_le config.workers MAX_WORKERS
+    is_span config.bound && option_map_or is_span config.quantum true && nat_le 1 config.workers && nat_le config.workers limit.workers

@@ -1,5 +1,6 @@
 pub mod Config
 pub mod Faults
+pub mod Limits
 pub mod Reports
 pub mod Run
 pub mod Sending

@@ -5,16 +5,16 @@ use Rattle.elf32_reader.specs.Segments.{image_of}
 use Rattle.elf32_reader.specs.Refusals.{first_refusal}
 use Rattle.token.specs.State.{Setup, setup_of}
 use Rattle.runtime.specs.Config.{is_valid}
+use Rattle.runtime.specs.Limits as limit
 use Rattle.runtime.specs.Reports.{Reports}
 use Rattle.runtime.specs.declared.config.Config.{Config}
-use Rattle.runtime.specs.declared.limits.TheConstants.{MAX_INPUT}
 use Rattle.runtime.specs.declared.report.Report.{Report}
 use Rattle.runtime.specs.declared.run_fault.RunFault.{RunFault}
 use Rattle.runtime.specs.declared.run_fault.RunFault.TheVariants.{Elf, BadConfig, InputTooLarge, OutOfMemory, WriteFailed}
 
 -- what is looked at ahead of the file is in order
 abbrev pub IsRunnable : List ℕ → Config → Type 0
-IsRunnable input config = (is_valid config ≡ true) × (length input ≤ MAX_INPUT)
+IsRunnable input config = (is_valid config ≡ true) × (length input ≤ limit.input)
 
 -- and nothing refuses the file
 abbrev pub IsAccepted : List ℕ → List ℕ → Config → Type 0
@@ -28,7 +28,7 @@ setup_from elf input config = setup_of (image_of elf) input config.bound config.
 -- sink may come where all are in order.
 abbrev pub Refuses : List ℕ → List ℕ → Config → RunFault → Type 0
 Refuses elf input config BadConfig = is_valid config ≡ false
-Refuses elf input config InputTooLarge = (is_valid config ≡ true) × (MAX_INPUT < length input)
+Refuses elf input config InputTooLarge = (is_valid config ≡ true) × (limit.input < length input)
 Refuses elf input config (Elf fault) = IsRunnable input config × (first_refusal elf ≡ Some fault)
 Refuses elf input config OutOfMemory = IsAccepted elf input config
 Refuses elf input config WriteFailed = IsAccepted elf input config

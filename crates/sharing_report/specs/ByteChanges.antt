@@ -1,14 +1,13 @@
 use Rattle.std.specs.Prelude.{ℕ, ◌*◌, ◌==◌, List, map, filter}
 use Rattle.std.specs.List.{enumerate_from, flat_map}
-use Rattle.guest_memory.specs.Layout.{page_of}
-use Rattle.guest_memory.specs.declared.layout.TheConstants.{PAGE_SIZE}
+use Rattle.guest_memory.specs.Layout.{page_of, page_size}
 use Rattle.token.specs.Change.{Change}
 use Rattle.sharing_report.specs.declared.byte_change.ByteChange.{ByteChange}
 
 -- the change of the byte at an address by a turn, which is told by its place in the list of turns; a page is told by the address of its first byte
 abbrev pub byte_change : (turn : ℕ) → Change → (address : ℕ) → ByteChange
 byte_change turn change address =
-    record { turn = turn; phase = change.phase; thread = change.thread; address = address; page = page_of address * PAGE_SIZE }
+    record { turn = turn; phase = change.phase; thread = change.thread; address = address; page = page_of address * page_size }
 
 -- the bytes that a turn changed
 abbrev pub bytes_of_turn : (turn : ℕ) → Change → List ByteChange

@@ -6,7 +6,7 @@ use Rattle.abi.specs.declared.code.Code.{Code}
 use Rattle.abi.specs.declared.code.Code.TheVariants.{Done as Success, NoSuchThread, HoldsLock}
 use Rattle.abi.specs.declared.reply.Reply.{Reply}
 use Rattle.abi.specs.declared.reply.Reply.TheVariants.{Completed, Waits, Ends}
-use Rattle.abi.specs.declared.limits.TheConstants.{THREADS}
+use Rattle.abi.specs.Limits as limit
 use Rattle.hart.specs.HartState.{HartState}
 use Rattle.thread_table.specs.Status.{is_ready, has_turn}
 use Rattle.thread_table.specs.Thread.{started, is_joiner_of, let_go}
@@ -46,7 +46,7 @@ with_status threads n status = with_status_of threads n status (slice_get thread
 
 -- the number of the next thread to be made, none where all were made
 abbrev pub new_number : List Thread → Option ℕ
-new_number threads = if nat_lt (length threads) THREADS then Some (length threads) else None
+new_number threads = if nat_lt (length threads) limit.threads then Some (length threads) else None
 
 -- the threads with one more, which begins with this hart
 abbrev pub created : List Thread → HartState → List Thread

@@ -1,11 +1,12 @@
 ghost use Rattle.std.specs.Prelude.{◌≡◌, ◌≤◌, Bool, length};
 ghost use Rattle.std.specs.Fn.{FnReturnsAt};
+ghost use Rattle.abi.specs.Limits as limit;
 ghost use Rattle.thread_table.specs.declared.thread.Thread.{Thread as Row};
 ghost use Rattle.thread_table.specs.Threads as spec;
 
 use crate::thread::Thread;
-use arrayvec::ArrayVec;
 use abi::limits::THREADS;
+use arrayvec::ArrayVec;
 
 /// How many threads a table has room for.
 pub const CAPACITY: usize = THREADS as usize;
@@ -16,7 +17,7 @@ pub type ThreadNumbers = ArrayVec<u32, CAPACITY>;
 /// The numbers of the threads of which a test holds.
 pub(crate) fn numbers_where<F: Fn(&Thread) -> bool>(threads: &[Thread], test: F) -> ThreadNumbers
     ghost holds: { Row → Bool }
-    requires room { length threads.now ≤ CAPACITY }
+    requires room { length threads.now ≤ limit.threads }
     requires callable { F.IsAlwaysCallable test }
     requires tells { (thread : Row) (answer : Bool) → FnReturnsAt F.Fn test thread answer → answer ≡ holds thread }
     ensures list { result.items ≡ spec.numbers_where holds threads.now }

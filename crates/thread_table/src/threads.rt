@@ -1,12 +1,13 @@
 ghost use Rattle.std.specs.Prelude.{◌≡◌, ◌+◌, ◌++◌, ◌==◌, ◌<◌, ◌≤◌, Some, [], length, map, slice_get, slice_set, OnSome, IfNone};
+ghost use Rattle.abi.specs.Limits as limit;
 ghost use Rattle.thread_table.specs.Thread.{let_go};
 ghost use Rattle.thread_table.specs.Threads as spec;
 
 use crate::numbers::{CAPACITY, ThreadNumbers, numbers_where};
 use crate::status::Status;
 use crate::thread::Thread;
-use arrayvec::ArrayVec;
 use abi::{Code, Reply};
+use arrayvec::ArrayVec;
 use hart::Hart;
 use std::marker::Model;
 
@@ -48,7 +49,7 @@ impl Threads {
     /// How many threads were made, at most 256. All numbers below it are threads.
     pub fn len(&self) -> usize
         ensures len { result ≡ length self.now }
-        ensures room { result ≤ CAPACITY }
+        ensures room { result ≤ limit.threads }
     {
         self.made.len()
     }
@@ -193,7 +194,7 @@ fn let_go_joiners(threads: &mut [Thread], n: u32)
 
 /// Pushes some threads.
 fn push_all(made: &mut ArrayVec<Thread, CAPACITY>, threads: &[Thread])
-    requires { length made.old.items + length threads.now ≤ CAPACITY }
+    requires { length made.old.items + length threads.now ≤ limit.threads }
     ensures { made.new.items ≡ made.old.items ++ threads.now }
 {
     for thread in threads {

@@ -1,6 +1,6 @@
 use Rattle.std.specs.Prelude.{◌≡◌, ℕ, true, Option, Some, List, length, option_map}
 use Rattle.std.specs.Option.{option_or}
-use Rattle.guest_memory.specs.declared.layout.TheConstants.{PAGE_SIZE}
+use Rattle.guest_memory.specs.Layout.{page_size}
 use Rattle.paged_memory.specs.Page.{PageValue}
 use Rattle.paged_memory.specs.PageMap.{PageMap}
 use Rattle.twins.specs.declared.private_page.PrivatePage.{PrivatePage}
@@ -10,7 +10,7 @@ use Rattle.twins.specs.PrivatePages.{private_at}
 pub record IsTwin (twin : Option PageValue) (page : PageValue) : Type 0 where
   pub perm_kept : option_map (λ page. page.perm) twin ≡ Some page.perm
   pub writable : page.perm.write ≡ true
-  pub size : length page.bytes ≡ PAGE_SIZE
+  pub size : length page.bytes ≡ page_size
 
 -- each private page has a twin in the base
 abbrev pub HaveTwins : PageMap → List PrivatePage → Type 0

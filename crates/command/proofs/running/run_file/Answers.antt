@@ -1,9 +1,9 @@
 use Rattle.std.proofs.Common.{ℕ, List, Option, Result, Ok, Err, IfOk}
 use Rattle.std.specs.Io.KnownBytes.{Appends}
-use Rattle.elf32_reader.specs.declared.file_header.TheConstants.{FILE_LIMIT}
+use Rattle.elf32_reader.specs.Format.{file_limit}
 use Rattle.runtime.specs.Run.{Answers}
 use Rattle.runtime.specs.declared.config.Config.{Config}
-use Rattle.runtime.specs.declared.limits.TheConstants.{MAX_INPUT}
+use Rattle.runtime.specs.Limits as limit
 use Rattle.runtime.specs.declared.report.Report.{Report}
 use Rattle.command.specs.declared.failure.Failure.{Failure}
 use Rattle.command.specs.Serves.{AreRead, RunsFile}
@@ -11,7 +11,7 @@ use Rattle.command.proofs.running.run_file.Goals as goal
 
 -- what the run of the bytes that were read gives is what the run of the file gives
 runs_file : (content input old new : Option (List ℕ)) (elf given : List ℕ) (config : Config) (result : Result Report Failure) →
-    AreRead FILE_LIMIT content elf → AreRead MAX_INPUT input given → IfOk result (λ report. Answers elf given config (Ok report))
+    AreRead file_limit content elf → AreRead limit.input input given → IfOk result (λ report. Answers elf given config (Ok report))
     → IfOk result (λ report. Appends old new report.output.items) → IfOk result (λ report. RunsFile content input config report old new)
 runs_file content input old new elf given config (Ok report) file_read input_read ran sent = ((elf, given, file_read, input_read, ran), sent)
 runs_file content input old new elf given config (Err failure) file_read input_read ran sent = tt
