@@ -1,0 +1,14 @@
+//! Written schedules: the events by which workers run the jobs of a phase, and what a phase counts of them.
+#![tactic(auto)]
+
+pub mod advance;
+pub mod end;
+pub mod event;
+pub mod fate;
+pub mod worker;
+
+pub use advance::Advance;
+pub use end::ends_run;
+pub use event::Event;
+pub use fate::Fate;
+pub use worker::{Task, Worker};

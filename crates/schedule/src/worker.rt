@@ -1,0 +1,23 @@
+use crate::advance::Advance;
+
+/// What a worker has of a job.
+#[derive(Clone, Copy, Debug, PartialEq, Eq)]
+pub struct Task {
+    /// The job's number in its phase, from 0.
+    pub job: u32,
+    /// How far its segment has come.
+    pub advance: Advance,
+    /// It was made known that it has ended the run.
+    pub noted: bool,
+}
+
+/// What a worker is at in a phase.
+#[derive(Clone, Copy, Debug, PartialEq, Eq)]
+pub enum Worker {
+    /// It has no job, and may draw one.
+    Idle,
+    /// It has found no job left.
+    Ended,
+    /// It has this job.
+    Working(Task),
+}
