@@ -1,0 +1,33 @@
+/* Semaphores of POSIX without a name. Named ones and those shared between processes answer ENOSYS. */
+#ifndef _SEMAPHORE_H
+#define _SEMAPHORE_H
+
+#include <pthread.h>
+
+#ifdef __cplusplus
+extern "C" {
+#endif
+
+typedef struct {
+    unsigned value;
+    struct dthreads_queue waiters;
+} sem_t;
+
+#define SEM_FAILED ((sem_t *)0)
+
+int sem_init(sem_t *, int, unsigned);
+int sem_destroy(sem_t *);
+int sem_wait(sem_t *);
+int sem_trywait(sem_t *);
+int sem_timedwait(sem_t *, const struct timespec *);
+int sem_clockwait(sem_t *, clockid_t, const struct timespec *);
+int sem_post(sem_t *);
+int sem_getvalue(sem_t *, int *);
+sem_t *sem_open(const char *, int, ...);
+int sem_close(sem_t *);
+int sem_unlink(const char *);
+
+#ifdef __cplusplus
+}
+#endif
+#endif

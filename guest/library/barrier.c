@@ -1,0 +1,58 @@
+/* Barriers. Who waits at one waits for one condition of the machine, so the last wakes all in one turn. */
+#include "monitor.h"
+
+int pthread_barrier_init(pthread_barrier_t *barrier, const pthread_barrierattr_t *attributes, unsigned count)
+{
+    (void)attributes;
+    if (count == 0)
+        return EINVAL;
+    monitor_enter();
+    *barrier = (pthread_barrier_t){.count = count, .crowd = monitor.crowds++};
+    monitor_leave();
+    return 0;
+}
+
+int pthread_barrier_destroy(pthread_barrier_t *barrier)
+{
+    return barrier->arrived ? EBUSY : 0;
+}
+
+int pthread_barrier_wait(pthread_barrier_t *barrier)
+{
+    int code = 0;
+    monitor_enter();
+    if (++barrier->arrived == barrier->count) {
+        barrier->arrived = 0;
+        monitor_wake_all(&barrier->waiters);
+        code = PTHREAD_BARRIER_SERIAL_THREAD;
+    } else {
+        monitor_sleep_in_crowd(&barrier->waiters, barrier->crowd);
+    }
+    monitor_leave();
+    return code;
+}
+
+int pthread_barrierattr_init(pthread_barrierattr_t *attributes)
+{
+    (void)attributes;
+    return 0;
+}
+
+int pthread_barrierattr_destroy(pthread_barrierattr_t *attributes)
+{
+    (void)attributes;
+    return 0;
+}
+
+int pthread_barrierattr_setpshared(pthread_barrierattr_t *attributes, int shared)
+{
+    (void)attributes;
+    return shared == PTHREAD_PROCESS_PRIVATE ? 0 : shared == PTHREAD_PROCESS_SHARED ? ENOTSUP : EINVAL;
+}
+
+int pthread_barrierattr_getpshared(const pthread_barrierattr_t *attributes, int *shared)
+{
+    (void)attributes;
+    *shared = PTHREAD_PROCESS_PRIVATE;
+    return 0;
+}

@@ -1,0 +1,119 @@
+/* Condition variables. */
+#include "monitor.h"
+
+/* Takes the mutex again, however often it was held before. */
+static void mutex_retake(pthread_mutex_t *mutex, unsigned count)
+{
+    if (mutex->owner)
+        monitor_sleep(&mutex->waiters, NEVER, false);
+    mutex_acquire(mutex);
+    mutex->count = count;
+}
+
+static enum wake wait_here(pthread_cond_t *condition, pthread_mutex_t *mutex, uint64_t deadline)
+{
+    unsigned count = mutex->count;
+    mutex_release(mutex);
+    enum wake wake = monitor_sleep(&condition->waiters, deadline, true);
+    mutex_retake(mutex, count);
+    return wake;
+}
+
+static int wait_until(pthread_cond_t *condition, pthread_mutex_t *mutex, uint64_t deadline)
+{
+    monitor_enter();
+    if (mutex->owner != self()) {
+        monitor_leave();
+        return EPERM;
+    }
+    enum wake wake = wait_here(condition, mutex, deadline);
+    monitor_leave();
+    cancel_here(wake);
+    return wake == TIMED_OUT ? ETIMEDOUT : 0;
+}
+
+int pthread_cond_wait(pthread_cond_t *condition, pthread_mutex_t *mutex)
+{
+    return wait_until(condition, mutex, NEVER);
+}
+
+int pthread_cond_clockwait(pthread_cond_t *condition, pthread_mutex_t *mutex, clockid_t clock, const struct timespec *time)
+{
+    uint64_t deadline;
+    if (!deadline_of(clock, time, &deadline))
+        return EINVAL;
+    return wait_until(condition, mutex, deadline);
+}
+
+int pthread_cond_timedwait(pthread_cond_t *condition, pthread_mutex_t *mutex, const struct timespec *time)
+{
+    return pthread_cond_clockwait(condition, mutex, condition->clock, time);
+}
+
+int pthread_cond_signal(pthread_cond_t *condition)
+{
+    monitor_enter();
+    monitor_wake_first(&condition->waiters);
+    monitor_leave();
+    return 0;
+}
+
+int pthread_cond_broadcast(pthread_cond_t *condition)
+{
+    monitor_enter();
+    monitor_wake_all(&condition->waiters);
+    monitor_leave();
+    return 0;
+}
+
+int pthread_cond_init(pthread_cond_t *condition, const pthread_condattr_t *attributes)
+{
+    *condition = (pthread_cond_t)PTHREAD_COND_INITIALIZER;
+    if (attributes)
+        condition->clock = attributes->clock;
+    return 0;
+}
+
+int pthread_cond_destroy(pthread_cond_t *condition)
+{
+    return condition->waiters.first ? EBUSY : 0;
+}
+
+int pthread_condattr_init(pthread_condattr_t *attributes)
+{
+    attributes->clock = CLOCK_REALTIME;
+    return 0;
+}
+
+int pthread_condattr_destroy(pthread_condattr_t *attributes)
+{
+    (void)attributes;
+    return 0;
+}
+
+int pthread_condattr_setclock(pthread_condattr_t *attributes, clockid_t clock)
+{
+    if (clock != CLOCK_REALTIME && clock != CLOCK_MONOTONIC)
+        return EINVAL;
+    attributes->clock = clock;
+    return 0;
+}
+
+int pthread_condattr_getclock(const pthread_condattr_t *attributes, clockid_t *clock)
+{
+    *clock = attributes->clock;
+    return 0;
+}
+
+int pthread_condattr_setpshared(pthread_condattr_t *attributes, int shared)
+{
+    (void)attributes;
+    return shared == PTHREAD_PROCESS_PRIVATE ? 0 : shared == PTHREAD_PROCESS_SHARED ? ENOTSUP : EINVAL;
+}
+
+int pthread_condattr_getpshared(const pthread_condattr_t *attributes, int *shared)
+{
+    (void)attributes;
+    *shared = PTHREAD_PROCESS_PRIVATE;
+    return 0;
+}

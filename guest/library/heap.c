@@ -1,0 +1,379 @@
+/* Memory. Small blocks come from pages cut into blocks of one size; each thread keeps some of each size for itself, so that
+ * most calls need no turn. Large blocks are whole pages. The heap grows by the machine's call. */
+#include <stdlib.h>
+#include <string.h>
+#include <errno.h>
+#include <malloc.h>
+#include "monitor.h"
+
+enum {
+    HEAP_START = 0x20000000,
+    SIZES = 24,
+    LARGEST_SMALL = 2048,
+    /* Pages of one call of the machine. */
+    LONGEST_CALL = 1024,
+    /* The heap grows by at least so many pages. */
+    LEAST_GROWTH = 16,
+    /* Bytes that a thread takes or gives back at a time. */
+    BATCH_BYTES = 4096,
+    /* A freed block of so many pages goes back to the machine, as long as less than half of the heap was given. */
+    RELEASED_PAGES = 64,
+    /* What a page belongs to, beside the small sizes 1 to SIZES. */
+    LARGE = 255
+};
+
+static const uint16_t sizes[SIZES] = {
+    16, 32, 48, 64, 80, 96, 112, 128, 160, 192, 224, 256, 320, 384, 448, 512, 640, 768, 896, 1024, 1280, 1536, 1792, 2048,
+};
+
+struct block {
+    struct block *next;
+};
+
+struct list {
+    struct block *first;
+    struct block *last;
+    uint32_t count;
+};
+
+/* Free pages side by side; runs lie in the order of their addresses. */
+struct run {
+    struct run *next;
+    uint32_t pages;
+};
+
+static __thread struct list cache[SIZES];
+static struct list shared[SIZES];
+static struct run *runs;
+/* Pages given so far. */
+static uint32_t given;
+static uint8_t page_size[DTHREADS_HEAP_PAGES];
+static uint16_t large_pages[DTHREADS_HEAP_PAGES];
+
+static uint32_t page_of(const void *address)
+{
+    return ((uint32_t)(uintptr_t)address - HEAP_START) / DTHREADS_PAGE;
+}
+
+static void push(struct list *list, struct block *block)
+{
+    if (!list->first)
+        list->last = block;
+    block->next = list->first;
+    list->first = block;
+    list->count++;
+}
+
+static struct block *pop(struct list *list)
+{
+    struct block *block = list->first;
+    if (block) {
+        list->first = block->next;
+        list->count--;
+    }
+    return block;
+}
+
+/* Moves all of one list to another. */
+static void move_all(struct list *from, struct list *to)
+{
+    if (!from->first)
+        return;
+    if (to->first)
+        from->last->next = to->first;
+    else
+        to->last = from->last;
+    to->first = from->first;
+    to->count += from->count;
+    *from = (struct list){0};
+}
+
+static void move_some(struct list *from, struct list *to, uint32_t count)
+{
+    for (uint32_t i = 0; i < count && from->first; i++)
+        push(to, pop(from));
+}
+
+/* Pages, in the monitor. */
+
+static void run_insert(char *address, uint32_t pages)
+{
+    struct run **place = &runs;
+    struct run *before = NULL;
+    while (*place && (char *)*place < address) {
+        before = *place;
+        place = &before->next;
+    }
+    struct run *run = (struct run *)address;
+    run->pages = pages;
+    run->next = *place;
+    *place = run;
+    if (run->next && address + (size_t)pages * DTHREADS_PAGE == (char *)run->next) {
+        run->pages += run->next->pages;
+        run->next = run->next->next;
+    }
+    if (before && (char *)before + (size_t)before->pages * DTHREADS_PAGE == address) {
+        before->pages += run->pages;
+        before->next = run->next;
+    }
+}
+
+static bool grow_once(uint32_t pages)
+{
+    uint32_t address;
+    if (dthreads_memory(pages, &address) != DTHREADS_DONE)
+        return false;
+    given += pages;
+    run_insert((char *)(uintptr_t)address, pages);
+    return true;
+}
+
+static bool grow(uint32_t pages)
+{
+    if (pages > DTHREADS_HEAP_PAGES - given)
+        return false;
+    uint32_t wanted = pages < LEAST_GROWTH && given + LEAST_GROWTH <= DTHREADS_HEAP_PAGES ? LEAST_GROWTH : pages;
+    while (wanted > 0) {
+        uint32_t part = wanted < LONGEST_CALL ? wanted : LONGEST_CALL;
+        if (!grow_once(part))
+            return false;
+        wanted -= part;
+    }
+    return true;
+}
+
+static char *run_take(uint32_t pages)
+{
+    for (struct run **place = &runs; *place; place = &(*place)->next) {
+        struct run *run = *place;
+        if (run->pages < pages)
+            continue;
+        run->pages -= pages;
+        if (run->pages == 0)
+            *place = run->next;
+        return (char *)run + (size_t)run->pages * DTHREADS_PAGE;
+    }
+    return NULL;
+}
+
+static char *pages_take(uint32_t pages)
+{
+    char *address = run_take(pages);
+    if (!address && grow(pages))
+        address = run_take(pages);
+    return address;
+}
+
+static void pages_give(char *address, uint32_t pages)
+{
+    if (pages < RELEASED_PAGES || given >= DTHREADS_HEAP_PAGES / 2) {
+        run_insert(address, pages);
+        return;
+    }
+    while (pages > 0) {
+        uint32_t part = pages < LONGEST_CALL ? pages : LONGEST_CALL;
+        dthreads_release(address, part);
+        address += (size_t)part * DTHREADS_PAGE;
+        pages -= part;
+    }
+}
+
+void *heap_pages(uint32_t pages)
+{
+    return pages_take(pages);
+}
+
+/* Small blocks. */
+
+static uint32_t size_index(size_t size)
+{
+    uint32_t index = 0;
+    while (sizes[index] < size)
+        index++;
+    return index;
+}
+
+static uint32_t batch(uint32_t index)
+{
+    uint32_t count = BATCH_BYTES / sizes[index];
+    return count < 2 ? 2 : count;
+}
+
+/* Cuts fresh pages into blocks; false where there is no memory. */
+static bool cut(uint32_t index)
+{
+    uint32_t pages = sizes[index] > 512 ? 2 : 1;
+    char *address = pages_take(pages);
+    if (!address)
+        return false;
+    for (uint32_t i = 0; i < pages; i++)
+        page_size[page_of(address) + i] = (uint8_t)(index + 1);
+    uint32_t count = pages * DTHREADS_PAGE / sizes[index];
+    for (uint32_t i = count; i > 0; i--)
+        push(&shared[index], (struct block *)(address + (size_t)(i - 1) * sizes[index]));
+    return true;
+}
+
+static void refill(uint32_t index)
+{
+    monitor_enter();
+    if (shared[index].first || cut(index))
+        move_some(&shared[index], &cache[index], batch(index));
+    monitor_leave();
+}
+
+static void *small(size_t size)
+{
+    uint32_t index = size_index(size);
+    if (!cache[index].first)
+        refill(index);
+    return pop(&cache[index]);
+}
+
+static void small_free(void *address, uint32_t index)
+{
+    struct list *list = &cache[index];
+    push(list, address);
+    if (list->count < 2 * batch(index))
+        return;
+    monitor_enter();
+    move_some(list, &shared[index], batch(index));
+    monitor_leave();
+}
+
+void heap_flush(void)
+{
+    for (uint32_t i = 0; i < SIZES; i++)
+        move_all(&cache[i], &shared[i]);
+}
+
+/* Large blocks. */
+
+static void *large(size_t size)
+{
+    if (size > (size_t)DTHREADS_HEAP_PAGES * DTHREADS_PAGE)
+        return NULL;
+    uint32_t pages = (uint32_t)((size + DTHREADS_PAGE - 1) / DTHREADS_PAGE);
+    monitor_enter();
+    char *address = pages_take(pages);
+    if (address) {
+        page_size[page_of(address)] = LARGE;
+        large_pages[page_of(address)] = (uint16_t)pages;
+    }
+    monitor_leave();
+    return address;
+}
+
+static void large_free(char *address)
+{
+    monitor_enter();
+    uint32_t page = page_of(address);
+    page_size[page] = 0;
+    pages_give(address, large_pages[page]);
+    monitor_leave();
+}
+
+/* The C library's functions. */
+
+void *malloc(size_t size)
+{
+    void *address = size <= LARGEST_SMALL ? small(size) : large(size);
+    if (!address)
+        errno = ENOMEM;
+    return address;
+}
+
+void free(void *address)
+{
+    if (!address)
+        return;
+    uint32_t kind = page_size[page_of(address)];
+    if (kind == LARGE)
+        large_free(address);
+    else if (kind > 0)
+        small_free(address, kind - 1);
+    else
+        abort();
+}
+
+size_t malloc_usable_size(void *address)
+{
+    if (!address)
+        return 0;
+    uint32_t page = page_of(address);
+    return page_size[page] == LARGE ? (size_t)large_pages[page] * DTHREADS_PAGE : sizes[page_size[page] - 1];
+}
+
+void *calloc(size_t count, size_t size)
+{
+    size_t all;
+    if (__builtin_mul_overflow(count, size, &all)) {
+        errno = ENOMEM;
+        return NULL;
+    }
+    void *address = malloc(all);
+    if (address)
+        memset(address, 0, all);
+    return address;
+}
+
+void *realloc(void *address, size_t size)
+{
+    size_t old = malloc_usable_size(address);
+    if (address && size <= old && size >= old / 2)
+        return address;
+    void *fresh = malloc(size);
+    if (!fresh)
+        return NULL;
+    if (address) {
+        memcpy(fresh, address, old < size ? old : size);
+        free(address);
+    }
+    return fresh;
+}
+
+void *reallocarray(void *address, size_t count, size_t size)
+{
+    size_t all;
+    if (__builtin_mul_overflow(count, size, &all)) {
+        errno = ENOMEM;
+        return NULL;
+    }
+    return realloc(address, all);
+}
+
+/* A block of a power of two lies at a multiple of its size, up to a page. */
+void *memalign(size_t align, size_t size)
+{
+    size_t whole = align;
+    if (align <= 16)
+        return malloc(size);
+    if (align > DTHREADS_PAGE) {
+        errno = ENOMEM;
+        return NULL;
+    }
+    while (whole < size)
+        whole *= 2;
+    return malloc(size > LARGEST_SMALL ? size : whole);
+}
+
+void *aligned_alloc(size_t align, size_t size)
+{
+    return memalign(align, size);
+}
+
+int posix_memalign(void **place, size_t align, size_t size)
+{
+    if (align < sizeof(void *) || (align & (align - 1)) != 0)
+        return EINVAL;
+    void *address = memalign(align, size);
+    if (!address)
+        return ENOMEM;
+    *place = address;
+    return 0;
+}
+
+void *valloc(size_t size)
+{
+    return memalign(DTHREADS_PAGE, size);
+}

@@ -1,0 +1,253 @@
+#include "monitor.h"
+
+struct monitor monitor;
+struct dthreads_thread threads[DTHREADS_THREADS];
+__thread struct own own;
+
+_Static_assert(offsetof(struct dthreads_thread, stack_top) == THREAD_STACK, "start.S");
+_Static_assert(offsetof(struct dthreads_thread, block) == THREAD_BLOCK, "start.S");
+_Static_assert(offsetof(struct dthreads_thread, woken) == THREAD_WOKEN, "start.S");
+
+static void leave_machine(void)
+{
+    own.inside = false;
+    own.operations = 0;
+    if (own.locked) {
+        own.locked = false;
+        dthreads_unlock(MONITOR_MUTEX);
+    }
+}
+
+static void enter_machine(void)
+{
+    if (!alone()) {
+        dthreads_lock(MONITOR_MUTEX);
+        own.locked = true;
+    }
+    own.inside = true;
+}
+
+static uint64_t earliest_deadline(void)
+{
+    uint64_t earliest = NEVER;
+    for (uint32_t i = 0; i < monitor.made; i++)
+        if (threads[i].deadline < earliest)
+            earliest = threads[i].deadline;
+    return earliest;
+}
+
+static void wake_due(void)
+{
+    for (uint32_t i = 0; i < monitor.made; i++)
+        if (threads[i].deadline <= monitor.clock)
+            monitor_wake(&threads[i], TIMED_OUT);
+    monitor.earliest = earliest_deadline();
+}
+
+static void move_clock(void)
+{
+    monitor.clock += DTHREADS_OPERATION_TIME;
+    if (monitor.clock >= monitor.earliest)
+        wake_due();
+}
+
+void monitor_enter(void)
+{
+    if (own.depth++ > 0)
+        return;
+    own.by_fence = false;
+    if (!own.inside)
+        enter_machine();
+    else if (++own.operations >= LONGEST_STAY)
+        monitor_breathe();
+    move_clock();
+}
+
+void monitor_leave(void)
+{
+#ifdef LEAVE_AT_ONCE
+    if (--own.depth == 0)
+        leave_machine();
+#else
+    if (--own.depth == 0 && own.held == 0)
+        leave_machine();
+#endif
+}
+
+void monitor_hold(void)
+{
+    if (!own.locked) {
+        dthreads_lock(MONITOR_MUTEX);
+        own.locked = true;
+    }
+}
+
+void monitor_breathe(void)
+{
+    if (own.inside) {
+        leave_machine();
+        enter_machine();
+    }
+}
+
+static void append(struct dthreads_queue *queue, struct dthreads_thread *thread)
+{
+    thread->queue = queue;
+    thread->next = NULL;
+    thread->previous = queue->last;
+    if (queue->last)
+        queue->last->next = thread;
+    else
+        queue->first = thread;
+    queue->last = thread;
+}
+
+static void unlink(struct dthreads_thread *thread)
+{
+    struct dthreads_queue *queue = thread->queue;
+    if (!queue)
+        return;
+    if (thread->previous)
+        thread->previous->next = thread->next;
+    else
+        queue->first = thread->next;
+    if (thread->next)
+        thread->next->previous = thread->previous;
+    else
+        queue->last = thread->previous;
+    thread->queue = NULL;
+}
+
+/* Marks a sleeper as woken, without the machine's call. */
+static void mark(struct dthreads_thread *thread, enum wake wake)
+{
+    unlink(thread);
+    thread->deadline = NEVER;
+    thread->asleep = false;
+    thread->wake = wake;
+    thread->woken = 1;
+    monitor.awake++;
+}
+
+/* Wakes who waits for a condition of the machine: each looks at its flag and waits again where it is not meant. */
+static void ring(uint32_t condition)
+{
+    uint32_t count = monitor.waiting[condition];
+    monitor.waiting[condition] = 0;
+    if (count == 1)
+        dthreads_signal(condition, NULL);
+    else if (count > 1)
+        dthreads_broadcast(condition, NULL);
+}
+
+void monitor_wake(struct dthreads_thread *thread, enum wake wake)
+{
+    mark(thread, wake);
+    if (thread != self())
+        ring(thread->condition);
+}
+
+struct dthreads_thread *monitor_wake_first(struct dthreads_queue *queue)
+{
+    struct dthreads_thread *thread = queue->first;
+    if (thread)
+        monitor_wake(thread, WOKEN);
+    return thread;
+}
+
+void monitor_wake_all(struct dthreads_queue *queue)
+{
+    uint64_t conditions = 0;
+    while (queue->first) {
+        conditions |= UINT64_C(1) << queue->first->condition;
+        mark(queue->first, WOKEN);
+    }
+    for (uint32_t i = 0; conditions >> i; i++)
+        if (conditions >> i & 1)
+            ring(i);
+}
+
+void monitor_rouse(struct dthreads_thread *thread)
+{
+    thread->woken = 1;
+    monitor.awake++;
+    ring(thread->condition);
+}
+
+void monitor_one_less(void)
+{
+    if (--monitor.awake > 0 || monitor.earliest == NEVER)
+        return;
+    monitor.earliest = earliest_deadline();
+    if (monitor.earliest != NEVER) {
+        monitor.clock = monitor.earliest;
+        wake_due();
+    }
+}
+
+static void sleep_here(struct dthreads_thread *thread)
+{
+    thread->asleep = true;
+    thread->woken = 0;
+    monitor_one_less();
+    if (!thread->woken)
+        monitor_hold();
+    while (!thread->woken) {
+        monitor.waiting[thread->condition]++;
+        dthreads_wait(thread->condition, MONITOR_MUTEX);
+    }
+}
+
+enum wake monitor_sleep(struct dthreads_queue *queue, uint64_t deadline, bool may_be_cancelled)
+{
+    struct dthreads_thread *thread = self();
+    may_be_cancelled = may_be_cancelled && !own.cancel_disabled && !own.ending;
+    if (may_be_cancelled && thread->cancelled)
+        return CANCELLED;
+    if (deadline <= monitor.clock)
+        return TIMED_OUT;
+    if (queue)
+        append(queue, thread);
+    thread->condition = (uint8_t)((uint32_t)(thread - threads) % OWN_CONDITIONS);
+    thread->may_be_cancelled = may_be_cancelled;
+    thread->deadline = deadline;
+    if (deadline < monitor.earliest)
+        monitor.earliest = deadline;
+    sleep_here(thread);
+    return thread->wake;
+}
+
+void monitor_sleep_in_crowd(struct dthreads_queue *queue, uint32_t crowd)
+{
+    struct dthreads_thread *thread = self();
+    append(queue, thread);
+    thread->condition = (uint8_t)(OWN_CONDITIONS + crowd % CROWD_CONDITIONS);
+    thread->may_be_cancelled = false;
+    thread->deadline = NEVER;
+    sleep_here(thread);
+}
+
+/* Compilers bracket each plain access of an atomic object by two fences: the first enters the monitor, the second leaves it.
+ * After a lone fence the thread stays until its next call of the library. */
+void dthreads_fence(void)
+{
+    if (own.depth > 0)
+        return;
+    if (own.by_fence) {
+        own.by_fence = false;
+        if (own.held == 0)
+            leave_machine();
+        return;
+    }
+    monitor_enter();
+    own.depth--;
+    own.by_fence = true;
+}
+
+void dthreads_synchronise(void)
+{
+    if (own.inside)
+        monitor_breathe();
+    else if (!alone())
+        dthreads_sync();
+}

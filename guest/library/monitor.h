@@ -1,0 +1,158 @@
+/* The monitor: one mutex of the machine guards all of the library's data.
+ *
+ * Owners and queues are data. A thread that sleeps waits for a condition of the machine, with a flag of its own. A thread
+ * stays in the monitor while it holds a mutex of pthread.h, and leaves it when it sleeps or frees the last one: an
+ * uncontended lock with its unlock is two turns. A run with one living thread needs no turns for any of this.
+ */
+#ifndef MONITOR_H
+#define MONITOR_H
+
+#include <stddef.h>
+#include <stdint.h>
+#include <stdbool.h>
+#include <pthread.h>
+#include <dthreads.h>
+#include "offsets.h"
+
+enum {
+    /* Conditions that sleepers share by their number. */
+    OWN_CONDITIONS = 56,
+    /* Conditions for those that are all woken at once, by the object that they wait for. */
+    CROWD_CONDITIONS = 8,
+    /* Operations in the monitor after which a thread lets others have their turns. */
+    LONGEST_STAY = 512
+};
+
+#define NEVER UINT64_MAX
+
+/* Why a sleep ended. */
+enum wake {
+    WOKEN,
+    TIMED_OUT,
+    CANCELLED
+};
+
+enum life {
+    UNUSED,
+    LIVING,
+    /* It has ended and nobody has joined it. */
+    ENDED,
+    /* It waits for a start routine. */
+    PARKED
+};
+
+/* What others see of a thread. Only who is in the monitor may touch it. */
+struct dthreads_thread {
+    uint32_t stack_top;
+    char *block;
+    uint32_t woken;
+    struct dthreads_thread *next;
+    struct dthreads_thread *previous;
+    struct dthreads_queue *queue;
+    uint64_t deadline;
+    uint32_t generation;
+    uint8_t life;
+    uint8_t condition;
+    uint8_t wake;
+    bool asleep;
+    bool may_be_cancelled;
+    bool cancelled;
+    bool detached;
+    bool is_writer;
+    struct dthreads_thread *joiner;
+    void *(*start)(void *);
+    void *argument;
+    void *result;
+    struct stack *stack;
+    uint32_t stack_size;
+};
+
+/* What a thread keeps for itself. */
+struct own {
+    struct dthreads_thread *thread;
+    /* Mutexes, spin locks and write locks held: the thread stays in the monitor while it has any. */
+    uint32_t held;
+    uint32_t read_held;
+    /* Calls of the library within each other. */
+    uint32_t depth;
+    uint32_t operations;
+    bool inside;
+    /* Whether the machine's mutex is held: a lone thread needs none. */
+    bool locked;
+    bool by_fence;
+    bool cancel_disabled;
+    bool ending;
+    struct dthreads_cleanup *cleanup;
+};
+
+struct monitor {
+    uint64_t clock;
+    /* No sleeper has an earlier deadline. */
+    uint64_t earliest;
+    uint32_t living;
+    uint32_t awake;
+    /* Threads of the machine so far. */
+    uint32_t made;
+    /* There are threads that the library didn't make. */
+    uint32_t others;
+    /* Who waits for each condition of the machine. */
+    uint32_t waiting[OWN_CONDITIONS + CROWD_CONDITIONS];
+    struct stack *stacks;
+    uint32_t crowds;
+};
+
+extern struct monitor monitor;
+extern struct dthreads_thread threads[DTHREADS_THREADS];
+extern __thread struct own own;
+
+static inline struct dthreads_thread *self(void)
+{
+    return own.thread;
+}
+
+/* True where no other thread can run. */
+static inline bool alone(void)
+{
+    return monitor.living == 1 && !monitor.others;
+}
+
+/* Between these a thread sees and changes what all share; calls may nest. */
+void monitor_enter(void);
+void monitor_leave(void);
+/* Makes sure that the machine's mutex is held, for a thread in the monitor that is no longer alone, or sleeps. */
+void monitor_hold(void);
+/* Lets others have their turns, also where mutexes are held. */
+void monitor_breathe(void);
+
+/* Sleeps in a queue, or in none, until another thread wakes this one or the clock reaches the deadline. */
+enum wake monitor_sleep(struct dthreads_queue *queue, uint64_t deadline, bool may_be_cancelled);
+/* As above, for a queue whose sleepers are all woken at once: `crowd` is its condition's number. */
+void monitor_sleep_in_crowd(struct dthreads_queue *queue, uint32_t crowd);
+void monitor_wake(struct dthreads_thread *thread, enum wake wake);
+/* Wakes the first of a queue, or nobody. */
+struct dthreads_thread *monitor_wake_first(struct dthreads_queue *queue);
+void monitor_wake_all(struct dthreads_queue *queue);
+/* One thread sleeps or has ended: where nobody is awake, the clock jumps to the next deadline. */
+void monitor_one_less(void);
+/* A thread that has ended gets something to run. */
+void monitor_rouse(struct dthreads_thread *thread);
+
+/* Deadlines as the clock counts them, from times of a clock of time.h; false for times that are none. */
+bool deadline_of(clockid_t clock, const struct timespec *time, uint64_t *deadline);
+
+/* Ends this thread where it was asked to. */
+void cancel_here(enum wake wake);
+
+void mutex_acquire(pthread_mutex_t *mutex);
+void mutex_release(pthread_mutex_t *mutex);
+
+/* Gives this thread's cached blocks back. */
+void heap_flush(void);
+/* Pages for a stack and the like, or NULL; they are never given back. */
+void *heap_pages(uint32_t pages);
+
+void keys_destroy_values(void);
+void output_flush(void);
+void tls_fill(char *block);
+
+#endif

@@ -1,0 +1,215 @@
+/* Mutexes and spin locks. Freed ones go to the first that waits. */
+#include "monitor.h"
+
+void mutex_acquire(pthread_mutex_t *mutex)
+{
+    mutex->owner = self();
+    mutex->count = 1;
+    own.held++;
+}
+
+void mutex_release(pthread_mutex_t *mutex)
+{
+    own.held--;
+    mutex->owner = monitor_wake_first(&mutex->waiters);
+}
+
+/* Waits for a mutex that another thread owns; who frees it makes this thread its owner. */
+static int mutex_wait(pthread_mutex_t *mutex, uint64_t deadline)
+{
+    if (monitor_sleep(&mutex->waiters, deadline, false) == TIMED_OUT)
+        return ETIMEDOUT;
+    mutex_acquire(mutex);
+    return 0;
+}
+
+static int mutex_take(pthread_mutex_t *mutex, uint64_t deadline)
+{
+    if (!mutex->owner) {
+        mutex_acquire(mutex);
+        return 0;
+    }
+    if (mutex->owner == self() && mutex->kind == PTHREAD_MUTEX_RECURSIVE) {
+        mutex->count++;
+        return 0;
+    }
+    if (mutex->owner == self() && mutex->kind == PTHREAD_MUTEX_ERRORCHECK)
+        return EDEADLK;
+    return mutex_wait(mutex, deadline);
+}
+
+static int mutex_lock(pthread_mutex_t *mutex, uint64_t deadline)
+{
+    monitor_enter();
+    int code = mutex_take(mutex, deadline);
+    monitor_leave();
+    return code;
+}
+
+int pthread_mutex_lock(pthread_mutex_t *mutex)
+{
+    return mutex_lock(mutex, NEVER);
+}
+
+int pthread_mutex_clocklock(pthread_mutex_t *mutex, clockid_t clock, const struct timespec *time)
+{
+    uint64_t deadline;
+    if (!deadline_of(clock, time, &deadline))
+        return EINVAL;
+    return mutex_lock(mutex, deadline);
+}
+
+int pthread_mutex_timedlock(pthread_mutex_t *mutex, const struct timespec *time)
+{
+    return pthread_mutex_clocklock(mutex, CLOCK_REALTIME, time);
+}
+
+int pthread_mutex_trylock(pthread_mutex_t *mutex)
+{
+    monitor_enter();
+    bool is_busy = mutex->owner && !(mutex->owner == self() && mutex->kind == PTHREAD_MUTEX_RECURSIVE);
+    int code = is_busy ? EBUSY : mutex_take(mutex, NEVER);
+    monitor_leave();
+    return code;
+}
+
+int pthread_mutex_unlock(pthread_mutex_t *mutex)
+{
+    monitor_enter();
+    int code = mutex->owner == self() ? 0 : EPERM;
+    if (code == 0 && --mutex->count == 0)
+        mutex_release(mutex);
+    monitor_leave();
+    return code;
+}
+
+int pthread_mutex_init(pthread_mutex_t *mutex, const pthread_mutexattr_t *attributes)
+{
+    *mutex = (pthread_mutex_t)PTHREAD_MUTEX_INITIALIZER;
+    if (attributes)
+        mutex->kind = attributes->kind;
+    return 0;
+}
+
+int pthread_mutex_destroy(pthread_mutex_t *mutex)
+{
+    return mutex->owner ? EBUSY : 0;
+}
+
+int pthread_mutexattr_init(pthread_mutexattr_t *attributes)
+{
+    attributes->kind = PTHREAD_MUTEX_DEFAULT;
+    return 0;
+}
+
+int pthread_mutexattr_destroy(pthread_mutexattr_t *attributes)
+{
+    (void)attributes;
+    return 0;
+}
+
+int pthread_mutexattr_settype(pthread_mutexattr_t *attributes, int kind)
+{
+    if (kind != PTHREAD_MUTEX_NORMAL && kind != PTHREAD_MUTEX_RECURSIVE && kind != PTHREAD_MUTEX_ERRORCHECK)
+        return EINVAL;
+    attributes->kind = kind;
+    return 0;
+}
+
+int pthread_mutexattr_gettype(const pthread_mutexattr_t *attributes, int *kind)
+{
+    *kind = attributes->kind;
+    return 0;
+}
+
+int pthread_mutexattr_setpshared(pthread_mutexattr_t *attributes, int shared)
+{
+    (void)attributes;
+    return shared == PTHREAD_PROCESS_PRIVATE ? 0 : shared == PTHREAD_PROCESS_SHARED ? ENOTSUP : EINVAL;
+}
+
+int pthread_mutexattr_getpshared(const pthread_mutexattr_t *attributes, int *shared)
+{
+    (void)attributes;
+    *shared = PTHREAD_PROCESS_PRIVATE;
+    return 0;
+}
+
+int pthread_mutexattr_setrobust(pthread_mutexattr_t *attributes, int robust)
+{
+    (void)attributes;
+    return robust == PTHREAD_MUTEX_STALLED ? 0 : robust == PTHREAD_MUTEX_ROBUST ? ENOTSUP : EINVAL;
+}
+
+int pthread_mutexattr_getrobust(const pthread_mutexattr_t *attributes, int *robust)
+{
+    (void)attributes;
+    *robust = PTHREAD_MUTEX_STALLED;
+    return 0;
+}
+
+int pthread_mutexattr_setprotocol(pthread_mutexattr_t *attributes, int protocol)
+{
+    (void)attributes;
+    return protocol == PTHREAD_PRIO_NONE ? 0 : ENOTSUP;
+}
+
+int pthread_mutexattr_getprotocol(const pthread_mutexattr_t *attributes, int *protocol)
+{
+    (void)attributes;
+    *protocol = PTHREAD_PRIO_NONE;
+    return 0;
+}
+
+/* Spin locks. */
+
+int pthread_spin_init(pthread_spinlock_t *lock, int shared)
+{
+    if (shared != PTHREAD_PROCESS_PRIVATE)
+        return ENOTSUP;
+    *lock = (pthread_spinlock_t){0};
+    return 0;
+}
+
+int pthread_spin_destroy(pthread_spinlock_t *lock)
+{
+    return lock->owner ? EBUSY : 0;
+}
+
+int pthread_spin_trylock(pthread_spinlock_t *lock)
+{
+    monitor_enter();
+    int code = lock->owner ? EBUSY : 0;
+    if (code == 0) {
+        lock->owner = self();
+        own.held++;
+    }
+    monitor_leave();
+    return code;
+}
+
+int pthread_spin_lock(pthread_spinlock_t *lock)
+{
+    monitor_enter();
+    int code = lock->owner == self() ? EDEADLK : 0;
+    if (code == 0) {
+        if (lock->owner)
+            monitor_sleep(&lock->waiters, NEVER, false);
+        lock->owner = self();
+        own.held++;
+    }
+    monitor_leave();
+    return code;
+}
+
+int pthread_spin_unlock(pthread_spinlock_t *lock)
+{
+    monitor_enter();
+    int code = lock->owner == self() ? 0 : EPERM;
+    if (code == 0) {
+        own.held--;
+        lock->owner = monitor_wake_first(&lock->waiters);
+    }
+    monitor_leave();
+    return code;
+}

@@ -1,0 +1,104 @@
+/* Semaphores without a name. A post goes to the first that waits. */
+#include <semaphore.h>
+#include <stdarg.h>
+#include "monitor.h"
+
+static int refuse(int code)
+{
+    errno = code;
+    return -1;
+}
+
+int sem_init(sem_t *semaphore, int shared, unsigned value)
+{
+    if (shared)
+        return refuse(ENOSYS);
+    if (value > SEM_VALUE_MAX)
+        return refuse(EINVAL);
+    *semaphore = (sem_t){.value = value};
+    return 0;
+}
+
+int sem_destroy(sem_t *semaphore)
+{
+    return semaphore->waiters.first ? refuse(EBUSY) : 0;
+}
+
+static int wait_until(sem_t *semaphore, uint64_t deadline)
+{
+    enum wake wake = WOKEN;
+    monitor_enter();
+    if (semaphore->value > 0)
+        semaphore->value--;
+    else
+        wake = monitor_sleep(&semaphore->waiters, deadline, true);
+    monitor_leave();
+    cancel_here(wake);
+    return wake == TIMED_OUT ? refuse(ETIMEDOUT) : 0;
+}
+
+int sem_wait(sem_t *semaphore)
+{
+    return wait_until(semaphore, NEVER);
+}
+
+int sem_clockwait(sem_t *semaphore, clockid_t clock, const struct timespec *time)
+{
+    uint64_t deadline;
+    return deadline_of(clock, time, &deadline) ? wait_until(semaphore, deadline) : refuse(EINVAL);
+}
+
+int sem_timedwait(sem_t *semaphore, const struct timespec *time)
+{
+    return sem_clockwait(semaphore, CLOCK_REALTIME, time);
+}
+
+int sem_trywait(sem_t *semaphore)
+{
+    monitor_enter();
+    bool is_free = semaphore->value > 0;
+    if (is_free)
+        semaphore->value--;
+    monitor_leave();
+    return is_free ? 0 : refuse(EAGAIN);
+}
+
+int sem_post(sem_t *semaphore)
+{
+    int code = 0;
+    monitor_enter();
+    if (semaphore->value == SEM_VALUE_MAX)
+        code = EOVERFLOW;
+    else if (!monitor_wake_first(&semaphore->waiters))
+        semaphore->value++;
+    monitor_leave();
+    return code ? refuse(code) : 0;
+}
+
+int sem_getvalue(sem_t *semaphore, int *value)
+{
+    monitor_enter();
+    *value = (int)semaphore->value;
+    monitor_leave();
+    return 0;
+}
+
+sem_t *sem_open(const char *name, int flags, ...)
+{
+    (void)name;
+    (void)flags;
+    errno = ENOSYS;
+    return SEM_FAILED;
+}
+
+int sem_close(sem_t *semaphore)
+{
+    (void)semaphore;
+    return refuse(ENOSYS);
+}
+
+int sem_unlink(const char *name)
+{
+    (void)name;
+    return refuse(ENOSYS);
+}

@@ -1,0 +1,146 @@
+/* The clock: each operation moves it on, and where all threads wait it jumps to the next deadline. */
+#include <sys/time.h>
+#include <sys/times.h>
+#include <unistd.h>
+#include "monitor.h"
+
+#define SECOND UINT64_C(1000000000)
+
+static bool is_day_clock(clockid_t clock)
+{
+    return clock == CLOCK_REALTIME;
+}
+
+static bool is_clock(clockid_t clock)
+{
+    return clock == CLOCK_REALTIME || clock == CLOCK_MONOTONIC || clock == CLOCK_PROCESS_CPUTIME_ID
+        || clock == CLOCK_THREAD_CPUTIME_ID;
+}
+
+bool deadline_of(clockid_t clock, const struct timespec *time, uint64_t *deadline)
+{
+    if (time->tv_nsec < 0 || time->tv_nsec >= (long)SECOND || (clock != CLOCK_REALTIME && clock != CLOCK_MONOTONIC))
+        return false;
+    int64_t seconds = time->tv_sec - (is_day_clock(clock) ? DTHREADS_EPOCH : 0);
+    *deadline = seconds < 0 ? 0 : (uint64_t)seconds * SECOND + (uint64_t)time->tv_nsec;
+    return true;
+}
+
+static uint64_t read_clock(void)
+{
+    monitor_enter();
+    uint64_t now = monitor.clock;
+    monitor_leave();
+    return now;
+}
+
+static struct timespec timespec_of(uint64_t nanoseconds)
+{
+    return (struct timespec){.tv_sec = (time_t)(nanoseconds / SECOND), .tv_nsec = (long)(nanoseconds % SECOND)};
+}
+
+int clock_gettime(clockid_t clock, struct timespec *time)
+{
+    if (!is_clock(clock)) {
+        errno = EINVAL;
+        return -1;
+    }
+    *time = timespec_of(read_clock());
+    if (is_day_clock(clock))
+        time->tv_sec += DTHREADS_EPOCH;
+    return 0;
+}
+
+int clock_getres(clockid_t clock, struct timespec *resolution)
+{
+    if (!is_clock(clock)) {
+        errno = EINVAL;
+        return -1;
+    }
+    if (resolution)
+        *resolution = (struct timespec){.tv_nsec = DTHREADS_OPERATION_TIME};
+    return 0;
+}
+
+int timespec_get(struct timespec *time, int base)
+{
+    return clock_gettime(CLOCK_REALTIME, time) == 0 ? base : 0;
+}
+
+time_t time(time_t *place)
+{
+    time_t now = (time_t)(read_clock() / SECOND) + DTHREADS_EPOCH;
+    if (place)
+        *place = now;
+    return now;
+}
+
+int gettimeofday(struct timeval *restrict time, void *restrict zone)
+{
+    struct timespec now;
+    (void)zone;
+    clock_gettime(CLOCK_REALTIME, &now);
+    time->tv_sec = now.tv_sec;
+    time->tv_usec = now.tv_nsec / 1000;
+    return 0;
+}
+
+clock_t clock(void)
+{
+    return (clock_t)(read_clock() / (SECOND / CLOCKS_PER_SEC));
+}
+
+clock_t times(struct tms *times)
+{
+    clock_t now = clock();
+    *times = (struct tms){.tms_utime = now};
+    return now;
+}
+
+/* Sleeps for so long, or up to that time where it isn't relative. */
+static int sleep_until(uint64_t time, bool is_relative)
+{
+    monitor_enter();
+    enum wake wake = monitor_sleep(NULL, is_relative ? monitor.clock + time : time, true);
+    monitor_leave();
+    cancel_here(wake);
+    return 0;
+}
+
+int clock_nanosleep(clockid_t clock, int flags, const struct timespec *time, struct timespec *rest)
+{
+    uint64_t deadline;
+    if (!deadline_of(flags & TIMER_ABSTIME ? clock : CLOCK_MONOTONIC, time, &deadline) || !is_clock(clock))
+        return EINVAL;
+    if (rest)
+        *rest = (struct timespec){0};
+    return sleep_until(deadline, !(flags & TIMER_ABSTIME));
+}
+
+int nanosleep(const struct timespec *time, struct timespec *rest)
+{
+    int code = clock_nanosleep(CLOCK_MONOTONIC, 0, time, rest);
+    if (code == 0)
+        return 0;
+    errno = code;
+    return -1;
+}
+
+int usleep(useconds_t microseconds)
+{
+    return sleep_until((uint64_t)microseconds * 1000, true);
+}
+
+unsigned sleep(unsigned seconds)
+{
+    sleep_until(seconds * SECOND, true);
+    return 0;
+}
+
+int sched_yield(void)
+{
+    monitor_enter();
+    monitor_leave();
+    monitor_breathe();
+    return 0;
+}
