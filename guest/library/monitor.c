@@ -162,7 +162,7 @@ void monitor_wake_all(struct dthreads_queue *queue)
         conditions |= UINT64_C(1) << queue->first->condition;
         mark(queue->first, WOKEN);
     }
-    for (uint32_t i = 0; conditions >> i; i++)
+    for (uint32_t i = 0; i < OWN_CONDITIONS + CROWD_CONDITIONS; i++)
         if (conditions >> i & 1)
             ring(i);
 }

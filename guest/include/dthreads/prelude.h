@@ -98,21 +98,25 @@ template <typename T> struct dthreads_plain<const volatile T> { typedef T type; 
         __atomic_compare_exchange(object, expected, &dthreads_value, weak, success, failure); \
     })
 
-#define DTHREADS_CHANGE(name, object, value) \
-    ((DTHREADS_PLAIN(object))dthreads_atomic_##name(sizeof *(object), (object), (__UINT64_TYPE__)(value)))
+#define DTHREADS_CHANGE(name, object, value, order) __extension__({ \
+        DTHREADS_PLAIN(object) dthreads_result; \
+        (void)(order); \
+        dthreads_result = (DTHREADS_PLAIN(object))dthreads_atomic_##name(sizeof *(object), (object), (__UINT64_TYPE__)(value)); \
+        dthreads_result; \
+    })
 
-#define __atomic_fetch_add(object, value, order) ((void)(order), DTHREADS_CHANGE(fetch_add, object, value))
-#define __atomic_fetch_sub(object, value, order) ((void)(order), DTHREADS_CHANGE(fetch_sub, object, value))
-#define __atomic_fetch_and(object, value, order) ((void)(order), DTHREADS_CHANGE(fetch_and, object, value))
-#define __atomic_fetch_or(object, value, order) ((void)(order), DTHREADS_CHANGE(fetch_or, object, value))
-#define __atomic_fetch_xor(object, value, order) ((void)(order), DTHREADS_CHANGE(fetch_xor, object, value))
-#define __atomic_fetch_nand(object, value, order) ((void)(order), DTHREADS_CHANGE(fetch_nand, object, value))
-#define __atomic_add_fetch(object, value, order) ((void)(order), DTHREADS_CHANGE(add_fetch, object, value))
-#define __atomic_sub_fetch(object, value, order) ((void)(order), DTHREADS_CHANGE(sub_fetch, object, value))
-#define __atomic_and_fetch(object, value, order) ((void)(order), DTHREADS_CHANGE(and_fetch, object, value))
-#define __atomic_or_fetch(object, value, order) ((void)(order), DTHREADS_CHANGE(or_fetch, object, value))
-#define __atomic_xor_fetch(object, value, order) ((void)(order), DTHREADS_CHANGE(xor_fetch, object, value))
-#define __atomic_nand_fetch(object, value, order) ((void)(order), DTHREADS_CHANGE(nand_fetch, object, value))
+#define __atomic_fetch_add(object, value, order) DTHREADS_CHANGE(fetch_add, object, value, order)
+#define __atomic_fetch_sub(object, value, order) DTHREADS_CHANGE(fetch_sub, object, value, order)
+#define __atomic_fetch_and(object, value, order) DTHREADS_CHANGE(fetch_and, object, value, order)
+#define __atomic_fetch_or(object, value, order) DTHREADS_CHANGE(fetch_or, object, value, order)
+#define __atomic_fetch_xor(object, value, order) DTHREADS_CHANGE(fetch_xor, object, value, order)
+#define __atomic_fetch_nand(object, value, order) DTHREADS_CHANGE(fetch_nand, object, value, order)
+#define __atomic_add_fetch(object, value, order) DTHREADS_CHANGE(add_fetch, object, value, order)
+#define __atomic_sub_fetch(object, value, order) DTHREADS_CHANGE(sub_fetch, object, value, order)
+#define __atomic_and_fetch(object, value, order) DTHREADS_CHANGE(and_fetch, object, value, order)
+#define __atomic_or_fetch(object, value, order) DTHREADS_CHANGE(or_fetch, object, value, order)
+#define __atomic_xor_fetch(object, value, order) DTHREADS_CHANGE(xor_fetch, object, value, order)
+#define __atomic_nand_fetch(object, value, order) DTHREADS_CHANGE(nand_fetch, object, value, order)
 
 #define __atomic_test_and_set(object, order) ((void)(order), dthreads_atomic_test_and_set(object))
 #define __atomic_clear(object, order) __extension__({ \
