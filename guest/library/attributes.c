@@ -1,9 +1,27 @@
 /* Attributes of threads. Priorities and scopes have one value here. */
 #include "monitor.h"
 
+static pthread_attr_t ordinary = {DTHREADS_STACK, NULL, DTHREADS_PAGE, PTHREAD_CREATE_JOINABLE};
+
 int pthread_attr_init(pthread_attr_t *attributes)
 {
-    *attributes = (pthread_attr_t){DTHREADS_STACK, NULL, DTHREADS_PAGE, PTHREAD_CREATE_JOINABLE};
+    *attributes = ordinary;
+    return 0;
+}
+
+int pthread_getattr_default_np(pthread_attr_t *attributes)
+{
+    *attributes = ordinary;
+    return 0;
+}
+
+int pthread_setattr_default_np(const pthread_attr_t *attributes)
+{
+    if (attributes->stack_address)
+        return EINVAL;
+    monitor_enter();
+    ordinary = *attributes;
+    monitor_leave();
     return 0;
 }
 

@@ -20,7 +20,9 @@ enum {
     /* Conditions for those that are all woken at once, by the object that they wait for. */
     CROWD_CONDITIONS = 8,
     /* Operations in the monitor after which a thread lets others have their turns. */
-    LONGEST_STAY = 512
+    LONGEST_STAY = 512,
+    /* Bytes of a thread's name, with the zero at its end. */
+    NAME_SIZE = 16
 };
 
 #define NEVER UINT64_MAX
@@ -64,7 +66,10 @@ struct dthreads_thread {
     void *argument;
     void *result;
     struct stack *stack;
+    /* The stack as its attributes have it: its lowest address and its bytes. */
+    char *stack_base;
     uint32_t stack_size;
+    char name[NAME_SIZE];
 };
 
 /* What a thread keeps for itself. */

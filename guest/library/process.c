@@ -19,7 +19,7 @@ __attribute__((weak)) void __call_exitprocs(int, void *);
 int main(int, char **, char **);
 void thread_begin(void);
 
-__attribute__((weak)) char *const dthreads_arguments[] = {(char *)"program", NULL};
+extern char *const dthreads_arguments[];
 
 static int count_arguments(void)
 {

@@ -3,6 +3,9 @@
 #include <string.h>
 #include "monitor.h"
 
+/* The end of the first thread's stack. */
+#define FIRST_STACK_TOP UINT32_C(0x80000000)
+
 struct stack {
     struct stack *next;
     uint32_t pages;
@@ -91,12 +94,14 @@ static bool stack_attach(struct dthreads_thread *thread, const pthread_attr_t *a
     thread->stack_size = attributes->stack_size;
     if (attributes->stack_address) {
         thread->stack = NULL;
-        top = (char *)attributes->stack_address + attributes->stack_size;
+        thread->stack_base = attributes->stack_address;
+        top = thread->stack_base + attributes->stack_size;
     } else {
         thread->stack = stack_take(attributes->stack_size);
         if (!thread->stack)
             return false;
         top = (char *)thread->stack;
+        thread->stack_base = (char *)(thread->stack + 1) - (size_t)thread->stack->pages * DTHREADS_PAGE;
     }
     thread->block = block_below(top);
     thread->stack_top = (uint32_t)(uintptr_t)thread->block & ~UINT32_C(15);
@@ -113,6 +118,7 @@ static void thread_fill(struct dthreads_thread *thread, void *(*start)(void *), 
     thread->joiner = NULL;
     thread->cancelled = false;
     thread->asleep = false;
+    strcpy(thread->name, self() ? self()->name : "");
     thread->deadline = NEVER;
 }
 
@@ -294,18 +300,59 @@ int pthread_equal(pthread_t one, pthread_t other)
     return one == other;
 }
 
+int pthread_getattr_np(pthread_t name, pthread_attr_t *attributes)
+{
+    pthread_attr_init(attributes);
+    monitor_enter();
+    struct dthreads_thread *thread = thread_of(name);
+    if (thread) {
+        attributes->stack_size = thread->stack_size;
+        attributes->stack_address = thread->stack_base;
+        attributes->guard_size = thread->stack ? DTHREADS_PAGE : 0;
+        attributes->detach_state = thread->detached ? PTHREAD_CREATE_DETACHED : PTHREAD_CREATE_JOINABLE;
+    }
+    monitor_leave();
+    return thread ? 0 : ESRCH;
+}
+
+int pthread_setname_np(pthread_t name, const char *text)
+{
+    if (strlen(text) >= NAME_SIZE)
+        return ERANGE;
+    monitor_enter();
+    struct dthreads_thread *thread = thread_of(name);
+    if (thread)
+        strcpy(thread->name, text);
+    monitor_leave();
+    return thread ? 0 : ESRCH;
+}
+
+int pthread_getname_np(pthread_t name, char *text, size_t size)
+{
+    if (size < NAME_SIZE)
+        return ERANGE;
+    monitor_enter();
+    struct dthreads_thread *thread = thread_of(name);
+    if (thread)
+        strcpy(text, thread->name);
+    monitor_leave();
+    return thread ? 0 : ESRCH;
+}
+
 /* The first thread's record; the machine made it with a stack of its own. */
 void thread_begin(void)
 {
     struct dthreads_thread *thread = &threads[0];
     tls_fill(__tls_first);
-    own.thread = thread;
     monitor.earliest = NEVER;
     monitor.living = 1;
     monitor.awake = 1;
     monitor.made = 1;
     thread_fill(thread, NULL, NULL);
+    strcpy(thread->name, "program");
     thread->stack_size = DTHREADS_FIRST_STACK;
+    thread->stack_base = (char *)(uintptr_t)(FIRST_STACK_TOP - DTHREADS_FIRST_STACK);
+    own.thread = thread;
 }
 
 /* Cancellation. */

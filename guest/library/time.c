@@ -137,6 +137,17 @@ unsigned sleep(unsigned seconds)
     return 0;
 }
 
+/* Nothing ends a pause but the thread's cancellation. */
+int pause(void)
+{
+    monitor_enter();
+    enum wake wake = monitor_sleep(NULL, NEVER, true);
+    monitor_leave();
+    cancel_here(wake);
+    errno = EINTR;
+    return -1;
+}
+
 int sched_yield(void)
 {
     monitor_enter();
