@@ -1,0 +1,25 @@
+/* A race: two threads add to one number without a mutex. Each works on a copy of its own, so the additions of one are lost,
+ * and always of the same one. */
+#include <pthread.h>
+#include <stdio.h>
+
+enum { ADDITIONS = 1000 };
+
+int counter;
+
+static void *add(void *argument)
+{
+    for (int i = 0; i < ADDITIONS; i++)
+        counter++;
+    return argument;
+}
+
+int main(void)
+{
+    pthread_t thread;
+    pthread_create(&thread, NULL, add, NULL);
+    add(NULL);
+    pthread_join(thread, NULL);
+    printf("counter %d of %d\n", counter, 2 * ADDITIONS);
+    return counter != 2 * ADDITIONS;
+}
