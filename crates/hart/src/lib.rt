@@ -11,6 +11,7 @@ mod segment;
 mod state;
 mod stepped;
 mod stop;
+mod tables;
 mod transfer;
 mod trap;
 
