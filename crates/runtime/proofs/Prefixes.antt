@@ -1,12 +1,14 @@
 -- A prefix of a legal history's output.
 use Rattle.std.proofs.Common.{◌≡◌, ℕ, Option, Err, List, [], ◌∷◌, ◌++◌, length, take, refl, ap, sym, ◌∙◌, subst, arith, length-append}
 use Rattle.std.specs.Io.KnownBytes.{Appends}
-use Rattle.token.specs.State.{Setup, State, first_state}
-use Rattle.token.specs.History.{History, IsLegal, present, turns_of}
-use Rattle.token.specs.Progress.{point_of}
+use Rattle.token.specs.Setup.{Setup, first_state}
+use Rattle.call_table.specs.State.{State}
+use Rattle.token.specs.History.{History, present, turns_of}
+use Rattle.token.specs.Legal.{IsLegal}
+use Rattle.token.specs.RunInTurn.{point_of}
 use Rattle.token.specs.Serial.{IsLawful}
 use Rattle.token.specs.declared.outcome.RunOutcome.{RunOutcome}
-use Rattle.token.specs.declared.progress.Progress.{Progress}
+use Rattle.token.specs.declared.run_in_turn.RunInTurn.{RunInTurn}
 use Rattle.runtime.specs.Faults.{IsUnderWay}
 use Rattle.runtime.specs.Sending.{AppendsPrefix, Sends, SendsFront, SendsOutput}
 use Rattle.runtime.specs.declared.run_fault.RunFault.{RunFault}
@@ -41,13 +43,13 @@ output_at_start setup (step ∷ before) is =
     absurd (omega (arith, length-append (turns_of before) (step.turn ∷ [])))
 
 -- a run without a turn has no output
-pub no_output_yet : (run : Progress) → IsLawful run → (point_of run).turns ≡ [] → (point_of run).state.output ≡ []
+pub no_output_yet : (run : RunInTurn) → IsLawful run → (point_of run).turns ≡ [] → (point_of run).state.output ≡ []
 no_output_yet run lawful none =
     let stands = lawful.1 in
     sym (ap (λ (state : State). state.output) stands.state) ∙ output_at_start (point_of run).setup lawful.0 (stands.turns ∙ none)
 
 -- a prefix of the output of a run is one of its history's
-pub prefix_of_history : (run : Progress) (setup : Setup) (fault : RunFault) (old new : Option (List ℕ)) → IsLawful run → (point_of run).setup ≡ setup
+pub prefix_of_history : (run : RunInTurn) (setup : Setup) (fault : RunFault) (old new : Option (List ℕ)) → IsLawful run → (point_of run).setup ≡ setup
     → SendsOutput {T = RunOutcome} (Err fault) (point_of run).state.output old new → Sends setup (Err fault) old new
 prefix_of_history run setup (Elf fault) old new lawful is sent = absurd sent
 prefix_of_history run setup BadConfig old new lawful is sent = absurd sent

@@ -1,10 +1,10 @@
 -- What a report says.
 use Rattle.std.specs.Prelude.{◌≡◌, Some}
 use Rattle.paged_memory.specs.Snapshot.{cells_of}
-use Rattle.token.specs.State.{Setup}
+use Rattle.token.specs.Setup.{Setup}
 use Rattle.token.specs.Turns.{Step}
-use Rattle.token.specs.History.{History, Follows, IsLegal, outcome, present, turns_of}
-use Rattle.token.specs.Serial.{changes_of}
+use Rattle.token.specs.History.{History, outcome, present, turns_of, changes_of}
+use Rattle.token.specs.Legal.{Follows, IsLegal}
 use Rattle.sharing_report.specs.Sharing.{IsSharing}
 use Rattle.runtime.specs.declared.report.Report.{Report}
 

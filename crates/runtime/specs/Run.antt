@@ -3,7 +3,7 @@ use Rattle.std.specs.Prelude.{◌≡◌, ℕ, ◌<◌, ◌≤◌, true, false, S
 use Rattle.elf32_reader.specs.LoadImage.{LoadImage}
 use Rattle.elf32_reader.specs.Segments.{image_of}
 use Rattle.elf32_reader.specs.Refusals.{first_refusal}
-use Rattle.token.specs.State.{Setup, setup_of}
+use Rattle.token.specs.Setup.{Setup, setup_of}
 use Rattle.runtime.specs.Config.{is_valid}
 use Rattle.runtime.specs.Limits as limit
 use Rattle.runtime.specs.Reports.{Reports}

@@ -2,8 +2,9 @@
 use Rattle.std.specs.Prelude.{◌≡◌, ℕ, ◌+◌, List, Option, Result, Ok, Err}
 use Rattle.std.specs.Io.{StartsWith}
 use Rattle.std.specs.Io.KnownBytes.{Appends}
-use Rattle.token.specs.State.{Setup}
-use Rattle.token.specs.History.{History, IsLegal, present}
+use Rattle.token.specs.Setup.{Setup}
+use Rattle.token.specs.History.{History, present}
+use Rattle.token.specs.Legal.{IsLegal}
 use Rattle.runtime.specs.declared.report.Report.{Report}
 use Rattle.runtime.specs.declared.run_fault.RunFault.{RunFault}
 use Rattle.runtime.specs.declared.run_fault.RunFault.TheVariants.{Elf, BadConfig, InputTooLarge, OutOfMemory, WriteFailed}

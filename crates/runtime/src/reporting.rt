@@ -1,5 +1,5 @@
 ghost use Rattle.std.specs.Prelude.{◌≡◌, Some, IfOk};
-ghost use Rattle.token.specs.Progress.{point_of};
+ghost use Rattle.token.specs.RunInTurn.{point_of};
 ghost use Rattle.token.specs.Serial.{IsLawful};
 ghost use Rattle.runtime.specs.Reports.{Reports};
 

@@ -1,6 +1,6 @@
 ghost use Rattle.std.specs.Prelude.{◌≡◌, ◌≢◌, ◌-◌, ◌^◌, ◌<◌, true, [], IfOk, IfErr};
-ghost use Rattle.token.specs.Progress.{point_of};
-ghost use Rattle.token.specs.State.{setup_of};
+ghost use Rattle.token.specs.RunInTurn.{point_of};
+ghost use Rattle.token.specs.Setup.{setup_of};
 ghost use Rattle.runtime.specs.Config.{is_valid};
 ghost use Rattle.runtime.specs.Faults.{IsUnderWay};
 ghost use Rattle.runtime.specs.Reports.{Reports};

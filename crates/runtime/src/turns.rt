@@ -1,6 +1,6 @@
 //! The turns of a run: each segment runs on the caller's thread, and its turn is taken before the next one runs.
 ghost use Rattle.std.specs.Prelude.{◌≡◌, ◌-◌, ◌^◌, ◌<◌, Some, IfOk, IfSome, OnErr};
-ghost use Rattle.token.specs.Progress.{point_of};
+ghost use Rattle.token.specs.RunInTurn.{point_of};
 ghost use Rattle.runtime.specs.Sending.{CountsFailures, SendsOn};
 ghost use Rattle.runtime.specs.Turns.{Moves};
 

@@ -1,11 +1,15 @@
 -- Nothing follows a history that has an outcome, so that two complete histories are one.
-use Rattle.std.proofs.Common.{◌≡◌, ℕ, suc, Bool, true, false, not, ◌==◌, Option, Some, None, is_some, if◌then◌else◌, [], ◌∷◌, ◌++◌, length, refl, ap, sym, ◌∙◌, inl, inr, arith, subst, length-append}
-use Rattle.std.proofs.lemmas.Bool.{cases_lt, and_parts, eqb-true, not-true}
+use Rattle.std.proofs.Common.{◌≡◌, ℕ, suc, Bool, true, false, not, Option, Some, None, is_some, if◌then◌else◌, [], ◌∷◌, ◌++◌, length, refl, ap, sym, ◌∙◌, inl, inr, arith, subst, length-append}
+use Rattle.std.proofs.lemmas.Bool.{cases_lt, and_parts, not-true}
 use Rattle.thread_table.specs.Threads.{serial_list}
-use Rattle.token.specs.State.{Setup}
-use Rattle.token.specs.History.{History, Follows, IsLegal, IsDue, IsNextOfList, present, phase_of, list_of, heads, keeps, last_outcome, is_quiet, quiet_outcome, outcome}
-use Rattle.token.specs.Law.{IsPrefix, NothingFollows, OneAnswer}
+use Rattle.token.specs.Setup.{Setup}
+use Rattle.token.specs.History.{History, IsNextOfList, present, phase_of, list_of, heads, keeps, last_outcome, is_quiet, outcome, same_threads, IsPrefix}
+use Rattle.token.specs.Legal.{Follows, IsLegal}
+use Rattle.token.specs.Outcome.{quiet_outcome}
+use Rattle.token.specs.Turns.{Step}
 use Rattle.token.specs.declared.outcome.RunOutcome.{RunOutcome}
+use Rattle.token.proofs.Dues.{IsTurnOf, turn_of_step}
+use Rattle.token.proofs.SameThreads.{same_threads-true}
 use Rattle.token.proofs.OneStep.{used_up}
 use Rattle.token.proofs.OneHistory.{shorter}
 use Rattle.token.proofs.Versions.{list_of_next}
@@ -20,40 +24,40 @@ quiet_of ends None false there none is = cc
 -- what quiet says
 record Quiet (setup : Setup) (history : History) : Type 0 where
   lets_go : keeps history ≡ false
-  used : length (heads history (phase_of history)) ≡ length (list_of setup history (phase_of history))
-  empty : length (serial_list (present setup history).threads) ≡ 0
+  used : list_of setup history (phase_of history) ≡ heads history (phase_of history)
+  empty : serial_list (present setup history).threads ≡ []
 
 quiet_from : (setup : Setup) (history : History) → is_quiet setup history ≡ true → Quiet setup history
 unfolding is_quiet
 quiet_from setup history is =
     let parts = and_parts (not (keeps history)) _ is in
-    let more = and_parts (length (heads history (phase_of history)) == length (list_of setup history (phase_of history))) _ parts.1 in
-    record { lets_go = not-true (keeps history) parts.0; used = eqb-true _ _ more.0; empty = eqb-true _ _ more.1 }
+    let more = and_parts (same_threads (list_of setup history (phase_of history)) (heads history (phase_of history))) _ parts.1 in
+    record { lets_go = not-true (keeps history) parts.0; used = same_threads-true _ _ more.0; empty = same_threads-true _ _ more.1 }
 
 no_next : (setup : Setup) (history : History) (phase thread : ℕ) → IsLegal setup history → Quiet setup history → IsNextOfList setup history phase thread → ⊥
 no_next setup history phase thread legal quiet next =
     elim next.current [
-      | inl here ↦ used_up (list_of setup history phase) (heads history phase) thread next.rest (rw here (sym quiet.used)) next.next
+      | inl here ↦ used_up (list_of setup history phase) (heads history phase) thread next.rest (rw here quiet.used) next.next
       | inr there ↦ no_list setup history phase thread legal quiet next there.0
     ]
   where
     no_list : (setup : Setup) (history : History) (phase thread : ℕ) → IsLegal setup history → Quiet setup history → IsNextOfList setup history phase thread → phase ≡ suc (phase_of history) → ⊥
     no_list setup history phase thread legal quiet next later =
         let list : list_of setup history phase ≡ serial_list (present setup history).threads = list_of_next setup history phase legal (omega arith) in
-        let none : length (list_of setup history phase) ≡ 0 = ap length list ∙ quiet.empty in
+        let none : length (list_of setup history phase) ≡ 0 = ap length list ∙ ap length quiet.empty in
         let some = ap length next.next ∙ length-append (heads history phase) (thread ∷ next.rest) in
         omega arith
 
 not_due : (setup : Setup) (history : History) (phase thread : ℕ) (keeper : Bool) → keeper ≡ false → IsLegal setup history → Quiet setup history
-    → IsDue keeper setup history phase thread → ⊥
+    → IsTurnOf keeper setup history phase thread → ⊥
 not_due setup history phase thread true lets_go legal quiet due = cc
 not_due setup history phase thread false lets_go legal quiet due = no_next setup history phase thread legal quiet due
 
-pub nothing_follows : NothingFollows
+pub nothing_follows : (setup : Setup) (history : History) (step : Step) (ends : RunOutcome) → IsLegal setup history → outcome setup history ≡ Some ends → Follows setup history step → ⊥
 unfolding outcome
 nothing_follows setup history step ends legal is follows =
     let all = quiet_from setup history (quiet_of ends (last_outcome history) (is_quiet setup history) (quiet_outcome (present setup history)) follows.cut is) in
-    not_due setup history step.turn.phase step.turn.thread (keeps history) all.lets_go legal all follows.order
+    not_due setup history step.turn.phase step.turn.thread (keeps history) all.lets_go legal all (turn_of_step setup history step follows)
 
 -- no steps are after a history with an outcome
 nothing_after : (setup : Setup) (history newer : History) (ends : RunOutcome) → outcome setup history ≡ Some ends → IsLegal setup (newer ++ history) → newer ≡ []
@@ -78,7 +82,8 @@ one_complete setup one other ends other_ends first second first_ends second_ends
       | inr fits ↦ sym (complete_is_whole setup other one other_ends second_ends first (shorter setup other one second first fits))
     ]
 
-pub one_answer : OneAnswer
+pub one_answer : (setup : Setup) (one other : History) (ends other_ends : RunOutcome) → IsLegal setup one → IsLegal setup other
+    → outcome setup one ≡ Some ends → outcome setup other ≡ Some other_ends → (one ≡ other) × (ends ≡ other_ends)
 one_answer setup one other ends other_ends first second first_ends second_ends =
     let same = one_complete setup one other ends other_ends first second first_ends second_ends in
     let ended : Some ends ≡ Some other_ends = sym first_ends ∙ ap (outcome setup) same ∙ second_ends in

@@ -1,47 +1,25 @@
--- Which step follows a history, by the status of the thread whose turn it is.
-use Rattle.std.proofs.Common.{◌≡◌, ℕ, true, false, Some, None, refl, ap, sym, subst}
-use Rattle.thread_table.specs.declared.status.Status.TheVariants.{Ready, Woken}
-use Rattle.token.specs.State.{Setup, State}
-use Rattle.token.specs.Turns.{Ran, Step, run_step, wake_step}
-use Rattle.token.specs.History.{History, Follows, IsDue, IsSegmentFrom, RunsPrivately, base_of, keeps, last_outcome, mutex_of, present, row_of, version}
-use Rattle.token.proofs.OneStep.{is_no_wake}
+-- Which step follows a history, by who is due.
+use Rattle.std.proofs.Common.{◌≡◌, ℕ, None, refl}
+use Rattle.token.specs.Due.{PrivateRun}
+use Rattle.token.specs.History.{History, last_outcome, present, version}
+use Rattle.token.specs.Legal.{Follows, IsDue, RunsPrivately, base_of, step_of}
+use Rattle.token.specs.Setup.{Setup}
+use Rattle.token.specs.Turns.{Step, run_step, wake_step}
+use Rattle.token.specs.declared.due.Due.{Due}
+use Rattle.token.specs.declared.due.Due.TheVariants as due
 
--- the step of a ready thread that ran on a copy
-abbrev pub ready_step : Setup → History → ℕ → ℕ → Ran → Step
-ready_step setup history phase thread ran =
-    let number : ℕ = base_of history phase false in
-    let base : State = version setup history number in
-    run_step (present setup history) phase thread number base.memory (row_of base thread).executed ran
+-- the step of who is due
+abbrev pub step_from : Setup → History → ℕ → (who : Due) → PrivateRun who → Step
+step_from setup history phase who ran =
+    let number : ℕ = base_of history phase who in
+    step_of (present setup history) (version setup history number) phase number who ran
 
--- the step of a woken thread
-abbrev pub woken_step : Setup → History → ℕ → ℕ → ℕ → Step
-woken_step setup history phase thread mutex = wake_step (present setup history) phase thread (base_of history phase true) mutex
-
-pub ready_follows : (setup : Setup) (history : History) (phase thread : ℕ) (ran : Ran) → (row_of (present setup history) thread).status ≡ Ready
-    → IsDue (keeps history) setup history phase thread → IsSegmentFrom setup (version setup history (base_of history phase false)) thread (keeps history) ran
-    → last_outcome history ≡ None → Follows setup history (ready_step setup history phase thread ran)
-unfolding run_step
-ready_follows setup history phase thread ran is due ends cut =
-    let base : State = version setup history (base_of history phase false) in
-    record {
-      ran = Some ran;
-      order = due;
-      base = ap (base_of history phase) (sym (is_no_wake (present setup history) phase thread (base_of history phase false) base ran ran.stop refl));
-      private_memory = subst (λ status. RunsPrivately setup base thread (keeps history) status (Some ran)) (sym is) ends;
-      commit_then_call = refl;
-      cut = cut;
-    }
-
-pub woken_follows : (setup : Setup) (history : History) (phase thread mutex : ℕ) → (row_of (present setup history) thread).status ≡ Woken mutex
-    → IsDue (keeps history) setup history phase thread → last_outcome history ≡ None → Follows setup history (woken_step setup history phase thread mutex)
-unfolding wake_step
-woken_follows setup history phase thread mutex is due cut =
-    let number : ℕ = base_of history phase true in
-    record {
-      ran = None;
-      order = due;
-      base = refl;
-      private_memory = subst (λ status. RunsPrivately setup (version setup history number) thread (keeps history) status None) (sym is) tt;
-      commit_then_call = ap (λ status. wake_step (present setup history) phase thread number (mutex_of status)) (sym is);
-      cut = cut;
-    }
+pub follower : (setup : Setup) (history : History) (phase : ℕ) (who : Due) (ran : PrivateRun who) → IsDue setup history phase who
+    → RunsPrivately setup (version setup history (base_of history phase who)) who ran → last_outcome history ≡ None → Follows setup history (step_from setup history phase who ran)
+unfolding run_step wake_step
+follower setup history phase (due.Fresh thread) ran is runs cut =
+    record { who = due.Fresh thread; ran = ran; order = is; base = refl; private_memory = runs; commit_then_call = refl; cut = cut }
+follower setup history phase (due.Keeper thread) ran is runs cut =
+    record { who = due.Keeper thread; ran = ran; order = is; base = refl; private_memory = runs; commit_then_call = refl; cut = cut }
+follower setup history phase (due.Woken thread mutex) ran is runs cut =
+    record { who = due.Woken thread mutex; ran = ran; order = is; base = refl; private_memory = runs; commit_then_call = refl; cut = cut }

@@ -16,10 +16,16 @@ use Rattle.hart.specs.HartState.{HartState}
 use Rattle.hart.specs.declared.stop.Stop.{Stop}
 use Rattle.hart.specs.declared.stop.Stop.TheVariants as stopped
 use Rattle.thread_table.specs.Threads.{new_number}
-use Rattle.token.specs.Effects.{Effect, by_objects, create, create_numbered, effect, join, new_pages, read, release, settled, thread_exit, write}
-use Rattle.token.specs.History.{History, Follows, present, row_of, step_of, version}
-use Rattle.token.specs.State.{Setup, State}
+use Rattle.call_table.specs.Effects.{Effect, by_objects, create, create_numbered, effect, join, new_pages, read, release, settled, thread_exit, write}
+use Rattle.token.specs.Due.{PrivateRun, thread_due}
+use Rattle.token.specs.History.{History, present, version}
+use Rattle.token.specs.Legal.{Follows, step_of}
+use Rattle.call_table.specs.State.{row_of, State}
+use Rattle.token.specs.Setup.{Setup}
 use Rattle.token.specs.Turns.{Ran, Step, after_stop, committed, run_step, wake_step}
+use Rattle.token.specs.declared.due.Due.{Due}
+use Rattle.token.specs.declared.due.Due.TheVariants as due
+use Rattle.token.proofs.Dues.{thread_is}
 
 -- who holds a mutex is this thread
 pub record OnlyHolder (thread : ℕ) (objects : ObjectState) : Type 0 where
@@ -186,15 +192,25 @@ after_stop_only state thread hart (stopped.Trap trap) before = before
 after_stop_only state thread hart stopped.Quantum before = before
 after_stop_only state thread hart stopped.Ecall before = effect_only state thread (call_of hart) before
 
-step_only : (state base : State) (phase thread number : ℕ) (ran : Option Ran) → OnlyHolder thread state.objects → OnlyHolder thread (step_of state base phase thread number ran).after.objects
-unfolding run_step wake_step committed take_back
-step_only state base phase thread number None before = given_to state.objects thread _ before
-step_only state base phase thread number (Some ran) before =
+run_only : (state base : State) (phase thread number : ℕ) (ran : Ran) → OnlyHolder thread state.objects
+    → OnlyHolder thread (run_step state phase thread number base.memory (row_of base thread).executed ran).after.objects
+unfolding run_step committed
+run_only state base phase thread number ran before =
     after_stop_only (committed state thread base.memory (row_of base thread).executed ran) thread ran.hart ran.stop before
+
+step_only : (state base : State) (phase number : ℕ) (who : Due) (ran : PrivateRun who) → OnlyHolder (thread_due who) state.objects
+    → OnlyHolder (thread_due who) (step_of state base phase number who ran).after.objects
+unfolding wake_step take_back
+step_only state base phase number (due.Fresh thread) ran before = run_only state base phase thread number ran before
+step_only state base phase number (due.Keeper thread) ran before = run_only state base phase thread number ran before
+step_only state base phase number (due.Woken thread mutex) ran before = given_to state.objects thread _ before
 
 -- Where who holds a mutex before a turn is the turn's thread, so is who holds one after it.
 pub turn_only : (setup : Setup) (history : History) (step : Step) → Follows setup history step → OnlyHolder step.turn.thread (present setup history).objects
     → OnlyHolder step.turn.thread step.after.objects
 turn_only setup history step follows before =
+    let same = thread_is setup history step follows in
     subst (λ made. OnlyHolder step.turn.thread made.after.objects) (sym follows.commit_then_call)
-    (step_only (present setup history) (version setup history step.turn.base) step.turn.phase step.turn.thread step.turn.base follows.ran before)
+    (subst (λ (n : ℕ). OnlyHolder n (step_of (present setup history) (version setup history step.turn.base) step.turn.phase step.turn.base follows.who follows.ran).after.objects) (sym same)
+    (step_only (present setup history) (version setup history step.turn.base) step.turn.phase step.turn.base follows.who follows.ran
+    (subst (λ (n : ℕ). OnlyHolder n (present setup history).objects) same before)))

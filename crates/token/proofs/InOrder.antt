@@ -2,9 +2,11 @@
 use Rattle.std.proofs.Common.{◌≡◌, ℕ, suc, Bool, true, false, List, [], ◌∷◌, ◌++◌, refl, ap, sym, ◌∙◌, inl, inr, arith, append_assoc, subst}
 use Rattle.std.proofs.lemmas.List.{append_cancel_left}
 use Rattle.thread_table.specs.Threads.{numbers_where}
-use Rattle.token.specs.State.{Setup, first_state}
+use Rattle.token.specs.Setup.{Setup, first_state}
 use Rattle.token.specs.Turns.{Step}
-use Rattle.token.specs.History.{History, Follows, IsLegal, IsDue, IsNextOfList, first_version, heads, keeps, list_of, phase_of, present, thread_of, version}
+use Rattle.token.specs.History.{History, IsNextOfList, first_version, heads, keeps, list_of, phase_of, present, thread_of, version}
+use Rattle.token.specs.Legal.{Follows, IsLegal}
+use Rattle.token.proofs.Dues.{IsTurnOf, turn_of_step}
 use Rattle.token.proofs.SerialList.{Rises, Rises-after, Rises-like, serial_list_rises}
 use Rattle.token.proofs.Statuses.{HasTurnIn, turn_kept}
 use Rattle.token.proofs.Versions.{heads_keeper, heads_next, list_of_kept, list_of_next}
@@ -59,7 +61,7 @@ low_of_keeper [] keeper = cc
 low_of_keeper (step ∷ before) keeper = refl
 
 in_order_next : (setup : Setup) (before : History) (step : Step) (keeper : Bool) → keeps before ≡ keeper → Follows setup before step → IsLegal setup before
-    → InOrder setup before → IsDue keeper setup before step.turn.phase step.turn.thread → InOrder setup (step ∷ before)
+    → InOrder setup before → IsTurnOf keeper setup before step.turn.phase step.turn.thread → InOrder setup (step ∷ before)
 unfolding phase_of low_of
 in_order_next setup before step true is follows legal order due =
     let phase : ℕ = step.turn.phase in
@@ -84,4 +86,4 @@ in_order_next setup before step false is follows legal order due =
 pub in_order : (setup : Setup) (history : History) → IsLegal setup history → InOrder setup history
 unfolding IsLegal
 in_order setup [] legal = in_order_at_start setup
-in_order setup (step ∷ before) legal = in_order_next setup before step (keeps before) refl legal.0 legal.1 (in_order setup before legal.1) legal.0.order
+in_order setup (step ∷ before) legal = in_order_next setup before step (keeps before) refl legal.0 legal.1 (in_order setup before legal.1) (turn_of_step setup before step legal.0)

@@ -13,24 +13,29 @@ use Rattle.hart.specs.declared.stop.Stop.{Stop}
 use Rattle.hart.specs.declared.stop.Stop.TheVariants as stopped
 use Rattle.thread_table.specs.Status.{is_ready}
 use Rattle.thread_table.specs.Thread.{blank}
-use Rattle.thread_table.specs.declared.status.Status.{Status}
-use Rattle.thread_table.specs.declared.status.Status.TheVariants.{Ready, Woken, Blocked, Done}
+use Rattle.thread_table.specs.declared.status.Status.TheVariants.{Ready, Woken}
 use Rattle.thread_table.specs.declared.thread.Thread.{Thread}
-use Rattle.token.specs.Effects.{completed}
-use Rattle.token.specs.History.{History, Follows, IsDue, IsHeldByKeeper, IsLegal, RunsPrivately, keeper_of, keeps, last_outcome, mutex_of, outcome, outcome_of_stop, present, row_of, step_of, thread_of, version}
-use Rattle.token.specs.Law.{HolderKeeps, NoneElseHolds}
-use Rattle.token.specs.State.{Setup, State, first_state, with_thread}
+use Rattle.call_table.specs.Effects.{completed}
+use Rattle.token.specs.Due.{PrivateRun, thread_due}
+use Rattle.token.specs.History.{History, IsHeldByKeeper, keeper_of, keeps, last_outcome, outcome, present, thread_of, version}
+use Rattle.token.specs.Legal.{Follows, IsDue, IsLegal, step_of}
+use Rattle.token.specs.Outcome.{outcome_of_stop}
+use Rattle.call_table.specs.State.{row_of, State, with_thread}
+use Rattle.token.specs.Setup.{Setup, first_state}
 use Rattle.token.specs.Turns.{Ran, Step, after_stop, committed, run_step, wake_step}
-use Rattle.token.specs.Waiting.{are_parked}
+use Rattle.call_table.specs.Waiting.{are_parked}
+use Rattle.token.specs.declared.due.Due.{Due}
+use Rattle.token.specs.declared.due.Due.TheVariants as due
 use Rattle.token.specs.declared.outcome.RunOutcome.{RunOutcome}
 use Rattle.token.specs.declared.turn.TurnStop.{TurnStop}
-use Rattle.token.proofs.Calls.{not_blocked, parked-made, parked-settled, parked-woken, waits_nowhere}
-use Rattle.token.proofs.Committing.{row_there, with_thread_there}
+use Rattle.call_table.proofs.Calls.{not_blocked, parked-made, parked-settled, parked-woken, waits_nowhere}
+use Rattle.call_table.proofs.Committing.{row_there, with_thread_there}
+use Rattle.token.proofs.Dues.{IsTurnOf, keeper_is, keeper_ready, ready_is, thread_is, turn_of_step}
 use Rattle.token.proofs.Holders.{OnlyHolder, turn_only}
-use Rattle.token.proofs.Parked.{slice_get-itself}
+use Rattle.call_table.proofs.Parked.{slice_get-itself}
 use Rattle.token.proofs.ReadyHolder.{ready_settled}
 use Rattle.token.proofs.Statuses.{status_at, status_of_others}
-use Rattle.token.proofs.TurnThere.{turn_there}
+use Rattle.token.proofs.TurnThere.{due_present}
 
 -- What a turn of a thread leaves: who waits at an object is blocked there, and the thread is ready where it holds a mutex, unless the
 -- turn ends the run.
@@ -82,27 +87,25 @@ ran_leaves state phase thread base executed copy ran there runs parked =
 
 -- a step
 
-made_leaves : (setup : Setup) (state base : State) (phase thread number : ℕ) (keeper : Bool) (ran : Option Ran) → thread < length state.threads
-    → are_parked state.threads state.objects.waiters ≡ true → (status : Status) → (row_of state thread).status ≡ status → RunsPrivately setup base thread keeper status ran
-    → let step : Step = step_of state base phase thread number ran in Leaves thread step.turn.stop step.after
-made_leaves setup state base phase thread number keeper (Some ran) there parked Ready is runs =
-    ran_leaves state phase thread number (row_of base thread).executed base.memory ran there is parked
-made_leaves setup state base phase thread number keeper None there parked (Woken mutex) is runs =
-    woken_leaves state phase thread number (mutex_of (row_of state thread).status) there (is ∙ ap Woken (sym (ap mutex_of is))) parked
-made_leaves setup state base phase thread number keeper None there parked Ready is runs = absurd runs
-made_leaves setup state base phase thread number keeper (Some ran) there parked (Woken mutex) is runs = absurd runs
-made_leaves setup state base phase thread number keeper (Some ran) there parked Blocked is runs = absurd runs
-made_leaves setup state base phase thread number keeper None there parked Blocked is runs = absurd runs
-made_leaves setup state base phase thread number keeper (Some ran) there parked (Done value) is runs = absurd runs
-made_leaves setup state base phase thread number keeper None there parked (Done value) is runs = absurd runs
+made_leaves : (setup : Setup) (before : History) (base : State) (phase number : ℕ) (who : Due) (ran : PrivateRun who) → IsLegal setup before → IsDue setup before phase who
+    → are_parked (present setup before).threads (present setup before).objects.waiters ≡ true
+    → let step : Step = step_of (present setup before) base phase number who ran in Leaves (thread_due who) step.turn.stop step.after
+made_leaves setup before base phase number (due.Fresh thread) ran legal is parked =
+    ran_leaves (present setup before) phase thread number (row_of base thread).executed base.memory ran (due_present setup before phase (due.Fresh thread) legal is) is.2 parked
+made_leaves setup before base phase number (due.Keeper thread) ran legal is parked =
+    let kept = keeper_is before thread is.0 in
+    let ready : (row_of (present setup before) thread).status ≡ Ready =
+    subst (λ (n : ℕ). (row_of (present setup before) n).status ≡ Ready) kept.1 (ready_is _ (keeper_ready setup before kept.0)) in
+    ran_leaves (present setup before) phase thread number (row_of base thread).executed base.memory ran (due_present setup before phase (due.Keeper thread) legal is) ready parked
+made_leaves setup before base phase number (due.Woken thread mutex) ran legal is parked =
+    woken_leaves (present setup before) phase thread number mutex (due_present setup before phase (due.Woken thread mutex) legal is) is.2 parked
 
 step_leaves : (setup : Setup) (before : History) (step : Step) → IsLegal setup before → Follows setup before step
     → are_parked (present setup before).threads (present setup before).objects.waiters ≡ true → Leaves step.turn.thread step.turn.stop step.after
 step_leaves setup before step legal follows parked =
-    let thread : ℕ = step.turn.thread in
-    subst (λ (made : Step). Leaves thread made.turn.stop made.after) (sym follows.commit_then_call)
-    (made_leaves setup (present setup before) (version setup before step.turn.base) step.turn.phase thread step.turn.base (keeps before) follows.ran (turn_there setup before step legal follows) parked
-    (row_of (present setup before) thread).status refl follows.private_memory)
+    subst (λ (thread : ℕ). Leaves thread step.turn.stop step.after) (sym (thread_is setup before step follows))
+    (subst (λ (made : Step). Leaves (thread_due follows.who) made.turn.stop made.after) (sym follows.commit_then_call)
+    (made_leaves setup before (version setup before step.turn.base) step.turn.phase step.turn.base follows.who follows.ran legal follows.order parked))
 
 -- a history
 
@@ -125,7 +128,7 @@ holder_due setup before step kept follows =
     record {
       only = λ n held.
           let holder = kept.holder follows.cut n held in
-          holder.1 ∙ sym (subst (λ (keeper : Bool). IsDue keeper setup before step.turn.phase step.turn.thread) holder.0 follows.order).1;
+          holder.1 ∙ sym (subst (λ (keeper : Bool). IsTurnOf keeper setup before step.turn.phase step.turn.thread) holder.0 (turn_of_step setup before step follows)).1;
     }
 
 kept_after : (setup : Setup) (before : History) (step : Step) → IsLegal setup before → Follows setup before step → IsKept setup before → IsKept setup (step ∷ before)
@@ -156,13 +159,14 @@ running_last : (last : Option RunOutcome) (quiet : Bool) (ends : RunOutcome) →
 running_last None quiet ends running = refl
 running_last (Some outcome) quiet ends running = running
 
-pub holder_keeps : HolderKeeps
+pub holder_keeps : (setup : Setup) (history : History) → IsLegal setup history → outcome setup history ≡ None → IsHeldByKeeper (present setup history).objects (keeper_of history)
 unfolding outcome holds_mutex holds
 holder_keeps setup history legal going thread mutex held =
     let holder = (is_kept setup history legal).holder (running_last (last_outcome history) _ _ going) thread (one_holds (present setup history).objects.holders mutex thread held) in
     rw holder.0 (ap Some (sym holder.1))
 
-pub none_else_holds : NoneElseHolds
+pub none_else_holds : (setup : Setup) (history : History) (step : Step) → IsLegal setup history → Follows setup history step
+    → (thread mutex : ℕ) → holds_mutex (present setup history).objects thread mutex ≡ true → thread ≡ step.turn.thread
 unfolding holds_mutex holds
 none_else_holds setup history step legal follows thread mutex held =
     (holder_due setup history step (is_kept setup history legal) follows).only thread (one_holds (present setup history).objects.holders mutex thread held)

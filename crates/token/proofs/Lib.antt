@@ -1,7 +1,6 @@
-pub mod ByObjects
-pub mod Calls
 pub mod Committing
 pub mod Complete
+pub mod Dues
 pub mod Duties
 pub mod Followers
 pub mod GoesOn
@@ -15,10 +14,8 @@ pub mod NextStep
 pub mod OneHistory
 pub mod OneStep
 pub mod Outputs
-pub mod Parked
-pub mod Ranges
 pub mod ReadyHolder
-pub mod Runs
+pub mod SameThreads
 pub mod SegmentEnds
 pub mod SerialList
 pub mod Standing

@@ -1,13 +1,15 @@
 -- What a turn adds to a run.
 use Rattle.std.proofs.Common.{◌≡◌, ℕ, ◌+◌, Bool, true, false, ◌||◌, ◌==◌, nat_lt, if◌then◌else◌, Option, Some, is_some, Result, Ok, Err, OnOk, List, [], ◌∷◌, ◌++◌, length, drop, refl, ap, sym, ◌∙◌, subst}
 use Rattle.thread_table.specs.Threads.{serial_list}
-use Rattle.token.specs.History.{History, Follows, quiet_outcome}
-use Rattle.token.specs.Point.{Point, after_step, change_of, moved, next_phase, passed_on, recorded, step_at}
-use Rattle.token.specs.Progress.{point_of}
+use Rattle.token.specs.History.{History, change_of}
+use Rattle.token.specs.Legal.{Follows}
+use Rattle.token.specs.Outcome.{quiet_outcome}
+use Rattle.token.specs.Point.{Point, after_step, moved, next_phase, passed_on, recorded, step_at}
+use Rattle.token.specs.RunInTurn.{point_of}
 use Rattle.token.specs.Serial.{IsAskedFor, IsLawful, IsLonger, IsNeeded, StandsAfter}
-use Rattle.token.specs.State.{State}
+use Rattle.call_table.specs.State.{State}
 use Rattle.token.specs.Turns.{Step}
-use Rattle.token.specs.declared.progress.Progress.{Progress}
+use Rattle.token.specs.declared.run_in_turn.RunInTurn.{RunInTurn}
 use Rattle.token.specs.declared.segment_end.SegmentEnd.{SegmentEnd}
 use Rattle.token.proofs.Outputs.{output_grows}
 use Rattle.token.proofs.NextStep.{step_follows}
@@ -63,12 +65,12 @@ moved_longer point history step stands follows =
       output = fresh_is point.state.output grows.more (moved point step).state.output (moved point step).fresh_from (ap (λ (state : State). state.output) leaves.state ∙ output) leaves.fresh_from;
     }
 
-pub longer_if : {E : Type 0} → (result : Result (Unit {0}) E) (old new : Progress) (end : Option SegmentEnd) → IsLawful old → IsNeeded old end
+pub longer_if : {E : Type 0} → (result : Result (Unit {0}) E) (old new : RunInTurn) (end : Option SegmentEnd) → IsLawful old → IsNeeded old end
     → OnOk result (point_of new ≡ moved (point_of old) (step_at (point_of old) end)) → OnOk result (IsLonger (point_of old) (point_of new))
 longer_if (Ok done) old new end lawful needed made =
     subst (λ (point : Point). IsLonger (point_of old) point) (sym made)
-    (moved_longer (point_of old) lawful.0 (step_at (point_of old) end) lawful.1 (step_follows (point_of old) lawful.0 end lawful.1 needed))
+    (moved_longer (point_of old) lawful.0 (step_at (point_of old) end) lawful.1 (step_follows (point_of old) lawful.0 end lawful.1 lawful.2 needed))
 longer_if (Err error) old new end lawful needed made = tt
 
-pub asked_for : (run : Progress) → IsLawful run → IsAskedFor run
-asked_for run lawful = (lawful.0, lawful.1, λ end needed. step_follows (point_of run) lawful.0 end lawful.1 needed)
+pub asked_for : (run : RunInTurn) → IsLawful run → IsAskedFor run
+asked_for run lawful = (lawful.0, lawful.1, λ end needed. step_follows (point_of run) lawful.0 end lawful.1 lawful.2 needed)

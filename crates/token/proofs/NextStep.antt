@@ -1,8 +1,11 @@
 -- The step that a run's next turn makes follows its history.
-use Rattle.std.proofs.Common.{◌≡◌, ℕ, zero, suc, ◌+◌, ◌-◌, ◌≤◌, Bool, true, false, if◌then◌else◌, Option, Some, None, is_some, option_and_then, List, ◌∷◌, length, slice_get, unwrap_or, refl, ap, sym, ◌∙◌, subst, inl, inr, arith}
+use Rattle.std.proofs.Common.{◌≡◌, ℕ, zero, suc, ◌+◌, ◌-◌, ◌≤◌, Bool, if◌then◌else◌, Option, Some, None, is_some, option_and_then, List, ◌∷◌, length, slice_get, unwrap_or, refl, ap, sym, ◌∙◌, subst, inl, inr, arith}
 use Rattle.std.proofs.lemmas.Bool.{cases_lt, cases_eq, eq-eqb}
+use Rattle.call_table.specs.CommitAndWake.{committed_bytes}
+use Rattle.call_table.specs.State.{State, row_of}
 use Rattle.commit.specs.Changed.{addresses_of}
 use Rattle.commit.specs.Merge.{changes}
+use Rattle.commit.specs.Patched.{patched}
 use Rattle.guest_memory.specs.Memory.{Memory}
 use Rattle.hart.specs.HartState.{HartState}
 use Rattle.hart.specs.Next.{Next, next}
@@ -10,56 +13,59 @@ use Rattle.hart.specs.Segment.{Segment, after, bound_trap, counted, left_by, sto
 use Rattle.hart.specs.declared.stop.Stop.{Stop}
 use Rattle.hart.specs.declared.stop.Stop.TheVariants.{Trap as Trapped, Ecall, Quantum}
 use Rattle.thread_table.specs.Thread.{blank}
-use Rattle.thread_table.specs.declared.status.Status.{Status}
-use Rattle.thread_table.specs.declared.status.Status.TheVariants.{Ready, Woken, Blocked, Done}
+use Rattle.thread_table.specs.declared.status.Status.TheVariants.{Ready, Woken}
 use Rattle.thread_table.specs.declared.thread.Thread.{Thread}
-use Rattle.token.specs.History.{History, Follows, IsSegmentFrom, base_of, is_quiet, keeps, last_outcome, mutex_of, outcome, present, row_of, thread_of, version}
-use Rattle.token.specs.Point.{Point, IsEndOf, IsNeededAt, IsNeededBy, base_memory_at, base_number_at, base_row_at, due_at, memory_by, moved, need_at, need_by, ran_step, row_by, step_at, woken_step, work_at}
-use Rattle.token.specs.Progress.{CanRun, HasDue, MayTurn}
-use Rattle.token.specs.Serial.{StandsAfter}
-use Rattle.token.specs.Shared.{committed_bytes}
-use Rattle.token.specs.State.{Setup, State}
-use Rattle.commit.specs.Patched.{patched}
+use Rattle.token.specs.Due.{mutex_due, thread_due}
+use Rattle.token.specs.History.{History, is_quiet, last_outcome, outcome, present, version}
+use Rattle.token.specs.Legal.{Follows, IsDue, IsSegmentFrom, base_of}
+use Rattle.token.specs.Point.{Point, IsNeededAt, IsNeededBy, base_at, base_number_at, due_at, moved, need_at, need_by, need_of, ran_step, step_at, woken_step}
+use Rattle.token.specs.RunInTurn.{HasDue, MayTurn}
+use Rattle.token.specs.Serial.{Invariants, StandsAfter}
+use Rattle.token.specs.Setup.{Setup}
 use Rattle.token.specs.Turns.{Ran, Step, Stopped, after_stop, committed, run_step, wake_step}
-use Rattle.token.specs.declared.need.Work.{Work}
+use Rattle.token.specs.declared.due.Due.{Due}
+use Rattle.token.specs.declared.due.Due.TheVariants as due
+use Rattle.token.specs.declared.need.Need.{Need}
 use Rattle.token.specs.declared.outcome.RunOutcome.{RunOutcome}
 use Rattle.token.specs.declared.segment_end.SegmentEnd.{SegmentEnd}
-use Rattle.token.proofs.Duties.{due_is, due_ready, has_due}
-use Rattle.token.proofs.Followers as follower
-use Rattle.token.proofs.Standing.{keeper_is, no_keeper, stands_next, turns_len}
-use Rattle.token.proofs.Versions.{base_of_keeper, base_of_next, base_of_wake, version_last}
+use Rattle.token.proofs.Dues.{keeper_is, keeper_ready, ready_is}
+use Rattle.token.proofs.Duties.{due_is, has_due}
+use Rattle.token.proofs.Followers.{follower}
+use Rattle.token.proofs.Standing.{stands_next, turns_len}
+use Rattle.token.proofs.Versions.{version_last}
 
--- the base of the next segment
+-- the base of who is due
 
-record IsBase (point : Point) (keeper : Option ℕ) (thread number : ℕ) (base : State) : Type 0 where
-  number_is : number ≡ (if is_some keeper then length point.turns else point.first)
-  memory : base.memory ≡ memory_by keeper point.base point.state.memory
-  row : row_of base thread ≡ row_by keeper point.base_threads point.state thread
+record IsBase (point : Point) (who : Due) (number : ℕ) (base : State) : Type 0 where
+  number_is : number ≡ base_number_at point who
+  memory : base.memory ≡ (base_at point who).memory
+  threads : base.threads ≡ (base_at point who).threads
 
-base_by : (point : Point) (history : History) → StandsAfter point history → (keeper : Option ℕ) → point.keeper ≡ keeper → (thread : ℕ)
-    → IsBase point keeper thread (base_of history point.phase false) (version point.setup history (base_of history point.phase false))
-base_by point history stands (Some keeper) is thread =
-    let kept = keeper_is history keeper (stands.keeper ∙ is) in
-    let number = base_of_keeper history point.phase false kept.0 in
-    let there : version point.setup history (base_of history point.phase false) ≡ point.state =
-    ap (version point.setup history) number ∙ version_last point.setup history ∙ stands.state in
+last_is : (point : Point) (history : History) → StandsAfter point history → version point.setup history (length history) ≡ point.state
+last_is point history stands = version_last point.setup history ∙ stands.state
+
+turns_are : (point : Point) (history : History) → StandsAfter point history → length history ≡ length point.turns
+turns_are point history stands = sym (turns_len history) ∙ ap length stands.turns
+
+base_is : (point : Point) (history : History) → StandsAfter point history → (who : Due)
+    → IsBase point who (base_of history point.phase who) (version point.setup history (base_of history point.phase who))
+base_is point history stands (due.Fresh thread) =
+    let there = ap (version point.setup history) stands.first in
     record {
-      number_is = number ∙ sym (turns_len history) ∙ ap length stands.turns;
-      memory = ap (λ state. state.memory) there;
-      row = ap (λ state. row_of state thread) there;
+      number_is = stands.first;
+      memory = ap (λ (state : State). state.memory) there ∙ stands.base;
+      threads = ap (λ (state : State). state.threads) there ∙ stands.base_threads;
     }
-base_by point history stands None is thread =
-    let number : base_of history point.phase false ≡ point.first = base_of_next history point.phase (no_keeper history (stands.keeper ∙ is)) ∙ stands.first in
-    let there = ap (version point.setup history) number in
-    record {
-      number_is = number;
-      memory = ap (λ state. state.memory) there ∙ stands.base;
-      row = ap (λ state. row_of state thread) there ∙ ap (λ threads. unwrap_or (slice_get threads thread) blank) stands.base_threads;
-    }
+base_is point history stands (due.Keeper thread) =
+    let there = last_is point history stands in
+    record { number_is = turns_are point history stands; memory = ap (λ (state : State). state.memory) there; threads = ap (λ (state : State). state.threads) there }
+base_is point history stands (due.Woken thread mutex) =
+    let there = last_is point history stands in
+    record { number_is = turns_are point history stands; memory = ap (λ (state : State). state.memory) there; threads = ap (λ (state : State). state.threads) there }
 
-base_is : (point : Point) (history : History) → StandsAfter point history
-    → IsBase point point.keeper (due_at point) (base_of history point.phase false) (version point.setup history (base_of history point.phase false))
-base_is point history stands = base_by point history stands point.keeper refl (due_at point)
+-- the row of a thread, by the threads of its state
+same_row : (state other : State) (thread : ℕ) → state.threads ≡ other.threads → row_of state thread ≡ row_of other thread
+same_row state other thread same = ap (λ (threads : List Thread). unwrap_or (slice_get threads thread) blank) same
 
 -- the step of a thread whose segment ended
 
@@ -67,8 +73,8 @@ abbrev ran_of : SegmentEnd → Memory → Ran
 ran_of end memory = record { hart = end.hart; memory = memory; stop = end.stop; count = end.count }
 
 -- the step by the bytes that the thread changed
-abbrev step_by : State → ℕ → ℕ → ℕ → ℕ → (ℕ → Option ℕ) → SegmentEnd → Step
-step_by state phase thread number executed bytes end =
+abbrev step_by_bytes : State → ℕ → ℕ → ℕ → ℕ → (ℕ → Option ℕ) → SegmentEnd → Step
+step_by_bytes state phase thread number executed bytes end =
     let stopped : Stopped = after_stop (committed_bytes state thread bytes end.hart (executed + end.count)) thread end.hart end.stop in
     let addresses : List ℕ = addresses_of bytes in
     record {
@@ -78,82 +84,35 @@ step_by state phase thread number executed bytes end =
     }
 
 by_bytes : (state : State) (phase thread number : ℕ) (copy : Memory) (executed : ℕ) (end : SegmentEnd) (memory : Memory)
-    → run_step state phase thread number copy executed (ran_of end memory) ≡ step_by state phase thread number executed (changes copy memory) end
+    → run_step state phase thread number copy executed (ran_of end memory) ≡ step_by_bytes state phase thread number executed (changes copy memory) end
 unfolding run_step committed committed_bytes
 by_bytes state phase thread number copy executed end memory = refl
 
-same_step : (point : Point) (history : History) → StandsAfter point history → (end : SegmentEnd) (memory : Memory) → patched end.patch ≡ changes (base_memory_at point) memory
-    → follower.ready_step point.setup history point.phase (due_at point) (ran_of end memory) ≡ ran_step point end
-unfolding ran_step base_number_at base_row_at base_memory_at
-same_step point history stands end memory patch =
-    let base = base_is point history stands in
-    let number : ℕ = base_of history point.phase false in
-    let state : State = version point.setup history number in
-    let thread : ℕ = due_at point in
-    let bytes : changes state.memory memory ≡ patched end.patch = ap (λ (copy : Memory). changes copy memory) base.memory ∙ sym patch in
-    by_bytes (present point.setup history) point.phase thread number state.memory (row_of state thread).executed end memory
-    ∙ ap (λ (now : State). step_by now point.phase thread number (row_of state thread).executed (changes state.memory memory) end) stands.state
-    ∙ ap (λ (n : ℕ). step_by point.state point.phase thread n (row_of state thread).executed (changes state.memory memory) end) base.number_is
-    ∙ ap (λ (row : Thread). step_by point.state point.phase thread (if is_some point.keeper then length point.turns else point.first) row.executed (changes state.memory memory) end) base.row
-    ∙ ap (λ (bytes : ℕ → Option ℕ).
-    step_by point.state point.phase thread (if is_some point.keeper then length point.turns else point.first) (row_by point.keeper point.base_threads point.state thread).executed bytes end)
-    bytes
+same_step : (point : Point) (history : History) → StandsAfter point history → (who : Due) (end : SegmentEnd) (memory : Memory)
+    → patched end.patch ≡ changes (base_at point who).memory memory
+    → let number : ℕ = base_of history point.phase who in
+    let base : State = version point.setup history number in
+    run_step (present point.setup history) point.phase (thread_due who) number base.memory (row_of base (thread_due who)).executed (ran_of end memory) ≡ ran_step point who end
+unfolding ran_step
+same_step point history stands who end memory patch =
+    let number : ℕ = base_of history point.phase who in
+    let base : State = version point.setup history number in
+    let thread : ℕ = thread_due who in
+    let is = base_is point history stands who in
+    let bytes : changes base.memory memory ≡ patched end.patch = ap (λ (copy : Memory). changes copy memory) is.memory ∙ sym patch in
+    by_bytes (present point.setup history) point.phase thread number base.memory (row_of base thread).executed end memory
+    ∙ ap (λ (now : State). step_by_bytes now point.phase thread number (row_of base thread).executed (changes base.memory memory) end) stands.state
+    ∙ ap (λ (n : ℕ). step_by_bytes point.state point.phase thread n (row_of base thread).executed (changes base.memory memory) end) is.number_is
+    ∙ ap (λ (row : Thread). step_by_bytes point.state point.phase thread (base_number_at point who) row.executed (changes base.memory memory) end) (same_row base (base_at point who) thread is.threads)
+    ∙ ap (λ (bytes : ℕ → Option ℕ). step_by_bytes point.state point.phase thread (base_number_at point who) (row_of (base_at point who) thread).executed bytes end) bytes
 
--- the quantum
-
-quantum_is : (keeps : Bool) (thread : ℕ) (keeper quantum : Option ℕ) → (if keeps then Some thread else None) ≡ keeper
-    → (if keeps then None else quantum) ≡ (if is_some keeper then None else quantum)
-quantum_is true thread keeper quantum is = ap (λ (keeper : Option ℕ). if is_some keeper then None else quantum) is
-quantum_is false thread keeper quantum is = ap (λ (keeper : Option ℕ). if is_some keeper then None else quantum) is
-
-segment_from : (setup : Setup) (base : State) (thread : ℕ) (keeper : Bool) (row : Thread) (copy : Memory) (quantum : Option ℕ) (ran : Ran) → row_of base thread ≡ row → base.memory ≡ copy
-    → (if keeper then None else setup.quantum) ≡ quantum → Segment row.hart copy (setup.bound - row.executed) quantum ran.stop ran.count ran.hart ran.memory
-    → IsSegmentFrom setup base thread keeper ran
-segment_from setup base thread keeper row copy quantum ran row_is copy_is quantum_is segment =
-    let with_quantum : Segment row.hart copy (setup.bound - row.executed) (if keeper then None else setup.quantum) ran.stop ran.count ran.hart ran.memory =
-    subst (λ (quantum : Option ℕ). Segment row.hart copy (setup.bound - row.executed) quantum ran.stop ran.count ran.hart ran.memory) (sym quantum_is) segment in
-    let with_copy : Segment row.hart base.memory (setup.bound - row.executed) (if keeper then None else setup.quantum) ran.stop ran.count ran.hart ran.memory =
-    subst (λ (copy : Memory). Segment row.hart copy (setup.bound - row.executed) (if keeper then None else setup.quantum) ran.stop ran.count ran.hart ran.memory) (sym copy_is) with_quantum in
-    subst (λ (row : Thread). Segment row.hart base.memory (setup.bound - row.executed) (if keeper then None else setup.quantum) ran.stop ran.count ran.hart ran.memory) (sym row_is) with_copy
-
--- what is needed
-
-record NeedsRun (ended : Option RunOutcome) (keeper : Option ℕ) (status : Status) (work : Work) (copy : Memory) (end : SegmentEnd) : Type 0 where
-  going : ended ≡ None
-  unwoken : (mutex : ℕ) → keeper ≡ None → status ≡ Woken mutex → ⊥
-  ended_so : IsEndOf copy work end
-
-needs_run : (ended : Option RunOutcome) (keeper : Option ℕ) (status : Status) (work : Work) (copy : Memory) (end : SegmentEnd)
-    → IsNeededBy (need_by ended keeper status work) copy (Some end) → NeedsRun ended keeper status work copy end
-needs_run (Some ends) keeper status work copy end needed = absurd needed
-needs_run None (Some thread) status work copy end needed = record { going = refl; unwoken = λ mutex free is. cc; ended_so = needed }
-needs_run None None (Woken mutex) work copy end needed = absurd needed
-needs_run None None Ready work copy end needed = record { going = refl; unwoken = λ mutex free is. cc; ended_so = needed }
-needs_run None None Blocked work copy end needed = record { going = refl; unwoken = λ mutex free is. cc; ended_so = needed }
-needs_run None None (Done value) work copy end needed = record { going = refl; unwoken = λ mutex free is. cc; ended_so = needed }
-
-record NeedsWake (ended : Option RunOutcome) (keeper : Option ℕ) (status : Status) : Type 0 where
-  going : ended ≡ None
-  free : keeper ≡ None
-  mutex : ℕ
-  woken : status ≡ Woken mutex
-
-needs_wake : (ended : Option RunOutcome) (keeper : Option ℕ) (status : Status) (work : Work) (copy : Memory)
-    → IsNeededBy (need_by ended keeper status work) copy None → NeedsWake ended keeper status
-needs_wake (Some ends) keeper status work copy needed = absurd needed
-needs_wake None (Some thread) status work copy needed = absurd needed
-needs_wake None None (Woken mutex) work copy needed = record { going = refl; free = refl; mutex = mutex; woken = refl }
-needs_wake None None Ready work copy needed = absurd needed
-needs_wake None None Blocked work copy needed = absurd needed
-needs_wake None None (Done value) work copy needed = absurd needed
-
-run_needed : (point : Point) (end : SegmentEnd) → IsNeededAt point (Some end) → NeedsRun point.ended point.keeper (row_of point.state (due_at point)).status (work_at point) (base_memory_at point) end
-unfolding need_at
-run_needed point end needed = needs_run point.ended point.keeper (row_of point.state (due_at point)).status (work_at point) (base_memory_at point) end needed
-
-wake_needed : (point : Point) → IsNeededAt point None → NeedsWake point.ended point.keeper (row_of point.state (due_at point)).status
-unfolding need_at
-wake_needed point needed = needs_wake point.ended point.keeper (row_of point.state (due_at point)).status (work_at point) (base_memory_at point) needed
+-- its segment
+segment_from : (setup : Setup) (base other : State) (thread : ℕ) (quantum : Option ℕ) (ran : Ran) → base.memory ≡ other.memory → base.threads ≡ other.threads
+    → IsSegmentFrom setup other thread quantum ran → IsSegmentFrom setup base thread quantum ran
+segment_from setup base other thread quantum ran memory threads segment =
+    let with_memory : Segment (row_of other thread).hart base.memory (setup.bound - (row_of other thread).executed) quantum ran.stop ran.count ran.hart ran.memory =
+    subst (λ (copy : Memory). Segment (row_of other thread).hart copy (setup.bound - (row_of other thread).executed) quantum ran.stop ran.count ran.hart ran.memory) (sym memory) segment in
+    subst (λ (row : Thread). Segment row.hart base.memory (setup.bound - row.executed) quantum ran.stop ran.count ran.hart ran.memory) (sym (same_row base other thread threads)) with_memory
 
 -- the run hasn't ended
 
@@ -165,61 +124,67 @@ cut_is : (point : Point) (history : History) → StandsAfter point history → p
 unfolding outcome
 cut_is point history stands going = running (last_outcome history) (is_quiet point.setup history) _ (stands.ended ∙ going)
 
+-- what is needed of a run that goes on
+going_by : (point : Point) (ended : Option RunOutcome) (asked : Need) (end : Option SegmentEnd) → IsNeededBy point (need_by ended asked) end → (ended ≡ None) × IsNeededBy point asked end
+going_by point (Some ends) asked (Some end) needed = absurd needed
+going_by point (Some ends) asked None needed = absurd needed
+going_by point None asked end needed = (refl, needed)
+
+needed_at : (point : Point) (end : Option SegmentEnd) → IsNeededAt point end → (point.ended ≡ None) × IsNeededBy point (need_of point (due_at point)) end
+unfolding need_at
+needed_at point end needed = going_by point point.ended (need_of point (due_at point)) end needed
+
 -- the step follows
 
-run_follows : (point : Point) (history : History) (end : SegmentEnd) → StandsAfter point history → IsNeededAt point (Some end) → Follows point.setup history (ran_step point end)
-unfolding due_at base_memory_at base_row_at work_at
-run_follows point history end stands needed =
-    let all = run_needed point end needed in
-    let memory : Memory = all.ended_so.memory in
-    let base = base_is point history stands in
-    let thread : ℕ = due_at point in
-    let state : State = version point.setup history (base_of history point.phase false) in
-    let ready : (row_of (present point.setup history) thread).status ≡ Ready =
-    ap (λ (state : State). (row_of state thread).status) stands.state ∙ due_ready point history stands point.keeper refl (stands.next all.going) all.unwoken in
-    let quantum = quantum_is (keeps history) (thread_of history) point.keeper point.setup.quantum stands.keeper in
-    let segment : IsSegmentFrom point.setup state thread (keeps history) (ran_of end memory) =
-    segment_from point.setup state thread (keeps history) (row_by point.keeper point.base_threads point.state thread) (memory_by point.keeper point.base point.state.memory)
-    (if is_some point.keeper then None else point.setup.quantum) (ran_of end memory) base.row base.memory quantum all.ended_so.segment in
-    subst (Follows point.setup history) (same_step point history stands end memory all.ended_so.patch)
-    (follower.ready_follows point.setup history point.phase thread (ran_of end memory) ready (due_is point history stands all.going) segment (cut_is point history stands all.going))
+ran_follows : (point : Point) (history : History) → StandsAfter point history → (who : Due) (end : SegmentEnd) → IsDue point.setup history point.phase who → last_outcome history ≡ None
+    → IsNeededBy point (need_of point who) (Some end) → Follows point.setup history (ran_step point who end)
+ran_follows point history stands (due.Fresh thread) end is cut ended =
+    let base = base_is point history stands (due.Fresh thread) in
+    let ran : Ran = ran_of end ended.memory in
+    let segment = segment_from point.setup (version point.setup history (base_of history point.phase (due.Fresh thread))) (base_at point (due.Fresh thread)) thread point.setup.quantum ran base.memory base.threads ended.segment in
+    subst (Follows point.setup history) (same_step point history stands (due.Fresh thread) end ended.memory ended.patch)
+    (follower point.setup history point.phase (due.Fresh thread) ran is segment cut)
+ran_follows point history stands (due.Keeper thread) end is cut ended =
+    let base = base_is point history stands (due.Keeper thread) in
+    let ran : Ran = ran_of end ended.memory in
+    let segment = segment_from point.setup (version point.setup history (base_of history point.phase (due.Keeper thread))) (base_at point (due.Keeper thread)) thread None ran base.memory base.threads ended.segment in
+    subst (Follows point.setup history) (same_step point history stands (due.Keeper thread) end ended.memory ended.patch)
+    (follower point.setup history point.phase (due.Keeper thread) ran is segment cut)
+ran_follows point history stands (due.Woken thread mutex) end is cut needed = absurd needed
 
-wake_follows : (point : Point) (history : History) → StandsAfter point history → IsNeededAt point None → Follows point.setup history (woken_step point)
+wake_follows : (point : Point) (history : History) → StandsAfter point history → (who : Due) → IsDue point.setup history point.phase who → last_outcome history ≡ None
+    → IsNeededBy point (need_of point who) None → Follows point.setup history (woken_step point who)
 unfolding woken_step
-wake_follows point history stands needed =
-    let all = wake_needed point needed in
-    let thread : ℕ = due_at point in
-    let woken : (row_of (present point.setup history) thread).status ≡ Woken all.mutex = ap (λ (state : State). (row_of state thread).status) stands.state ∙ all.woken in
-    let number : base_of history point.phase true ≡ length point.turns = base_of_wake history point.phase ∙ sym (turns_len history) ∙ ap length stands.turns in
-    let same : follower.woken_step point.setup history point.phase thread all.mutex ≡ wake_step point.state point.phase thread (length point.turns) (mutex_of (row_of point.state thread).status) =
-    ap (λ (now : State). wake_step now point.phase thread (base_of history point.phase true) all.mutex) stands.state
-    ∙ ap (λ (n : ℕ). wake_step point.state point.phase thread n all.mutex) number
-    ∙ ap (λ (status : Status). wake_step point.state point.phase thread (length point.turns) (mutex_of status)) (sym all.woken) in
-    subst (Follows point.setup history) same
-    (follower.woken_follows point.setup history point.phase thread all.mutex woken (due_is point history stands all.going) (cut_is point history stands all.going))
+wake_follows point history stands (due.Fresh thread) is cut needed = absurd needed
+wake_follows point history stands (due.Keeper thread) is cut needed = absurd needed
+wake_follows point history stands (due.Woken thread mutex) is cut needed =
+    let same : wake_step (present point.setup history) point.phase thread (length history) mutex ≡ wake_step point.state point.phase thread (length point.turns) mutex =
+    ap (λ (now : State). wake_step now point.phase thread (length history) mutex) stands.state
+    ∙ ap (λ (n : ℕ). wake_step point.state point.phase thread n mutex) (turns_are point history stands) in
+    subst (Follows point.setup history) same (follower point.setup history point.phase (due.Woken thread mutex) tt is tt cut)
 
-pub step_follows : (point : Point) (history : History) (end : Option SegmentEnd) → StandsAfter point history → IsNeededAt point end → Follows point.setup history (step_at point end)
-step_follows point history (Some end) stands needed = run_follows point history end stands needed
-step_follows point history None stands needed = wake_follows point history stands needed
+pub step_follows : (point : Point) (history : History) (end : Option SegmentEnd) → StandsAfter point history → Invariants point → IsNeededAt point end → Follows point.setup history (step_at point end)
+step_follows point history (Some end) stands holds needed =
+    let asked = needed_at point (Some end) needed in
+    ran_follows point history stands (due_at point) end (due_is point history stands holds asked.0) (cut_is point history stands asked.0) asked.1
+step_follows point history None stands holds needed =
+    let asked = needed_at point None needed in
+    wake_follows point history stands (due_at point) (due_is point history stands holds asked.0) (cut_is point history stands asked.0) asked.1
 
-is_going : (point : Point) (end : Option SegmentEnd) → IsNeededAt point end → point.ended ≡ None
-is_going point (Some end) needed = (run_needed point end needed).going
-is_going point None needed = (wake_needed point needed).going
-
-phase_and_thread : (point : Point) (end : Option SegmentEnd) → ((step_at point end).turn.phase ≡ point.phase) × ((step_at point end).turn.thread ≡ due_at point)
+phase_and_thread : (point : Point) (end : Option SegmentEnd) → ((step_at point end).turn.phase ≡ point.phase) × ((step_at point end).turn.thread ≡ thread_due (due_at point))
 unfolding ran_step woken_step wake_step
 phase_and_thread point (Some end) = (refl, refl)
 phase_and_thread point None = (refl, refl)
 
 -- the run stands after the longer history
-pub turn_stands : (point : Point) (history : History) (end : Option SegmentEnd) → StandsAfter point history → IsNeededAt point end
-    → StandsAfter (moved point (step_at point end)) (step_at point end ∷ history)
-turn_stands point history end stands needed =
+pub turn_stands : (point : Point) (history : History) (end : Option SegmentEnd) → StandsAfter point history → Invariants point → IsNeededAt point end
+    → StandsAfter (moved point (step_at point end)) (step_at point end ∷ history) × Invariants (moved point (step_at point end))
+turn_stands point history end stands holds needed =
     let same = phase_and_thread point end in
-    stands_next point history (step_at point end) stands (step_follows point history end stands needed) same.0 same.1 (stands.next (is_going point end needed))
+    stands_next point history (step_at point end) stands holds (step_follows point history end stands holds needed) same.0 same.1 (holds.next (needed_at point end needed).0)
 
-pub needed_due : (point : Point) (history : History) (end : Option SegmentEnd) → StandsAfter point history → IsNeededAt point end → HasDue point
-needed_due point history end stands needed = has_due point history stands (is_going point end needed)
+pub needed_due : (point : Point) (history : History) (end : Option SegmentEnd) → StandsAfter point history → Invariants point → IsNeededAt point end → HasDue point
+needed_due point history end stands holds needed = has_due point history stands holds (needed_at point end needed).0
 
 -- a segment executes no more than it may
 
@@ -276,20 +241,34 @@ count_within hart memory left quantum stop count last_hart last_memory segment =
         other_stop : Some (Trapped bound_trap) ≡ Some Ecall → ⊥
         other_stop same = cc
 
--- the next thread may end its segment so
-pub can_run : (point : Point) (history : History) (end : SegmentEnd) → StandsAfter point history → IsNeededAt point (Some end) → CanRun point end
-unfolding due_at work_at
-can_run point history end stands needed =
-    let all = run_needed point end needed in
-    record {
-      ready = due_ready point history stands point.keeper refl (stands.next all.going) all.unwoken;
-      within = count_within _ _ _ _ _ _ _ _ all.ended_so.segment;
-      bound = stands.bound;
-    }
+-- who is due may end its segment so
 
--- the next thread may have its turn
-pub may_turn : (point : Point) (history : History) (end : Option SegmentEnd) → StandsAfter point history → IsNeededAt point end → MayTurn point end
-may_turn point history (Some end) stands needed = can_run point history end stands needed
-may_turn point history None stands needed =
-    let all = wake_needed point needed in
-    all.woken ∙ ap (λ (status : Status). Woken (mutex_of status)) (sym all.woken)
+ready_by : (point : Point) (history : History) → StandsAfter point history → (who : Due) (end : SegmentEnd) → IsDue point.setup history point.phase who
+    → IsNeededBy point (need_of point who) (Some end) → (row_of point.state (thread_due who)).status ≡ Ready
+ready_by point history stands (due.Fresh thread) end is needed = sym (ap (λ (state : State). (row_of state thread).status) stands.state) ∙ is.2
+ready_by point history stands (due.Keeper thread) end is needed =
+    let kept = keeper_is history thread is.0 in
+    sym (ap (λ (state : State). (row_of state thread).status) stands.state)
+    ∙ subst (λ (n : ℕ). (row_of (present point.setup history) n).status ≡ Ready) kept.1 (ready_is _ (keeper_ready point.setup history kept.0))
+ready_by point history stands (due.Woken thread mutex) end is needed = absurd needed
+
+within_by : (point : Point) (who : Due) (end : SegmentEnd) → IsNeededBy point (need_of point who) (Some end) → end.count ≤ point.setup.bound - (row_of (base_at point who) (thread_due who)).executed
+within_by point (due.Fresh thread) end needed = count_within _ _ _ _ _ _ _ _ needed.segment
+within_by point (due.Keeper thread) end needed = count_within _ _ _ _ _ _ _ _ needed.segment
+within_by point (due.Woken thread mutex) end needed = absurd needed
+
+woken_by : (point : Point) (history : History) → StandsAfter point history → (who : Due) → IsDue point.setup history point.phase who
+    → IsNeededBy point (need_of point who) None → (row_of point.state (thread_due who)).status ≡ Woken (mutex_due who)
+woken_by point history stands (due.Fresh thread) is needed = absurd needed
+woken_by point history stands (due.Keeper thread) is needed = absurd needed
+woken_by point history stands (due.Woken thread mutex) is needed = sym (ap (λ (state : State). (row_of state thread).status) stands.state) ∙ is.2
+
+-- who is due may have its turn
+pub may_turn : (point : Point) (history : History) (end : Option SegmentEnd) → StandsAfter point history → Invariants point → IsNeededAt point end → MayTurn point end
+may_turn point history (Some end) stands holds needed =
+    let asked = needed_at point (Some end) needed in
+    let is = due_is point history stands holds asked.0 in
+    record { ready = ready_by point history stands (due_at point) end is asked.1; within = within_by point (due_at point) end asked.1; bound = holds.bound }
+may_turn point history None stands holds needed =
+    let asked = needed_at point None needed in
+    woken_by point history stands (due_at point) (due_is point history stands holds asked.0) asked.1

@@ -1,9 +1,9 @@
 -- Of two legal histories one is a prefix of the other.
-use Rattle.std.proofs.Common.{◌≡◌, ◌≤◌, [], ◌∷◌, length, refl, ap, sym, inl, inr, arith, subst}
+use Rattle.std.proofs.Common.{◌≡◌, ◌⊎◌, ◌≤◌, [], ◌∷◌, length, refl, ap, sym, inl, inr, arith, subst}
 use Rattle.std.proofs.lemmas.Bool.{cases_lt}
-use Rattle.token.specs.State.{Setup}
-use Rattle.token.specs.History.{History, Follows, IsLegal}
-use Rattle.token.specs.Law.{OneIsPrefix, IsPrefix}
+use Rattle.token.specs.Setup.{Setup}
+use Rattle.token.specs.History.{History, IsPrefix}
+use Rattle.token.specs.Legal.{Follows, IsLegal}
 use Rattle.token.proofs.OneStep.{one_step}
 
 -- two legal histories of one length
@@ -28,7 +28,7 @@ shorter setup one (step ∷ before) first second within =
       | inr fits ↦ longer fits
     ]
 
-pub one_is_prefix : OneIsPrefix
+pub one_is_prefix : (setup : Setup) (one other : History) → IsLegal setup one → IsLegal setup other → IsPrefix one other ⊎ IsPrefix other one
 one_is_prefix setup one other first second =
     elim (cases_lt (length one) (length other)) [
       | inl below ↦ inl (shorter setup one other first second (omega arith))

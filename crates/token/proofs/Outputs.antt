@@ -9,10 +9,15 @@ use Rattle.hart.specs.HartState.{HartState}
 use Rattle.hart.specs.declared.stop.Stop.{Stop}
 use Rattle.hart.specs.declared.stop.Stop.TheVariants as stopped
 use Rattle.thread_table.specs.Threads.{new_number}
-use Rattle.token.specs.State.{Setup, State}
-use Rattle.token.specs.History.{History, Follows, present, row_of, step_of, version}
+use Rattle.token.specs.Setup.{Setup}
+use Rattle.call_table.specs.State.{State, row_of}
+use Rattle.token.specs.Due.{PrivateRun}
+use Rattle.token.specs.History.{History, present, version}
+use Rattle.token.specs.Legal.{Follows, step_of}
 use Rattle.token.specs.Turns.{Ran, Step, after_stop, committed, run_step, wake_step}
-use Rattle.token.specs.Effects.{Effect, by_objects, create, create_numbered, effect, join, new_pages, read, release, settled, thread_exit, write}
+use Rattle.token.specs.declared.due.Due.{Due}
+use Rattle.token.specs.declared.due.Due.TheVariants as due
+use Rattle.call_table.specs.Effects.{Effect, by_objects, create, create_numbered, effect, join, new_pages, read, release, settled, thread_exit, write}
 
 -- an output begins with another
 pub record Extends (output other : List ℕ) : Type 0 where
@@ -96,13 +101,18 @@ after_stop_writes state thread hart (stopped.Trap trap) = same_output state.outp
 after_stop_writes state thread hart stopped.Quantum = same_output state.output
 after_stop_writes state thread hart stopped.Ecall = effect_writes state thread (call_of hart)
 
-step_writes : (state base : State) (phase thread number : ℕ) (ran : Option Ran) → Extends state.output (step_of state base phase thread number ran).after.output
-unfolding run_step wake_step committed
-step_writes state base phase thread number None = same_output state.output
-step_writes state base phase thread number (Some ran) =
+run_writes : (state base : State) (phase thread number : ℕ) (ran : Ran) → Extends state.output (run_step state phase thread number base.memory (row_of base thread).executed ran).after.output
+unfolding run_step committed
+run_writes state base phase thread number ran =
     after_stop_writes (committed state thread base.memory (row_of base thread).executed ran) thread ran.hart ran.stop
+
+step_writes : (state base : State) (phase number : ℕ) (who : Due) (ran : PrivateRun who) → Extends state.output (step_of state base phase number who ran).after.output
+unfolding wake_step
+step_writes state base phase number (due.Fresh thread) ran = run_writes state base phase thread number ran
+step_writes state base phase number (due.Keeper thread) ran = run_writes state base phase thread number ran
+step_writes state base phase number (due.Woken thread mutex) ran = same_output state.output
 
 pub output_grows : (setup : Setup) (before : History) (step : Step) → Follows setup before step → Extends (present setup before).output step.after.output
 output_grows setup before step follows =
     subst (λ made. Extends (present setup before).output made.after.output) (sym follows.commit_then_call)
-    (step_writes (present setup before) (version setup before step.turn.base) step.turn.phase step.turn.thread step.turn.base follows.ran)
+    (step_writes (present setup before) (version setup before step.turn.base) step.turn.phase step.turn.base follows.who follows.ran)

@@ -24,10 +24,10 @@ use Rattle.thread_table.specs.Threads.{created, join_by_status, join_of, join_re
 use Rattle.thread_table.specs.declared.status.Status.{Status}
 use Rattle.thread_table.specs.declared.status.Status.TheVariants.{Ready, Woken, Blocked, Done}
 use Rattle.thread_table.specs.declared.thread.Thread.{Thread}
-use Rattle.token.specs.Effects as effects
-use Rattle.token.specs.Effects.{Effect, after_reply, by_objects, call_finished, completed, create_numbered, effect, is_mapped_heap, is_page_count, is_permitted_range, let_pass, settled, wake_up, with_outcome}
-use Rattle.token.specs.State.{State, hart_at, with_thread}
-use Rattle.token.proofs.Parked.{is_one_of, wake_up-other}
+use Rattle.call_table.specs.Effects as effects
+use Rattle.call_table.specs.Effects.{Effect, after_reply, by_objects, call_finished, completed, create_numbered, effect, is_mapped_heap, is_page_count, is_permitted_range, let_pass, settled, wake_up, with_outcome}
+use Rattle.call_table.specs.State.{State, hart_at, with_thread}
+use Rattle.call_table.proofs.Parked.{is_one_of, wake_up-other}
 use Rattle.token.proofs.Statuses.{status_at, status_of_more, status_of_others}
 
 -- the threads that are let go

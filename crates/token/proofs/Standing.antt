@@ -1,17 +1,26 @@
 -- A run that stands after a history stands after the longer one once its next step is made.
 use Rattle.std.proofs.Common.{◌≡◌, ℕ, zero, suc, ◌+◌, ◌<◌, ◌≤◌, ◌^◌, Bool, true, false, not, ◌||◌, ◌==◌, nat_lt, if◌then◌else◌, Option, Some, None, is_some, List, [], ◌∷◌, ◌++◌, length, take, refl, ap, sym, ◌∙◌, subst, inl, inr, arith, length-append}
-use Rattle.std.proofs.lemmas.Bool.{and_left, and_right, eq-eqb, eqb-false, ne_eqb, ltb-true, ltb-false, not_from_true}
+use Rattle.std.specs.Prelude.{slice_index}
+use Rattle.std.proofs.lemmas.Bool.{and_left, and_right, eqb-false, ltb-true, ltb-false, not_from_true}
 use Rattle.std.proofs.lemmas.List.{take_more, length-take-le}
 use Rattle.thread_table.specs.Threads.{serial_list}
+use Rattle.thread_table.specs.declared.status.Status.{Status}
+use Rattle.thread_table.specs.declared.status.Status.TheVariants.{Ready, Woken, Blocked, Done}
 use Rattle.thread_table.specs.declared.thread.Thread.{Thread}
-use Rattle.token.specs.History.{History, Follows, IsLegal, first_version, heads, is_quiet, keeper_of, keeps, last_outcome, list_of, outcome, phase_of, present, quiet_outcome, thread_of, turns_of, version}
-use Rattle.token.specs.Point.{Point, after_step, change_of, due_at, due_by, keeper_after, moved, next_phase, passed_on, recorded}
-use Rattle.token.specs.Serial.{StandsAfter, changes_of}
-use Rattle.token.specs.State.{Setup, State}
+use Rattle.token.specs.History.{History, first_version, heads, is_quiet, keeper_of, keeps, last_outcome, list_of, outcome, phase_of, present, same_threads, thread_of, turns_of, version, change_of, changes_of}
+use Rattle.token.specs.Legal.{Follows, IsLegal}
+use Rattle.token.specs.Outcome.{quiet_outcome}
+use Rattle.token.specs.Point.{Point, after_step, due_at, due_by, due_next, keeper_after, moved, next_phase, passed_on, recorded}
+use Rattle.token.specs.Serial.{Invariants, StandsAfter}
+use Rattle.token.specs.Setup.{Setup}
+use Rattle.call_table.specs.State.{State, row_of}
+use Rattle.token.specs.Due.{thread_due}
 use Rattle.token.specs.Turns.{Step}
 use Rattle.token.specs.declared.outcome.RunOutcome.{RunOutcome}
+use Rattle.token.proofs.Dues.{keeper_is, no_keeper}
 use Rattle.token.proofs.KeeperHolds.{held_by_keeper}
 use Rattle.token.proofs.Outputs.{output_grows}
+use Rattle.token.proofs.SameThreads.{same_threads-false, same_threads-from, same_threads-none}
 use Rattle.token.proofs.Versions.{first_version_kept, first_version_next, first_version_within, heads_keeper, heads_next, heads_none, version_last, version_older}
 
 -- a run stands after a history in the phase of its last turn
@@ -25,29 +34,17 @@ pub record StandsIn (point : Point) (history : History) : Type 0 where
   pub base_threads : (version point.setup history point.first).threads ≡ point.base_threads
   pub list : serial_list point.base_threads ≡ point.list
   pub heads : heads history point.phase ≡ take point.given point.list
-  pub within : point.given ≤ length point.list
   pub keeper : keeper_of history ≡ point.keeper
   pub ended : last_outcome history ≡ point.ended
   pub phase : point.phase ≡ phase_of history
+  pub within : point.given ≤ length point.list
   pub number : point.phase ≤ length point.turns
   pub bound : point.setup.bound ≤ 2 ^ 40
   pub fresh : point.fresh_from ≤ length point.state.output
 
--- the keeper
-
-kept_if : (keeps : Bool) (thread keeper : ℕ) → (if keeps then Some thread else None) ≡ Some keeper → (keeps ≡ true) × (thread ≡ keeper)
-kept_if true thread keeper is = (refl, cc)
-kept_if false thread keeper is = cc
-
-free_if : (keeps : Bool) (thread : ℕ) → (if keeps then Some thread else None) ≡ None → keeps ≡ false
-free_if true thread is = cc
-free_if false thread is = refl
-
-pub keeper_is : (history : History) (keeper : ℕ) → keeper_of history ≡ Some keeper → (keeps history ≡ true) × (thread_of history ≡ keeper)
-keeper_is history keeper is = kept_if (keeps history) (thread_of history) keeper is
-
-pub no_keeper : (history : History) → keeper_of history ≡ None → keeps history ≡ false
-no_keeper history is = free_if (keeps history) (thread_of history) is
+-- A run stands after a history, and what holds of each point holds of it.
+abbrev pub Stands : Point → History → Type 0
+Stands point history = StandsAfter point history × Invariants point
 
 -- the list
 
@@ -64,13 +61,19 @@ turns_len (step ∷ before) = let rest = turns_len before in length-append (turn
 
 -- one step
 
-heads_behind : (history : History) (step : Step) (phase given : ℕ) (list : List ℕ) (keeper : Option ℕ) → keeper_of history ≡ keeper → heads history phase ≡ take given list
-    → step.turn.phase ≡ phase → step.turn.thread ≡ due_by keeper list given → (keeper ≡ None → given < length list)
+next_thread : (next : ℕ) (status : Status) → thread_due (due_next next status) ≡ next
+next_thread next Ready = refl
+next_thread next (Woken mutex) = refl
+next_thread next Blocked = refl
+next_thread next (Done value) = refl
+
+heads_behind : (history : History) (step : Step) (phase given : ℕ) (list : List ℕ) (state : State) (keeper : Option ℕ) → keeper_of history ≡ keeper → heads history phase ≡ take given list
+    → step.turn.phase ≡ phase → step.turn.thread ≡ thread_due (due_by keeper state (slice_index list given)) → (keeper ≡ None → given < length list)
     → heads (step ∷ history) phase ≡ take (if is_some keeper then given else given + 1) list
-heads_behind history step phase given list (Some keeper) keeps now same thread listed = heads_keeper history step phase (keeper_is history keeper keeps).0 ∙ now
-heads_behind history step phase given list None keeps now same thread listed =
+heads_behind history step phase given list state (Some keeper) keeps now same thread listed = heads_keeper history step phase (keeper_is history keeper keeps).0 ∙ now
+heads_behind history step phase given list state None keeps now same thread listed =
     let more = subst (λ p. heads (step ∷ history) p ≡ heads history p ++ step.turn.thread ∷ []) same (heads_next history step (no_keeper history keeps)) in
-    more ∙ ap (λ prefix. prefix ++ step.turn.thread ∷ []) now ∙ ap (λ n. take given list ++ n ∷ []) thread ∙ sym (take_more list given 0 (listed refl))
+    more ∙ ap (λ prefix. prefix ++ step.turn.thread ∷ []) now ∙ ap (λ n. take given list ++ n ∷ []) (thread ∙ next_thread (slice_index list given) (row_of state (slice_index list given)).status) ∙ sym (take_more list given 0 (listed refl))
 
 within_behind : (given : ℕ) (list : List ℕ) (keeper : Option ℕ) → given ≤ length list → (keeper ≡ None → given < length list) → (if is_some keeper then given else given + 1) ≤ length list
 within_behind given list (Some keeper) within listed = within
@@ -80,10 +83,10 @@ keeper_made : (history : History) (step : Step) → keeper_of (step ∷ history)
 unfolding keeps last_outcome thread_of keeper_after
 keeper_made history step = refl
 
-stands_in : (point : Point) (history : History) (step : Step) → StandsAfter point history → Follows point.setup history step → step.turn.phase ≡ point.phase
-    → step.turn.thread ≡ due_at point → (point.keeper ≡ None → point.given < length point.list) → StandsIn (after_step point step) (step ∷ history)
+stands_in : (point : Point) (history : History) (step : Step) → StandsAfter point history → Invariants point → Follows point.setup history step → step.turn.phase ≡ point.phase
+    → step.turn.thread ≡ thread_due (due_at point) → (point.keeper ≡ None → point.given < length point.list) → StandsIn (after_step point step) (step ∷ history)
 unfolding after_step recorded IsLegal turns_of changes_of present last_outcome phase_of due_at
-stands_in point history step stands follows same thread listed =
+stands_in point history step stands holds follows same thread listed =
     let begins : first_version (step ∷ history) point.phase ≡ point.first = first_version_kept history step point.phase (omega arith) ∙ stands.first in
     let first : point.first ≤ length history = subst (λ n. n ≤ length history) stands.first (first_version_within history point.phase) in
     let base = version_older point.setup history step point.first first in
@@ -97,13 +100,13 @@ stands_in point history step stands follows same thread listed =
       base = ap (λ state. state.memory) base ∙ stands.base;
       base_threads = ap (λ state. state.threads) base ∙ stands.base_threads;
       list = stands.list;
-      heads = heads_behind history step point.phase point.given point.list point.keeper stands.keeper stands.heads same thread listed;
-      within = within_behind point.given point.list point.keeper stands.within listed;
+      heads = heads_behind history step point.phase point.given point.list point.state point.keeper stands.keeper stands.heads same thread listed;
+      within = within_behind point.given point.list point.keeper holds.within listed;
       keeper = keeper_made history step;
       ended = refl;
       phase = sym same;
-      number = simp length-append (omega (arith, stands.number));
-      bound = stands.bound;
+      number = simp length-append (omega (arith, holds.number));
+      bound = holds.bound;
       fresh = output_within point.setup history step.after point.state stands.state grows.more grows.is;
     }
   where
@@ -153,75 +156,91 @@ lively_by point history stands goes false keeper running =
     let below = ltb-true point.given (length point.list) (left_over point.ended point.keeper _ goes (sym stands.ended ∙ running) free) in
     let given = heads_len point history stands in
     let list = ap length (last_list point history stands) in
-    and_right (not (keeps history)) _ (and_left (length (heads history (phase_of history)) == length (list_of point.setup history (phase_of history))) _ (ne_eqb _ _ (λ same. omega arith)))
+    and_right (not (keeps history)) _ (and_left (same_threads (list_of point.setup history (phase_of history)) (heads history (phase_of history))) _
+    (same_threads-false _ _ (λ same. let long = ap length same in omega arith)))
 
-goes : (point : Point) (history : History) → StandsIn point history → goes_on point ≡ true → StandsAfter point history
+goes : (point : Point) (history : History) → StandsIn point history → goes_on point ≡ true → Stands point history
 unfolding outcome
 goes point history stands on =
-    let ended : outcome point.setup history ≡ point.ended = outcome_of_last (last_outcome history) (is_quiet point.setup history) _ (lively_by point history stands on (keeps history) refl) ∙ stands.ended in
-    record {
-      legal = stands.legal;
-      turns = stands.turns;
-      changes = stands.changes;
-      state = stands.state;
-      first = stands.first;
-      base = stands.base;
-      base_threads = stands.base_threads;
-      list = stands.list;
-      heads = stands.heads;
-      within = stands.within;
-      keeper = stands.keeper;
-      holders = held_by_keeper point.setup history point.state point.keeper point.ended stands.legal stands.state stands.keeper ended;
-      ended = ended;
-      phase = inl stands.phase;
-      next = λ running free. ltb-true point.given (length point.list) (left_over point.ended point.keeper _ on running free);
-      number = let number = stands.number in omega arith;
-      bound = stands.bound;
-      fresh = stands.fresh;
-    }
+    let ended : outcome point.setup history ≡ point.ended = outcome_of_last (last_outcome history) (is_quiet point.setup history) _ (lively_by point history stands on (keeps history) refl) ∙ stands.ended in (
+      record {
+        legal = stands.legal;
+        turns = stands.turns;
+        changes = stands.changes;
+        state = stands.state;
+        first = stands.first;
+        base = stands.base;
+        base_threads = stands.base_threads;
+        list = stands.list;
+        heads = stands.heads;
+        keeper = stands.keeper;
+        ended = ended;
+        phase = inl stands.phase;
+      },
+      record {
+        within = stands.within;
+        holders = held_by_keeper point.setup history point.state point.keeper point.ended stands.legal stands.state stands.keeper ended;
+        next = λ running free. ltb-true point.given (length point.list) (left_over point.ended point.keeper _ on running free);
+        number = let number = stands.number in omega arith;
+        bound = stands.bound;
+        fresh = stands.fresh;
+      },
+    )
+
+take_all : (n : ℕ) (list : List ℕ) → length list ≤ n → take n list ≡ list
+take_all n [] within = take_none n
+  where
+    take_none : (n : ℕ) → let none : List ℕ = [] in take n none ≡ none
+    take_none zero = refl
+    take_none (suc n) = refl
+take_all zero (m ∷ list) within = absurd (omega arith)
+take_all (suc n) (m ∷ list) within = ap (λ rest. m ∷ rest) (take_all n list (omega arith))
 
 quiet_if : (point : Point) (history : History) → StandsIn point history → keeps history ≡ false → length point.list ≤ point.given → (empty : Bool)
     → (length (serial_list point.state.threads) == 0) ≡ empty → is_quiet point.setup history ≡ empty
 unfolding is_quiet
 quiet_if point history stands free used empty is =
-    let given = heads_len point history stands in
-    let list = ap length (last_list point history stands) in
-    let within = stands.within in
-    let same : (length (heads history (phase_of history)) == length (list_of point.setup history (phase_of history))) ≡ true = eq-eqb _ _ (omega arith) in
-    let there : (length (serial_list (present point.setup history).threads) == 0) ≡ empty = ap (λ state. length (serial_list state.threads) == 0) stands.state ∙ is in
+    let all : take point.given point.list ≡ point.list = take_all point.given point.list used in
+    let same : same_threads (list_of point.setup history (phase_of history)) (heads history (phase_of history)) ≡ true =
+    same_threads-from _ _ (last_list point history stands ∙ sym all ∙ subst (λ phase. take point.given point.list ≡ heads history phase) stands.phase (sym stands.heads)) in
+    let there : same_threads (serial_list (present point.setup history).threads) [] ≡ empty =
+    same_threads-none (serial_list (present point.setup history).threads) ∙ ap (λ state. length (serial_list state.threads) == 0) stands.state ∙ is in
     rw (free, same) there
 
 -- the run ends
 ends : (point : Point) (history : History) → StandsIn point history → point.ended ≡ None → is_quiet point.setup history ≡ true
-    → StandsAfter (record point { ended = Some (quiet_outcome point.state) }) history
+    → Stands (record point { ended = Some (quiet_outcome point.state) }) history
 unfolding outcome
 ends point history stands running quiet =
-    let last : last_outcome history ≡ None = stands.ended ∙ running in
-    record {
-      legal = stands.legal;
-      turns = stands.turns;
-      changes = stands.changes;
-      state = stands.state;
-      first = stands.first;
-      base = stands.base;
-      base_threads = stands.base_threads;
-      list = stands.list;
-      heads = stands.heads;
-      within = stands.within;
-      keeper = stands.keeper;
-      holders = λ going. cc;
-      ended = rw (last, quiet) (ap (λ state. Some (quiet_outcome state)) stands.state);
-      phase = inl stands.phase;
-      next = λ more free. cc;
-      number = let number = stands.number in omega arith;
-      bound = stands.bound;
-      fresh = stands.fresh;
-    }
+    let last : last_outcome history ≡ None = stands.ended ∙ running in (
+      record {
+        legal = stands.legal;
+        turns = stands.turns;
+        changes = stands.changes;
+        state = stands.state;
+        first = stands.first;
+        base = stands.base;
+        base_threads = stands.base_threads;
+        list = stands.list;
+        heads = stands.heads;
+        keeper = stands.keeper;
+        ended = rw (last, quiet) (ap (λ state. Some (quiet_outcome state)) stands.state);
+        phase = inl stands.phase;
+      },
+      record {
+        within = stands.within;
+        holders = λ going. cc;
+        next = λ more free. cc;
+        number = let number = stands.number in omega arith;
+        bound = stands.bound;
+        fresh = stands.fresh;
+      },
+    )
 
 -- the next phase begins
 begins : (point : Point) (history : History) → StandsIn point history → point.ended ≡ None → point.keeper ≡ None → length point.list ≤ point.given
     → is_quiet point.setup history ≡ false → (length (serial_list point.state.threads) == 0) ≡ false
-    → StandsAfter
+    → Stands
     (record point { phase = point.phase + 1; first = length point.turns; base = point.state.memory; base_threads = point.state.threads; list = serial_list point.state.threads; given = 0 })
     history
 unfolding outcome
@@ -234,42 +253,36 @@ begins point history stands running free used lively filled =
     ap (version point.setup history) (sym number) ∙ version_last point.setup history ∙ stands.state in
     let some : length (serial_list point.state.threads) ≡ 0 → ⊥ = eqb-false _ _ filled in
     let all : take point.given point.list ≡ point.list = take_all point.given point.list used in
-    let ended : outcome point.setup history ≡ point.ended = rw (last, lively) (sym running) in
-    record {
-      legal = stands.legal;
-      turns = stands.turns;
-      changes = stands.changes;
-      state = stands.state;
-      first = first_version_next point.setup history (point.phase + 1) stands.legal above ∙ number;
-      base = ap (λ state. state.memory) there;
-      base_threads = ap (λ state. state.threads) there;
-      list = refl;
-      heads = heads_none point.setup history (point.phase + 1) stands.legal above;
-      within = omega arith;
-      keeper = stands.keeper;
-      holders = held_by_keeper point.setup history point.state point.keeper point.ended stands.legal stands.state stands.keeper ended;
-      ended = ended;
-      phase = inr (
-        phase,
-        no_keeper history (stands.keeper ∙ free),
-        last_list point history stands ∙ sym all ∙ subst (λ phase. take point.given point.list ≡ heads history phase) stands.phase (sym stands.heads),
-      );
-      next = λ more none. omega (arith, some);
-      number = let number = stands.number in omega arith;
-      bound = stands.bound;
-      fresh = stands.fresh;
-    }
-  where
-    take_all : (n : ℕ) (list : List ℕ) → length list ≤ n → take n list ≡ list
-    take_all n [] within = take_none n
-      where
-        take_none : (n : ℕ) → let none : List ℕ = [] in take n none ≡ none
-        take_none zero = refl
-        take_none (suc n) = refl
-    take_all zero (m ∷ list) within = absurd (omega arith)
-    take_all (suc n) (m ∷ list) within = ap (λ rest. m ∷ rest) (take_all n list (omega arith))
+    let ended : outcome point.setup history ≡ point.ended = rw (last, lively) (sym running) in (
+      record {
+        legal = stands.legal;
+        turns = stands.turns;
+        changes = stands.changes;
+        state = stands.state;
+        first = first_version_next point.setup history (point.phase + 1) stands.legal above ∙ number;
+        base = ap (λ state. state.memory) there;
+        base_threads = ap (λ state. state.threads) there;
+        list = refl;
+        heads = heads_none point.setup history (point.phase + 1) stands.legal above;
+        keeper = stands.keeper;
+        ended = ended;
+        phase = inr (
+          phase,
+          no_keeper history (stands.keeper ∙ free),
+          last_list point history stands ∙ sym all ∙ subst (λ phase. take point.given point.list ≡ heads history phase) stands.phase (sym stands.heads),
+        );
+      },
+      record {
+        within = omega arith;
+        holders = held_by_keeper point.setup history point.state point.keeper point.ended stands.legal stands.state stands.keeper ended;
+        next = λ more none. omega (arith, some);
+        number = let number = stands.number in omega arith;
+        bound = stands.bound;
+        fresh = stands.fresh;
+      },
+    )
 
-next_stands : (point : Point) (history : History) → StandsIn point history → goes_on point ≡ false → StandsAfter (next_phase point (serial_list point.state.threads)) history
+next_stands : (point : Point) (history : History) → StandsIn point history → goes_on point ≡ false → Stands (next_phase point (serial_list point.state.threads)) history
 unfolding next_phase
 next_stands point history stands over =
     let parts = used_up point.ended point.keeper (nat_lt point.given (length point.list)) over in
@@ -277,7 +290,7 @@ next_stands point history stands over =
   where
     by_list : (point : Point) (history : History) → StandsIn point history → point.ended ≡ None → point.keeper ≡ None → length point.list ≤ point.given → (empty : Bool)
         → (length (serial_list point.state.threads) == 0) ≡ empty
-        → StandsAfter
+        → Stands
         (if empty then record point { ended = Some (quiet_outcome point.state) }
         else record point { phase = point.phase + 1; first = length point.turns; base = point.state.memory; base_threads = point.state.threads; list = serial_list point.state.threads; given = 0 })
         history
@@ -287,16 +300,16 @@ next_stands point history stands over =
         begins point history stands running free used (quiet_if point history stands (no_keeper history (stands.keeper ∙ free)) used false is) is
 
 -- after a step in its phase the run passes on
-pub passes_on : (point : Point) (history : History) → StandsIn point history → StandsAfter (passed_on point) history
+pub passes_on : (point : Point) (history : History) → StandsIn point history → Stands (passed_on point) history
 unfolding passed_on
 passes_on point history stands = by_test (goes_on point) refl
   where
-    by_test : (on : Bool) → goes_on point ≡ on → StandsAfter (if on then point else next_phase point (serial_list point.state.threads)) history
+    by_test : (on : Bool) → goes_on point ≡ on → Stands (if on then point else next_phase point (serial_list point.state.threads)) history
     by_test true is = goes point history stands is
     by_test false is = next_stands point history stands is
 
 -- after a step that follows
-pub stands_next : (point : Point) (history : History) (step : Step) → StandsAfter point history → Follows point.setup history step → step.turn.phase ≡ point.phase
-    → step.turn.thread ≡ due_at point → (point.keeper ≡ None → point.given < length point.list) → StandsAfter (moved point step) (step ∷ history)
-stands_next point history step stands follows same thread listed =
-    passes_on (after_step point step) (step ∷ history) (stands_in point history step stands follows same thread listed)
+pub stands_next : (point : Point) (history : History) (step : Step) → StandsAfter point history → Invariants point → Follows point.setup history step → step.turn.phase ≡ point.phase
+    → step.turn.thread ≡ thread_due (due_at point) → (point.keeper ≡ None → point.given < length point.list) → Stands (moved point step) (step ∷ history)
+stands_next point history step stands holds follows same thread listed =
+    passes_on (after_step point step) (step ∷ history) (stands_in point history step stands holds follows same thread listed)

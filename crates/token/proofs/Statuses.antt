@@ -1,5 +1,5 @@
 -- A turn leaves the other threads their turns.
-use Rattle.std.proofs.Common.{◌≡◌, ◌≢◌, ℕ, zero, suc, ◌<◌, ◌≤◌, ◌%◌, Bool, true, false, ◌==◌, if◌then◌else◌, Option, Some, None, List, [], ◌∷◌, ◌++◌, length, map, slice_get, unwrap_or, refl, ap, sym, subst, arith, length-append, length-set}
+use Rattle.std.proofs.Common.{◌≡◌, ◌≢◌, ℕ, zero, suc, ◌<◌, ◌≤◌, ◌%◌, Bool, true, false, ◌==◌, if◌then◌else◌, Option, Some, None, List, [], ◌∷◌, ◌++◌, length, map, slice_get, unwrap_or, refl, ap, sym, ◌∙◌, subst, arith, length-append}
 use Rattle.std.proofs.lemmas.List.{length-map}
 use Rattle.abi.specs.declared.call.Call.{Call}
 use Rattle.abi.specs.declared.call.Call.TheVariants as call
@@ -20,10 +20,17 @@ use Rattle.thread_table.specs.declared.status.Status.TheVariants.{Ready, Blocked
 use Rattle.thread_table.specs.declared.thread.Thread.{Thread}
 use Rattle.ecalls.specs.Request.{call_of}
 use Rattle.guest_memory.specs.Memory.{Memory}
-use Rattle.token.specs.State.{Setup, State, hart_at, with_thread, with_thread_by}
-use Rattle.token.specs.History.{History, Follows, present, row_of, step_of, version}
+use Rattle.token.specs.Setup.{Setup}
+use Rattle.call_table.specs.State.{State, hart_at, with_thread, with_thread_by, row_of}
+use Rattle.token.specs.Due.{PrivateRun, thread_due}
+use Rattle.token.specs.History.{History, present, version}
+use Rattle.token.specs.Legal.{Follows, step_of}
 use Rattle.token.specs.Turns.{Ran, Step, after_stop, committed, run_step, wake_step}
-use Rattle.token.specs.Effects.{Effect, after_reply, by_objects, create, create_numbered, effect, join, let_pass, new_pages, read, release, settled, thread_exit, wake_up, write}
+use Rattle.call_table.specs.Effects.{Effect, after_reply, by_objects, create, create_numbered, effect, join, let_pass, new_pages, read, release, settled, thread_exit, wake_up, write}
+use Rattle.token.specs.declared.due.Due.{Due}
+use Rattle.token.specs.declared.due.Due.TheVariants as due
+use Rattle.call_table.proofs.Committing.{length-with_thread}
+use Rattle.token.proofs.Dues.{thread_is}
 
 -- the status of a thread
 abbrev pub status_at : List Thread → ℕ → Status
@@ -72,14 +79,6 @@ status_of_others test zero (suc m) (row ∷ threads) made allows has =
     subst (λ rows. test (status_at rows zero) ≡ true) (sym (with_thread-cons row threads m made)) has
 status_of_others test (suc n) (suc m) (row ∷ threads) made allows has =
     subst (λ rows. test (status_at rows (suc n)) ≡ true) (sym (with_thread-cons row threads m made)) (status_of_others test n m threads made (λ same. allows (ap suc same)) has)
-
-pub length-with_thread : (threads : List Thread) (n : ℕ) (made : Thread → Thread) → length (with_thread threads n made) ≡ length threads
-unfolding with_thread
-length-with_thread threads n made = by_place (slice_get threads n)
-  where
-    by_place : (place : Option Thread) → length (with_thread_by threads n made place) ≡ length threads
-    by_place None = refl
-    by_place (Some row) = length-set threads n (made row)
 
 -- one thread is changed: another, or to one that has a turn if it had one
 changed_kept : (n m : ℕ) (threads : List Thread) (made : Thread → Thread) → (n ≡ m → Allows has_turn made) → Keeps n threads (with_thread threads m made)
@@ -222,19 +221,26 @@ committed_kept : (n : ℕ) (state : State) (thread : ℕ) (copy : Memory) (execu
 unfolding committed
 committed_kept n state thread copy executed ran = changed_kept n thread state.threads _ (λ same row has. has)
 
-step_kept : (n : ℕ) (state base : State) (phase thread number : ℕ) (ran : Option Ran) → n ≢ thread → Keeps n state.threads (step_of state base phase thread number ran).after.threads
-unfolding run_step wake_step
-step_kept n state base phase thread number None other = changed_kept n thread state.threads _ (λ same row has. refl)
-step_kept n state base phase thread number (Some ran) other =
+run_kept : (n : ℕ) (state base : State) (phase thread number : ℕ) (ran : Ran) → n ≢ thread
+    → Keeps n state.threads (run_step state phase thread number base.memory (row_of base thread).executed ran).after.threads
+unfolding run_step
+run_kept n state base phase thread number ran other =
     then_kept n state.threads (committed state thread base.memory (row_of base thread).executed ran).threads _
     (committed_kept n state thread base.memory (row_of base thread).executed ran)
     (after_stop_kept n (committed state thread base.memory (row_of base thread).executed ran) thread ran.hart ran.stop other)
+
+step_kept : (n : ℕ) (state base : State) (phase number : ℕ) (who : Due) (ran : PrivateRun who) → n ≢ thread_due who → Keeps n state.threads (step_of state base phase number who ran).after.threads
+unfolding wake_step
+step_kept n state base phase number (due.Fresh thread) ran other = run_kept n state base phase thread number ran other
+step_kept n state base phase number (due.Keeper thread) ran other = run_kept n state base phase thread number ran other
+step_kept n state base phase number (due.Woken thread mutex) ran other = changed_kept n thread state.threads _ (λ same row has. refl)
 
 -- what a step makes of the threads
 made_kept : (setup : Setup) (before : History) (step : Step) (n : ℕ) → Follows setup before step → n ≢ step.turn.thread → Keeps n (present setup before).threads step.after.threads
 made_kept setup before step n follows other =
     subst (λ made. Keeps n (present setup before).threads made.after.threads) (sym follows.commit_then_call)
-    (step_kept n (present setup before) (version setup before step.turn.base) step.turn.phase step.turn.thread step.turn.base follows.ran other)
+    (step_kept n (present setup before) (version setup before step.turn.base) step.turn.phase step.turn.base follows.who follows.ran
+    (λ same. other (same ∙ sym (thread_is setup before step follows))))
 
 -- no thread is lost
 pub threads_grow : (setup : Setup) (before : History) (step : Step) → Follows setup before step → length (present setup before).threads ≤ length step.after.threads

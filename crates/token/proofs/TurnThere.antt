@@ -1,9 +1,12 @@
 -- The thread of a turn is one of the threads.
 use Rattle.std.proofs.Common.{◌≡◌, ℕ, suc, ◌<◌, Bool, true, false, [], ◌∷◌, ◌++◌, length, refl, sym, ◌∙◌, subst, inl, inr, arith}
 use Rattle.std.proofs.lemmas.List.{append_cancel_left}
-use Rattle.token.specs.History.{History, Follows, IsLegal, IsDue, IsNextOfList, heads, keeps, list_of, phase_of, present, thread_of}
-use Rattle.token.specs.State.{Setup}
-use Rattle.token.specs.Turns.{Step}
+use Rattle.token.specs.Due.{thread_due}
+use Rattle.token.specs.History.{History, IsNextOfList, heads, keeps, list_of, phase_of, present, thread_of}
+use Rattle.token.specs.Legal.{IsDue, IsLegal}
+use Rattle.token.specs.Setup.{Setup}
+use Rattle.token.specs.declared.due.Due.{Due}
+use Rattle.token.proofs.Dues.{IsTurnOf, turn_of_due, turn_of_step}
 use Rattle.token.proofs.InOrder.{in_order, low_of}
 use Rattle.token.proofs.SerialList.{Rises, Rises-after, serial_list_rises}
 use Rattle.token.proofs.Statuses.{HasTurnIn, threads_grow}
@@ -30,7 +33,7 @@ next_has_turn setup history phase thread legal next =
         let turns = subst (Rises (HasTurnIn setup history) 0) listed (serial_list_rises (present setup history).threads) in
         (Rises-after (HasTurnIn setup history) 0 (heads history phase) thread next.rest turns).0
 
-due_there : (setup : Setup) (before : History) (phase thread : ℕ) → IsLegal setup before → (keeper : Bool) → keeps before ≡ keeper → IsDue keeper setup before phase thread
+due_there : (setup : Setup) (before : History) (phase thread : ℕ) → IsLegal setup before → (keeper : Bool) → keeps before ≡ keeper → IsTurnOf keeper setup before phase thread
     → (keeps before ≡ true → thread_of before < length (present setup before).threads) → thread < length (present setup before).threads
 due_there setup before phase thread legal true is due there = let below = there is in let same = due.1 in omega arith
 due_there setup before phase thread legal false is due there = (next_has_turn setup before phase thread legal due).0
@@ -40,10 +43,10 @@ unfolding IsLegal thread_of present keeps
 thread_there setup [] legal keeper = cc
 thread_there setup (step ∷ before) legal keeper =
     let more = threads_grow setup before step legal.0 in
-    let below = due_there setup before step.turn.phase step.turn.thread legal.1 (keeps before) refl legal.0.order (thread_there setup before legal.1) in
+    let below = due_there setup before step.turn.phase step.turn.thread legal.1 (keeps before) refl (turn_of_step setup before step legal.0) (thread_there setup before legal.1) in
     omega arith
 
--- the thread of a turn is there before it
-pub turn_there : (setup : Setup) (before : History) (step : Step) → IsLegal setup before → Follows setup before step → step.turn.thread < length (present setup before).threads
-turn_there setup before step legal follows =
-    due_there setup before step.turn.phase step.turn.thread legal (keeps before) refl follows.order (thread_there setup before legal)
+-- who is due is there
+pub due_present : (setup : Setup) (history : History) (phase : ℕ) (who : Due) → IsLegal setup history → IsDue setup history phase who → thread_due who < length (present setup history).threads
+due_present setup history phase who legal is =
+    due_there setup history phase (thread_due who) legal (keeps history) refl (turn_of_due setup history phase who is) (thread_there setup history legal)

@@ -1,10 +1,12 @@
 -- The versions of a history, and what a further step leaves of them.
 use Rattle.std.proofs.Common.{◌≡◌, ◌⊎◌, ℕ, suc, ◌<◌, ◌≤◌, Bool, true, false, not, ◌==◌, nat_lt, if◌then◌else◌, [], ◌∷◌, ◌++◌, length, refl, ap, ◌∙◌, inl, inr, arith}
-use Rattle.std.proofs.lemmas.Bool.{lt-ltb, le-ltb, eq-eqb, ne_eqb, and_from, and_left, and_right, not_from_true, not_from_false, or_left, or_right}
+use Rattle.std.proofs.lemmas.Bool.{lt-ltb, le-ltb, eq-eqb, ne_eqb, and_from, and_left, and_right, not_from_true, not_from_false}
 use Rattle.thread_table.specs.Threads.{serial_list}
-use Rattle.token.specs.State.{Setup}
+use Rattle.token.specs.Setup.{Setup}
 use Rattle.token.specs.Turns.{Step}
-use Rattle.token.specs.History.{base_of, History, Follows, IsLegal, IsDue, present, version, phase_of, first_version, list_of, heads, keeps}
+use Rattle.token.specs.Legal.{Follows, IsLegal}
+use Rattle.token.proofs.Dues.{IsTurnOf, turn_of_step}
+use Rattle.token.specs.History.{History, present, version, phase_of, first_version, list_of, heads, keeps}
 
 -- the last version has the number of all turns
 pub version_last : (setup : Setup) (history : History) → version setup history (length history) ≡ present setup history
@@ -39,13 +41,13 @@ first_version_within (step ∷ before) phase =
       | false ↦ omega arith
     ]
 
-next_phase : (setup : Setup) (before : History) (phase thread : ℕ) → (keeper : Bool) → IsDue keeper setup before phase thread → (phase ≡ phase_of before) ⊎ (phase ≡ suc (phase_of before))
+next_phase : (setup : Setup) (before : History) (phase thread : ℕ) → (keeper : Bool) → IsTurnOf keeper setup before phase thread → (phase ≡ phase_of before) ⊎ (phase ≡ suc (phase_of before))
 next_phase setup before phase thread true due = inl due.0
 next_phase setup before phase thread false due = elim due.current [ inl here ↦ inl here | inr there ↦ inr there.0 ]
 
 -- a step is of the last phase or of the one after it
 pub phase_of_next : (setup : Setup) (before : History) (step : Step) → Follows setup before step → (step.turn.phase ≡ phase_of before) ⊎ (step.turn.phase ≡ suc (phase_of before))
-phase_of_next setup before step follows = next_phase setup before step.turn.phase step.turn.thread (keeps before) follows.order
+phase_of_next setup before step follows = next_phase setup before step.turn.phase step.turn.thread (keeps before) (turn_of_step setup before step follows)
 
 -- a phase after the last one begins with the last version
 pub first_version_next : (setup : Setup) (history : History) (phase : ℕ) → IsLegal setup history → phase_of history < phase → first_version history phase ≡ length history
@@ -115,15 +117,3 @@ pub first_version_first : (setup : Setup) (before : History) (step : Step) → I
     → first_version (step ∷ before) step.turn.phase ≡ length before
 first_version_first setup before step legal later =
     first_version_kept before step step.turn.phase (omega arith) ∙ first_version_next setup before step.turn.phase legal later
-
--- a keeper works on a copy of the last version
-pub base_of_keeper : (history : History) (phase : ℕ) (wake : Bool) → keeps history ≡ true → base_of history phase wake ≡ length history
-base_of_keeper history phase wake keeper = rw (or_left (keeps history) wake keeper) refl
-
--- a wake's base is the last version
-pub base_of_wake : (history : History) (phase : ℕ) → base_of history phase true ≡ length history
-base_of_wake history phase = rw (or_right (keeps history) true refl) refl
-
--- any other thread works on a copy of the phase's first version
-pub base_of_next : (history : History) (phase : ℕ) → keeps history ≡ false → base_of history phase false ≡ first_version history phase
-base_of_next history phase next = rw next refl

@@ -1,25 +1,37 @@
--- Which lists of turns are the history of a run. A history is the list of its steps, the newest first; version i is the state after
--- its first i turns.
-use Rattle.std.specs.Prelude.{◌≡◌, ◌⊎◌, ℕ, suc, ◌-◌, Bool, true, false, ◌&&◌, ◌||◌, not, ◌==◌, nat_lt, if◌then◌else◌, Option, Some, None, is_some, unwrap_or, List, [], ◌∷◌, ◌++◌, length, slice_get, slice_index}
-use Rattle.std.specs.List.{list_all}
-use Rattle.hart.specs.Segment.{Segment}
-use Rattle.thread_table.specs.Thread.{blank}
+-- What is said of a history: its versions, its phases with their lists, who keeps the token, and how it ends. A history is the list
+-- of its steps, the newest first; version i is the state after its first i turns.
+use Rattle.std.specs.Prelude.{◌≡◌, ◌⊎◌, ℕ, suc, Bool, true, false, ◌&&◌, not, ◌==◌, nat_lt, if◌then◌else◌, Option, Some, None, is_some, List, [], ◌∷◌, ◌++◌, length}
 use Rattle.thread_table.specs.Status.{is_ready}
 use Rattle.thread_table.specs.Threads.{serial_list}
-use Rattle.thread_table.specs.declared.status.Status.{Status}
-use Rattle.thread_table.specs.declared.status.Status.TheVariants.{Ready, Woken, Done}
-use Rattle.thread_table.specs.declared.thread.Thread.{Thread}
 use Rattle.condvar_barrier.specs.Objects.{ObjectState, holds, holds_mutex}
-use Rattle.token.specs.State.{Setup, State, first_state}
-use Rattle.token.specs.Turns.{Ran, Step, run_step, wake_step}
+use Rattle.call_table.specs.State.{State, row_of}
+use Rattle.token.specs.Change.{Change}
+use Rattle.token.specs.Outcome.{outcome_of_stop, quiet_outcome}
+use Rattle.token.specs.Setup.{Setup, first_state}
+use Rattle.token.specs.Turns.{Step}
 use Rattle.token.specs.declared.outcome.RunOutcome.{RunOutcome}
-use Rattle.token.specs.declared.outcome.RunOutcome.TheVariants.{Exit, Finished, Trap as Trapped, Deadlock}
 use Rattle.token.specs.declared.turn.Turn.{Turn}
-use Rattle.token.specs.declared.turn.TurnStop.{TurnStop}
-use Rattle.token.specs.declared.turn.TurnStop.TheVariants.{Call, Trap, Quantum, Wake}
 
 abbrev pub History : Type 0
 History = List Step
+
+-- a history is a prefix of another: that has newer steps before it
+abbrev pub IsPrefix : History → History → Type 0
+IsPrefix one other = (newer : List Step) × (other ≡ newer ++ one)
+
+-- the turns of a history, the first one first
+unfoldable pub turns_of : History → List Turn
+turns_of [] = []
+turns_of (step ∷ before) = turns_of before ++ step.turn ∷ []
+
+-- the change of a step
+abbrev pub change_of : Step → Change
+change_of step = record { phase = step.turn.phase; thread = step.turn.thread; addresses = step.changes }
+
+-- the changes of a history, the first one first
+unfoldable pub changes_of : History → List Change
+changes_of [] = []
+changes_of (step ∷ before) = changes_of before ++ change_of step ∷ []
 
 -- the state after the first i turns
 unfoldable pub version : Setup → History → ℕ → State
@@ -30,17 +42,6 @@ version setup (step ∷ before) i = if i == suc (length before) then step.after 
 unfoldable pub present : Setup → History → State
 present setup [] = first_state setup
 present setup (step ∷ before) = step.after
-
--- what a thread's row has in a state
-abbrev pub row_of : State → ℕ → Thread
-row_of state thread = unwrap_or (slice_get state.threads thread) blank
-
--- the outcome of a turn that ends the run by itself: a trap, or call 1, exit
-abbrev pub outcome_of_stop : ℕ → TurnStop → Option RunOutcome
-outcome_of_stop thread (Trap pc trap) = Some (Trapped thread pc trap)
-outcome_of_stop thread (Call number arguments reply) = if number == 1 then Some (Exit (slice_index arguments 0)) else None
-outcome_of_stop thread (Quantum pc) = None
-outcome_of_stop thread (Wake mutex) = None
 
 -- the outcome where the last turn ends the run by itself
 unfoldable pub last_outcome : History → Option RunOutcome
@@ -92,92 +93,19 @@ pub record IsNextOfList (setup : Setup) (before : History) (phase : ℕ) (thread
   pub next : list_of setup before phase ≡ heads before phase ++ thread ∷ rest
   pub current : (phase ≡ phase_of before) ⊎ ((phase ≡ suc (phase_of before)) × (list_of setup before (phase_of before) ≡ heads before (phase_of before)))
 
--- whose turn it is: the keeper's, or the next's
-abbrev pub IsDue : Bool → Setup → History → ℕ → ℕ → Type 0
-IsDue true setup before phase thread = (phase ≡ phase_of before) × (thread ≡ thread_of before)
-IsDue false setup before phase thread = IsNextOfList setup before phase thread
+-- whether two lists of threads are the same
+unfoldable pub same_threads : List ℕ → List ℕ → Bool
+same_threads [] [] = true
+same_threads [] (thread ∷ rest) = false
+same_threads (thread ∷ rest) [] = false
+same_threads (one ∷ rest) (other ∷ others) = (one == other) && same_threads rest others
 
--- whether a turn is that of a woken thread
-abbrev pub is_wake : TurnStop → Bool
-is_wake (Wake mutex) = true
-is_wake (Call number arguments reply) = false
-is_wake (Trap pc trap) = false
-is_wake (Quantum pc) = false
-
--- the number of the version that a turn works on a copy of: the last one for a keeper and at a wake, else the phase's first
-abbrev pub base_of : History → ℕ → Bool → ℕ
-base_of before phase wake = if keeps before || wake then length before else first_version before phase
-
--- A thread's segment from a version: its hart and its count are those that it has there, and a keeper has no quantum.
-abbrev pub IsSegmentFrom : Setup → State → ℕ → Bool → Ran → Type 0
-IsSegmentFrom setup base thread keeper ran =
-    Segment (row_of base thread).hart base.memory (setup.bound - (row_of base thread).executed) (if keeper then None else setup.quantum)
-    ran.stop ran.count ran.hart ran.memory
-
--- What a thread of this status did on its copy: a ready one ran its segment, and a woken one nothing.
-abbrev pub RunsPrivately : Setup → State → ℕ → Bool → Status → Option Ran → Type 0
-RunsPrivately setup base thread keeper Ready (Some ran) = IsSegmentFrom setup base thread keeper ran
-RunsPrivately setup base thread keeper (Woken mutex) None = Unit {0}
-RunsPrivately setup base thread keeper _ _ = ⊥
-
--- the mutex that a woken thread takes
-abbrev pub mutex_of : Status → ℕ
-mutex_of (Woken mutex) = mutex
-mutex_of _ = 0
-
--- the step that a turn makes
-abbrev pub step_of : State → State → ℕ → ℕ → ℕ → Option Ran → Step
-step_of state base phase thread number None = wake_step state phase thread number (mutex_of (row_of state thread).status)
-step_of state base phase thread number (Some ran) = run_step state phase thread number base.memory (row_of base thread).executed ran
-
--- A step may follow a history.
-pub record Follows (setup : Setup) (before : History) (step : Step) : Type 0 where
-  -- what the thread did on its copy; nothing at a wake
-  pub ran : Option Ran
-  -- order: a thread that is ready and holds a mutex after its turn keeps the token; else it is the turn of the next of the phase's list
-  pub order : IsDue (keeps before) setup before step.turn.phase step.turn.thread
-  -- base: a keeper's is the last version, any other thread's the phase's first
-  pub base : step.turn.base ≡ base_of before step.turn.phase (is_wake step.turn.stop)
-  -- private memory: the thread's segment on a whole copy of the base
-  pub private_memory : RunsPrivately setup (version setup before step.turn.base) step.turn.thread (keeps before) (row_of (present setup before) step.turn.thread).status ran
-  -- commit, then call: the bytes that differ from the copy are written back, and the call's effect follows
-  pub commit_then_call : step ≡ step_of (present setup before) (version setup before step.turn.base) step.turn.phase step.turn.thread step.turn.base ran
-  -- cut: nothing follows a trap or an exit
-  pub cut : last_outcome before ≡ None
-
--- a history is legal where each step may follow those before it
-unfoldable pub IsLegal : Setup → History → Type 0
-IsLegal setup [] = Unit {0}
-IsLegal setup (step ∷ before) = Follows setup before step × IsLegal setup before
-
--- the turns of a history, the first one first
-unfoldable pub turns_of : History → List Turn
-turns_of [] = []
-turns_of (step ∷ before) = turns_of before ++ step.turn ∷ []
-
--- whether a thread is done
-abbrev pub is_done : Thread → Bool
-is_done thread = is_done_status thread.status
-  where
-    is_done_status : Status → Bool
-    is_done_status (Done value) = true
-    is_done_status _ = false
-
--- the value that a thread is done with
-abbrev pub value_of : Status → ℕ
-value_of (Done value) = value
-value_of _ = 0
-
--- the outcome where no thread has a turn: finished with thread 0's value where all are done, else a deadlock
-abbrev pub quiet_outcome : State → RunOutcome
-quiet_outcome state = if list_all is_done state.threads then Finished (value_of (row_of state 0).status) else Deadlock
-
--- whether no thread is left for a further turn: nobody keeps the token, the phase's list is used up, and the next one would be empty
+-- Whether no thread is left for a further turn: nobody keeps the token, the phase's list is used up, and the next one would be empty.
 unfoldable pub is_quiet : Setup → History → Bool
 is_quiet setup history =
     not (keeps history)
-    && ((length (heads history (phase_of history)) == length (list_of setup history (phase_of history)))
-    && (length (serial_list (present setup history).threads) == 0))
+    && (same_threads (list_of setup history (phase_of history)) (heads history (phase_of history))
+    && same_threads (serial_list (present setup history).threads) [])
 
 -- the outcome of a history that is complete, none where a turn is to follow
 unfoldable pub outcome : Setup → History → Option RunOutcome

@@ -1,4 +1,4 @@
-use Rattle.std.specs.Prelude.{◌≡◌, Some}
+use Rattle.std.specs.Prelude.{◌≡◌}
 use Rattle.token.specs.declared.next.Next.{Next}
 use Rattle.token.specs.declared.next.Next.TheVariants.{Turn, Ended}
 use Rattle.token.specs.Point.{Point, IsNeededAt, need_at}

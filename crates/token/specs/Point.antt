@@ -3,6 +3,7 @@ use Rattle.std.specs.Prelude.{◌≡◌, ℕ, ◌+◌, ◌-◌, ◌&&◌, ◌||�
 use Rattle.guest_memory.specs.Memory.{Memory}
 use Rattle.commit.specs.Changed.{addresses_of}
 use Rattle.commit.specs.Merge.{changes}
+use Rattle.commit.specs.Patched.{patched}
 use Rattle.condvar_barrier.specs.Objects.{holds}
 use Rattle.hart.specs.Segment.{Segment}
 use Rattle.thread_table.specs.Status.{is_ready}
@@ -10,12 +11,16 @@ use Rattle.thread_table.specs.Threads.{serial_list}
 use Rattle.thread_table.specs.declared.status.Status.{Status}
 use Rattle.thread_table.specs.declared.status.Status.TheVariants.{Woken}
 use Rattle.thread_table.specs.declared.thread.Thread.{Thread}
+use Rattle.call_table.specs.CommitAndWake.{committed_bytes}
+use Rattle.call_table.specs.State.{State, row_of}
 use Rattle.token.specs.Change.{Change}
-use Rattle.token.specs.State.{Setup, State}
-use Rattle.token.specs.Shared.{committed_bytes}
-use Rattle.commit.specs.Patched.{patched}
+use Rattle.token.specs.Due.{thread_due, mutex_due}
+use Rattle.token.specs.History.{change_of}
+use Rattle.token.specs.Outcome.{outcome_of_stop, quiet_outcome}
+use Rattle.token.specs.Setup.{Setup}
 use Rattle.token.specs.Turns.{Step, Stopped, after_stop, wake_step}
-use Rattle.token.specs.History.{row_of, mutex_of, outcome_of_stop, quiet_outcome}
+use Rattle.token.specs.declared.due.Due.{Due}
+use Rattle.token.specs.declared.due.Due.TheVariants as due
 use Rattle.token.specs.declared.need.Need.{Need}
 use Rattle.token.specs.declared.need.Need.TheVariants as need
 use Rattle.token.specs.declared.need.Work.{Work}
@@ -42,53 +47,48 @@ pub record Point : Type 0 where
   pub changes : List Change
   pub fresh_from : ℕ
 
--- whose turn it is: the keeper's, or the next's of the list
-abbrev pub due_by : Option ℕ → List ℕ → ℕ → ℕ
-due_by (Some keeper) list given = keeper
-due_by None list given = slice_index list given
+-- who is due: the keeper, or the next of the list
+abbrev pub due_next : ℕ → Status → Due
+due_next thread (Woken mutex) = due.Woken thread mutex
+due_next thread _ = due.Fresh thread
 
-unfoldable pub due_at : Point → ℕ
-due_at point = due_by point.keeper point.list point.given
+abbrev pub due_by : Option ℕ → State → ℕ → Due
+due_by (Some keeper) state next = due.Keeper keeper
+due_by None state next = due_next next (row_of state next).status
 
--- what the keeper's next segment begins with, or another thread's
-abbrev pub row_by : Option ℕ → List Thread → State → ℕ → Thread
-row_by (Some keeper) threads state thread = row_of state thread
-row_by None threads state thread = row_of (record state { threads = threads }) thread
+unfoldable pub due_at : Point → Due
+due_at point = due_by point.keeper point.state (slice_index point.list point.given)
 
-unfoldable pub base_row_at : Point → Thread
-base_row_at point = row_by point.keeper point.base_threads point.state (due_at point)
+-- its base: the phase's first version for a fresh segment, else the last version
+abbrev pub base_at : Point → Due → State
+base_at point (due.Fresh thread) = record point.state { memory = point.base; threads = point.base_threads }
+base_at point (due.Keeper thread) = point.state
+base_at point (due.Woken thread mutex) = point.state
 
-abbrev pub memory_by : Option ℕ → Memory → Memory → Memory
-memory_by (Some keeper) base memory = memory
-memory_by None base memory = base
+-- the base's number
+abbrev pub base_number_at : Point → Due → ℕ
+base_number_at point (due.Fresh thread) = point.first
+base_number_at point (due.Keeper thread) = length point.turns
+base_number_at point (due.Woken thread mutex) = length point.turns
 
--- the memory that the next segment has a copy of
-unfoldable pub base_memory_at : Point → Memory
-base_memory_at point = memory_by point.keeper point.base point.state.memory
+-- the segment of a thread from a base
+abbrev pub work_from : Setup → State → ℕ → Option ℕ → Work
+work_from setup base thread quantum =
+    record { thread = thread; hart = (row_of base thread).hart; left = setup.bound - (row_of base thread).executed; quantum = quantum }
 
--- the number of its version
-unfoldable pub base_number_at : Point → ℕ
-base_number_at point = if is_some point.keeper then length point.turns else point.first
+-- what the turn of who is due needs
+abbrev pub need_of : Point → Due → Need
+need_of point (due.Fresh thread) = need.Segment (work_from point.setup (base_at point (due.Fresh thread)) thread point.setup.quantum)
+need_of point (due.Keeper thread) = need.Keeper (work_from point.setup (base_at point (due.Keeper thread)) thread None)
+need_of point (due.Woken thread mutex) = need.Wake thread
 
--- the segment that the next turn needs
-unfoldable pub work_at : Point → Work
-work_at point =
-    record {
-      thread = due_at point;
-      hart = (base_row_at point).hart;
-      left = point.setup.bound - (base_row_at point).executed;
-      quantum = if is_some point.keeper then None else point.setup.quantum;
-    }
-
-abbrev pub need_by : Option RunOutcome → Option ℕ → Status → Work → Need
-need_by (Some ends) keeper status work = need.Ended ends
-need_by None (Some keeper) status work = need.Keeper work
-need_by None None (Woken mutex) work = need.Wake work.thread
-need_by None None _ work = need.Segment work
+abbrev pub need_by : Option RunOutcome → Need → Need
+need_by (Some ends) asked = need.Ended ends
+need_by None asked = asked
 
 -- what the next turn needs
 unfoldable pub need_at : Point → Need
-need_at point = need_by point.ended point.keeper (row_of point.state (due_at point)).status (work_at point)
+need_at point = need_by point.ended (need_of point (due_at point))
 
 -- A segment's end is that of a piece of work on a copy of a memory: the patch has what the memory at its end changed.
 pub record IsEndOf (copy : Memory) (work : Work) (end : SegmentEnd) : Type 0 where
@@ -97,39 +97,42 @@ pub record IsEndOf (copy : Memory) (work : Work) (end : SegmentEnd) : Type 0 whe
   pub segment : Segment work.hart copy work.left work.quantum end.stop end.count end.hart memory
 
 -- the end is what the next turn needs
-abbrev pub IsNeededBy : Need → Memory → Option SegmentEnd → Type 0
-IsNeededBy (need.Segment work) copy (Some end) = IsEndOf copy work end
-IsNeededBy (need.Keeper work) copy (Some end) = IsEndOf copy work end
-IsNeededBy (need.Wake thread) copy None = Unit {0}
-IsNeededBy _ copy _ = ⊥
+abbrev pub IsNeededBy : Point → Need → Option SegmentEnd → Type 0
+IsNeededBy point (need.Segment work) (Some end) = IsEndOf point.base work end
+IsNeededBy point (need.Keeper work) (Some end) = IsEndOf point.state.memory work end
+IsNeededBy point (need.Wake thread) None = Unit {0}
+IsNeededBy point _ _ = ⊥
 
 abbrev pub IsNeededAt : Point → Option SegmentEnd → Type 0
-IsNeededAt point end = IsNeededBy (need_at point) (base_memory_at point) end
+IsNeededAt point end = IsNeededBy point (need_at point) end
 
--- the step of a thread that changed these bytes
-unfoldable pub ran_step : Point → SegmentEnd → Step
-ran_step point end =
-    let thread : ℕ = due_at point in
-    let stopped : Stopped = after_stop (committed_bytes point.state thread (patched end.patch) end.hart ((base_row_at point).executed + end.count)) thread end.hart end.stop in
+-- how a thread stopped by this end of its segment, which has executed so much then, and the state that it leaves
+abbrev pub stopped_by : State → ℕ → SegmentEnd → ℕ → Stopped
+stopped_by state thread end executed = after_stop (committed_bytes state thread (patched end.patch) end.hart executed) thread end.hart end.stop
+
+-- the step of who is due, by the bytes that it changed
+unfoldable pub ran_step : Point → Due → SegmentEnd → Step
+ran_step point who end =
+    let thread : ℕ = thread_due who in
+    let stopped : Stopped = stopped_by point.state thread end ((row_of (base_at point who) thread).executed + end.count) in
     let addresses : List ℕ = addresses_of (patched end.patch) in
     record {
-      turn = record { phase = point.phase; thread = thread; base = base_number_at point; stop = stopped.stop; changed = length addresses; ran = end.count };
+      turn = record { phase = point.phase; thread = thread; base = base_number_at point who; stop = stopped.stop; changed = length addresses; ran = end.count };
       changes = addresses;
       after = stopped.state;
     }
 
--- the step of a woken thread
-unfoldable pub woken_step : Point → Step
-woken_step point = wake_step point.state point.phase (due_at point) (length point.turns) (mutex_of (row_of point.state (due_at point)).status)
+-- the step of who is woken
+unfoldable pub woken_step : Point → Due → Step
+woken_step point who = wake_step point.state point.phase (thread_due who) (base_number_at point who) (mutex_due who)
 
 -- the step that the next turn makes
-abbrev pub step_at : Point → Option SegmentEnd → Step
-step_at point None = woken_step point
-step_at point (Some end) = ran_step point end
+abbrev pub step_by : Point → Due → Option SegmentEnd → Step
+step_by point who None = woken_step point who
+step_by point who (Some end) = ran_step point who end
 
--- the change of a step
-abbrev pub change_of : Step → Change
-change_of step = record { phase = step.turn.phase; thread = step.turn.thread; addresses = step.changes }
+abbrev pub step_at : Point → Option SegmentEnd → Step
+step_at point end = step_by point (due_at point) end
 
 -- who keeps the token after a turn of a thread
 unfoldable pub keeper_after : State → ℕ → TurnStop → Option ℕ

@@ -2,18 +2,14 @@
 use Rattle.std.specs.Prelude.{◌≡◌, ◌⊎◌, ℕ, suc, ◌+◌, ◌<◌, ◌≤◌, ◌^◌, false, Option, None, List, [], ◌∷◌, ◌++◌, length, drop, take}
 use Rattle.thread_table.specs.Threads.{serial_list}
 use Rattle.token.specs.Change.{Change}
-use Rattle.token.specs.History.{History, IsLegal, Follows, IsHeldByKeeper, turns_of, present, version, first_version, heads, list_of, phase_of, keeper_of, keeps, outcome}
-use Rattle.token.specs.Point.{Point, change_of, IsNeededAt, step_at}
-use Rattle.token.specs.declared.turn.Turn.{Turn}
-use Rattle.token.specs.Progress.{point_of}
-use Rattle.token.specs.State.{Setup}
-use Rattle.token.specs.declared.progress.Progress.{Progress}
+use Rattle.token.specs.History.{History, IsHeldByKeeper, turns_of, changes_of, present, version, first_version, heads, list_of, phase_of, keeper_of, keeps, outcome}
+use Rattle.token.specs.Legal.{IsLegal, Follows}
+use Rattle.token.specs.Point.{Point, IsNeededAt, step_at}
+use Rattle.token.specs.RunInTurn.{point_of}
+use Rattle.token.specs.Setup.{Setup}
+use Rattle.token.specs.declared.run_in_turn.RunInTurn.{RunInTurn}
 use Rattle.token.specs.declared.segment_end.SegmentEnd.{SegmentEnd}
-
--- the changes of a history, the first one first
-unfoldable pub changes_of : History → List Change
-changes_of [] = []
-changes_of (step ∷ before) = changes_of before ++ change_of step ∷ []
+use Rattle.token.specs.declared.turn.Turn.{Turn}
 
 -- A phase is the one that the next turn is of: that of the last turn, or the one after it where its list is used up.
 abbrev pub IsNextPhase : Setup → History → ℕ → Type 0
@@ -21,34 +17,38 @@ IsNextPhase setup history phase =
     (phase ≡ phase_of history)
     ⊎ ((phase ≡ suc (phase_of history)) × (keeps history ≡ false) × (list_of setup history (phase_of history) ≡ heads history (phase_of history)))
 
--- a run stands after this history
+-- A run stands after this history: each part of the point is the history's.
 pub record StandsAfter (point : Point) (history : History) : Type 0 where
   pub legal : IsLegal point.setup history
   pub turns : turns_of history ≡ point.turns
   pub changes : changes_of history ≡ point.changes
   pub state : present point.setup history ≡ point.state
+  pub phase : IsNextPhase point.setup history point.phase
   pub first : first_version history point.phase ≡ point.first
   pub base : (version point.setup history point.first).memory ≡ point.base
   pub base_threads : (version point.setup history point.first).threads ≡ point.base_threads
   pub list : serial_list point.base_threads ≡ point.list
   pub heads : heads history point.phase ≡ take point.given point.list
-  pub within : point.given ≤ length point.list
   pub keeper : keeper_of history ≡ point.keeper
+  pub ended : outcome point.setup history ≡ point.ended
+
+-- What holds of a point after whatever history a run stands.
+pub record Invariants (point : Point) : Type 0 where
+  pub within : point.given ≤ length point.list
+  -- a run that goes on without a keeper has a next thread
+  pub next : point.ended ≡ None → point.keeper ≡ None → point.given < length point.list
   -- no turn finds a mutex held by another thread than its own
   pub holders : point.ended ≡ None → IsHeldByKeeper point.state.objects point.keeper
-  pub ended : outcome point.setup history ≡ point.ended
-  pub phase : IsNextPhase point.setup history point.phase
-  pub next : point.ended ≡ None → point.keeper ≡ None → point.given < length point.list
   pub number : point.phase ≤ length point.turns + 1
   pub bound : point.setup.bound ≤ 2 ^ 40
   pub fresh : point.fresh_from ≤ length point.state.output
 
 -- There is a legal history after which the run stands.
-abbrev pub IsLawful : Progress → Type 0
-IsLawful run = (history : History) × StandsAfter (point_of run) history
+abbrev pub IsLawful : RunInTurn → Type 0
+IsLawful run = (history : History) × StandsAfter (point_of run) history × Invariants (point_of run)
 
 -- the end is what the next turn needs
-abbrev pub IsNeeded : Progress → Option SegmentEnd → Type 0
+abbrev pub IsNeeded : RunInTurn → Option SegmentEnd → Type 0
 IsNeeded run end = IsNeededAt (point_of run) end
 
 -- the bytes by which the last turn lengthened the output
@@ -56,7 +56,7 @@ abbrev pub fresh_at : Point → List ℕ
 fresh_at point = drop point.fresh_from point.state.output
 
 -- There is a legal history after which the run stands, and each step made of what the next turn needs follows it.
-abbrev pub IsAskedFor : Progress → Type 0
+abbrev pub IsAskedFor : RunInTurn → Type 0
 IsAskedFor run =
     (history : History) × StandsAfter (point_of run) history
     × ((end : Option SegmentEnd) → IsNeeded run end → Follows (point_of run).setup history (step_at (point_of run) end))

@@ -1,15 +1,15 @@
 -- What one turn makes of a state.
-use Rattle.std.specs.Prelude.{ℕ, ◌+◌, None, List, [], ◌∷◌, length}
+use Rattle.std.specs.Prelude.{ℕ, ◌+◌, List, [], ◌∷◌, length}
 use Rattle.guest_memory.specs.Memory.{Memory}
 use Rattle.hart.specs.HartState.{HartState, register}
 use Rattle.hart.specs.declared.stop.Stop.{Stop}
 use Rattle.hart.specs.declared.stop.Stop.TheVariants as stopped
 use Rattle.ecalls.specs.Request.{call_of}
-use Rattle.condvar_barrier.specs.Rows.{take_back}
 use Rattle.commit.specs.Merge.{merge}
 use Rattle.commit.specs.Changed.{changed}
-use Rattle.token.specs.State.{State, with_thread}
-use Rattle.token.specs.Effects.{Effect, completed, effect, settled}
+use Rattle.call_table.specs.CommitAndWake.{after_wake}
+use Rattle.call_table.specs.State.{State, with_thread}
+use Rattle.call_table.specs.Effects.{Effect, effect, settled}
 use Rattle.token.specs.declared.turn.Turn.{Turn}
 use Rattle.token.specs.declared.turn.TurnStop.{TurnStop}
 use Rattle.token.specs.declared.turn.TurnStop.TheVariants.{Call, Trap, Quantum, Wake}
@@ -61,11 +61,6 @@ run_step state phase thread base copy executed ran =
       changes = addresses;
       after = end.state;
     }
-
--- the state after the turn of a woken thread: it takes the mutex of its wait, and the wait is done
-abbrev pub after_wake : State → ℕ → ℕ → State
-after_wake state thread mutex =
-    record state { objects = take_back state.objects thread mutex; threads = with_thread state.threads thread (completed None) }
 
 -- the turn of a woken thread
 unfoldable pub wake_step : State → ℕ → ℕ → ℕ → ℕ → Step

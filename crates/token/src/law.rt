@@ -1,12 +1,9 @@
-ghost use Rattle.token.specs.Law.{HolderKeeps, NoneElseHolds, OneIsPrefix, OneAnswer, NothingFollows, SomeFollows};
+ghost use Rattle.token.specs.Law.{Determinism, Progress, MutualExclusion};
 
-/// The law of one history: what a run answers depends on what it is given alone. And no turn finds a mutex held
-/// by another thread: who holds one keeps the token.
+/// The law of one history: what a run answers depends on what it is given alone, a run goes on until it has an
+/// outcome, and no turn finds a mutex held by another thread.
 pub fn one_history()
-    ensures prefix { OneIsPrefix }
-    ensures follows { NothingFollows }
-    ensures goes_on { SomeFollows }
-    ensures answer { OneAnswer }
-    ensures holder { HolderKeeps }
-    ensures none_else { NoneElseHolds }
+    ensures determinism { Determinism }
+    ensures progress { Progress }
+    ensures mutual_exclusion { MutualExclusion }
 {}

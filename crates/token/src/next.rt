@@ -1,6 +1,6 @@
 ghost use Rattle.std.specs.Prelude.{IfOk};
 ghost use Rattle.token.specs.Next.{IsNext};
-ghost use Rattle.token.specs.Progress.{point_of};
+ghost use Rattle.token.specs.RunInTurn.{point_of};
 
 use crate::need::Need;
 use crate::outcome::RunOutcome;

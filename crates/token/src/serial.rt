@@ -1,15 +1,15 @@
-#![tactic(auto, unfolding(crate::specs::Progress::point_of))]
+#![tactic(auto, unfolding(crate::specs::RunInTurn::point_of))]
 
 ghost use Rattle.std.specs.Prelude.{◌≡◌, ◌≤◌, ◌^◌, ◌++◌, ◌<◌, [], ◌∷◌, None, Some, OnOk, OnErr, IfOk, IfSome, option_map};
 
 use crate::need::Need;
 use crate::outcome::RunOutcome;
 use crate::phase::Phase;
-use crate::progress::Progress;
+use crate::run_in_turn::RunInTurn;
 use crate::segment_end::SegmentEnd;
-use crate::shared_state::SharedState;
 use crate::turn::Turn;
 use crate::turn_change::TurnChange;
+use call_table::SharedState;
 use elf32_reader::Image;
 use paged_memory::Snapshot;
 use std::alloc::{AllocError, Global};
@@ -17,22 +17,22 @@ use std::marker::Model;
 use thread_table::Threads;
 
 /// The serial state of a run: what it was given, the turns that it has done, and what stands after them. Its
-/// turns are a legal history.
+/// turns are a legal history. A turn breaks that for a while, and so is done on the `RunInTurn` inside.
 #[derive(Drop)]
 pub struct Serial {
-    progress: Progress,
+    run: RunInTurn,
 }
 
 impl Model for Serial {
-    ghost use Rattle.token.specs.declared.progress.Progress.{Progress as Run};
+    ghost use Rattle.token.specs.declared.run_in_turn.RunInTurn.{RunInTurn as Run};
 
     ghost Value = { Run };
 
     ghost use Rattle.token.specs.Serial.{IsLawful};
 
-    ghost view = { λ s. s.progress };
+    ghost view = { λ s. s.run };
 
-    ghost invariant = { λ s. IsLawful s.progress };
+    ghost invariant = { λ s. IsLawful s.run };
 }
 
 impl Serial {
@@ -40,9 +40,9 @@ impl Serial {
     ghost use Rattle.paged_memory.specs.Snapshot.{cells_of};
     ghost use Rattle.token.specs.History.{History, IsHeldByKeeper};
     ghost use Rattle.token.specs.Point.{need_at, moved, step_at};
-    ghost use Rattle.token.specs.Progress.{point_of};
+    ghost use Rattle.token.specs.RunInTurn.{point_of};
     ghost use Rattle.token.specs.Serial.{IsAskedFor, IsLawful, IsLonger, IsNeeded, fresh_at};
-    ghost use Rattle.token.specs.State.{setup_of};
+    ghost use Rattle.token.specs.Setup.{setup_of};
 
     /// A run of a program with this input, in which each thread may execute `bound` instructions, and a
     /// segment ends after `quantum` instructions at the latest. No turn is done.
@@ -76,7 +76,7 @@ impl Serial {
             given: 0,
         };
         Ok(Serial {
-            progress: Progress {
+            run: RunInTurn {
                 alloc,
                 entry,
                 first,
@@ -97,46 +97,46 @@ impl Serial {
     /// history of the turns that were done. Where the run goes on, only the thread that keeps the token holds a
     /// mutex, so no turn finds one held by another thread.
     pub fn need(&self) -> Need
-        ensures need { result ≡ need_at (point_of self.now) }
         ensures follows { IsAskedFor self.now }
+        ensures need { result ≡ need_at (point_of self.now) }
         ensures holders { (point_of self.now).ended ≡ None → IsHeldByKeeper (point_of self.now).state.objects (point_of self.now).keeper }
     {
-        self.progress.need()
+        self.run.need()
     }
 
     /// The memory at the start of the present phase.
     pub fn base(&self) -> &Snapshot
         ensures { cells_of result.now ≡ (point_of self.now).base }
     {
-        self.progress.base()
+        self.run.base()
     }
 
     /// The present memory.
     pub fn now(&self) -> &Snapshot
         ensures { cells_of result.now ≡ (point_of self.now).state.memory }
     {
-        self.progress.shared.memory()
+        self.run.shared.memory()
     }
 
     /// The present threads.
     pub fn threads(&self) -> &Threads
         ensures { result.now ≡ (point_of self.now).state.threads }
     {
-        self.progress.shared.threads()
+        self.run.shared.threads()
     }
 
     /// The output so far.
     pub fn output(&self) -> &[u8]
         ensures { result.now ≡ (point_of self.now).state.output }
     {
-        self.progress.shared.output()
+        self.run.shared.output()
     }
 
     /// The bytes by which the last turn lengthened the output.
     pub fn fresh(&self) -> &[u8]
         ensures { result.now ≡ fresh_at (point_of self.now) }
     {
-        &self.progress.shared.output()[self.progress.fresh_from..]
+        &self.run.shared.output()[self.run.fresh_from..]
     }
 
     /// The turns that were done, the first one first. They are those of a legal history.
@@ -144,7 +144,7 @@ impl Serial {
         ensures turns { result.now ≡ (point_of self.now).turns }
         ensures lawful { IsLawful self.now }
     {
-        &self.progress.turns
+        &self.run.turns
     }
 
     /// What each turn changed, in the order of the turns.
@@ -152,21 +152,21 @@ impl Serial {
         ensures changes { result.now ≡ (point_of self.now).changes }
         ensures lawful { IsLawful self.now }
     {
-        &self.progress.changes
+        &self.run.changes
     }
 
     /// The number of the phase that the next turn is of, from 1.
     pub fn phase(&self) -> u64
         ensures { result ≡ (point_of self.now).phase }
     {
-        self.progress.phase.number
+        self.run.phase.number
     }
 
     /// The threads that have a turn in the present phase, ascending.
     pub fn list(&self) -> &[u32]
         ensures { result.now ≡ (point_of self.now).list }
     {
-        self.progress.phase.list.as_slice()
+        self.run.phase.list.as_slice()
     }
 
     /// Does the next turn, with the end of the segment that it needs, or with none at a wake. Nothing changes
@@ -177,6 +177,6 @@ impl Serial {
         ensures longer { OnOk result (IsLonger (point_of self.old) (point_of self.new)) }
         ensures kept { OnErr result (point_of self.new ≡ point_of self.old) }
     {
-        self.progress.turn(end)
+        self.run.turn(end)
     }
 }

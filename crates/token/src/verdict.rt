@@ -1,14 +1,14 @@
 //! Whether a run goes on after a turn, and who keeps the token.
 ghost use Rattle.std.specs.Prelude.{◌≡◌, ◌<◌, length, slice_get, unwrap_or};
 ghost use Rattle.std.specs.List.{list_all};
+ghost use Rattle.call_table.specs.Shared.{state_of};
 ghost use Rattle.thread_table.specs.Thread.{blank};
-ghost use Rattle.token.specs.History as history;
+ghost use Rattle.token.specs.Outcome as outcome;
 ghost use Rattle.token.specs.Point as point;
-ghost use Rattle.token.specs.Shared.{state_of};
 
 use crate::outcome::RunOutcome;
-use crate::shared_state::SharedState;
 use crate::turn::TurnStop;
+use call_table::SharedState;
 use thread_table::{Status, Thread, Threads};
 
 /// The number of the call exit.
@@ -16,7 +16,7 @@ const EXIT: u32 = 1;
 
 /// The outcome of a turn that ends the run by itself: a trap or the call exit.
 pub(crate) fn outcome_of_stop(thread: u32, stop: &TurnStop) -> Option<RunOutcome>
-    ensures { result ≡ history.outcome_of_stop thread stop.now }
+    ensures { result ≡ outcome.outcome_of_stop thread stop.now }
 {
     match *stop {
         TurnStop::Trap { pc, trap } => Some(RunOutcome::Trap { thread, pc, trap }),
@@ -45,9 +45,9 @@ pub(crate) fn keeper_after(shared: &SharedState, thread: u32, stop: &TurnStop) -
 }
 
 /// The outcome where nobody has a turn: finished where all threads are done, else a deadlock.
-#[tactic(auto, unfolding(crate::specs::Shared::state_of))]
+#[tactic(auto, unfolding(call_table::specs::Shared::state_of))]
 pub(crate) fn quiet_outcome(shared: &SharedState) -> RunOutcome
-    ensures { result ≡ history.quiet_outcome (state_of shared.now) }
+    ensures { result ≡ outcome.quiet_outcome (state_of shared.now) }
 {
     if are_done(shared.threads()) {
         RunOutcome::Finished(first_value(shared.threads()))
@@ -58,7 +58,7 @@ pub(crate) fn quiet_outcome(shared: &SharedState) -> RunOutcome
 
 /// Whether all threads are done.
 fn are_done(threads: &Threads) -> bool
-    ensures { result ≡ list_all history.is_done threads.now }
+    ensures { result ≡ list_all outcome.is_done threads.now }
 {
     for number in 0..threads.len() {
         if !is_done(threads.get(number as u32)) {
@@ -70,30 +70,20 @@ fn are_done(threads: &Threads) -> bool
 
 /// Whether a thread is done.
 fn is_done(thread: &Thread) -> bool
-    ensures { result ≡ history.is_done thread.now }
+    ensures { result ≡ outcome.is_done thread.now }
 {
     matches!(thread.status, Status::Done(_))
 }
 
 /// The value that thread 0 is done with.
 fn first_value(threads: &Threads) -> u32
-    ensures { result ≡ history.value_of (unwrap_or (slice_get threads.now 0) blank).status }
+    ensures { result ≡ outcome.value_of (unwrap_or (slice_get threads.now 0) blank).status }
 {
     if threads.is_empty() {
         return 0;
     }
     match threads.get(0).status {
         Status::Done(value) => value,
-        _ => 0,
-    }
-}
-
-/// The mutex that a woken thread takes.
-pub(crate) fn mutex_of(status: Status) -> u32
-    ensures { result ≡ history.mutex_of status }
-{
-    match status {
-        Status::Woken(mutex) => mutex,
         _ => 0,
     }
 }

@@ -1,5 +1,5 @@
 use Rattle.std.proofs.lemmas.Result.{err_from_is_err_and}
-use Rattle.token.specs.State.{setup_of}
+use Rattle.token.specs.Setup.{setup_of}
 use Rattle.runtime.specs.declared.run_fault.RunFault.TheVariants.{OutOfMemory}
 use Rattle.runtime.proofs.Prefixes.{no_output_yet, nothing_sent}
 use Rattle.runtime.proofs.Valid.{in_range}

@@ -1,5 +1,5 @@
 use Rattle.std.proofs.Common.{◌≡◌, ◌++◌, ◌∙◌, List, ℕ, ap, sym}
-use Rattle.token.specs.Progress.{point_of}
+use Rattle.token.specs.RunInTurn.{point_of}
 use Rattle.runtime.proofs.Needs.{goes_on}
 use Rattle.runtime.proofs.Sent.{prefix_more}
 use Rattle.runtime.proofs.turns.send_turn.Goals as goal

@@ -1,7 +1,7 @@
 use Rattle.std.proofs.Common.{refl, sym, subst}
 use Rattle.guest_memory.specs.Memory.{Memory}
 use Rattle.token.specs.Point.{IsEndOf}
-use Rattle.token.specs.Progress.{point_of}
+use Rattle.token.specs.RunInTurn.{point_of}
 use Rattle.token.proofs.Needs.{segment_needed, keeper_needed}
 use Rattle.runtime.proofs.Needs.{ended_at}
 use Rattle.runtime.proofs.turns.take_turn.Goals as goal

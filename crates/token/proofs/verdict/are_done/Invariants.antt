@@ -1,6 +1,6 @@
 use Rattle.std.proofs.Common.{◌≡◌, true, take}
 use Rattle.std.specs.List.{list_all}
-use Rattle.token.specs.History.{is_done}
+use Rattle.token.specs.Outcome.{is_done}
 use Rattle.token.proofs.verdict.are_done.Given as goal
 
 abbrev pub invariant-loop-number : goal.invariant-loop-number

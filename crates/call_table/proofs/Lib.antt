@@ -1,0 +1,6 @@
+pub mod ByObjects
+pub mod Calls
+pub mod Committing
+pub mod Parked
+pub mod Ranges
+pub mod Runs

@@ -1,0 +1,4 @@
+use Rattle.call_table.proofs.state_in_call.StateInCall.read.Given as goal
+
+abbrev pub ghost-is_permitted_range : goal.ghost-is_permitted_range
+ghost-is_permitted_range a = λ perm. perm.write

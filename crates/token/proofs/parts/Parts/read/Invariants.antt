@@ -1,4 +1,0 @@
-use Rattle.token.proofs.parts.Parts.read.Given as goal
-
-abbrev pub ghost-is_permitted_range : goal.ghost-is_permitted_range
-ghost-is_permitted_range a = λ perm. perm.write

@@ -1,5 +1,0 @@
-use Rattle.token.proofs.Calls.{parked-set}
-use Rattle.token.proofs.parts.Parts.restore.Goals as goal
-
-pub returns-clause-parked : goal.returns-clause-parked
-returns-clause-parked c = parked-set c.args.self.now c.args.thread c.args.row c.set.new.self c.set.ensures c.requires.ready c.requires.parked

@@ -1,8 +1,0 @@
-use Rattle.token.specs.Parts.{state_in}
-use Rattle.token.proofs.Calls.{parked-woken}
-use Rattle.token.proofs.parts.Parts.wake.Goals as goal
-
-pub returns-clause-parked : goal.returns-clause-parked
-unfolding state_in
-returns-clause-parked c =
-    parked-woken (state_in c.args.self.now) c.args.thread c.args.mutex c.complete.new.threads c.take_back.new.self c.complete.ensures c.take_back.ensures c.requires.woken c.requires.parked

@@ -1,6 +1,0 @@
-use Rattle.std.proofs.Common.{◌≡◌, drop}
-use Rattle.token.specs.Effects.{wake_up}
-use Rattle.token.proofs.parts.threads_change.wake_up.Given as goal
-
-abbrev pub invariant-loop-woken : goal.invariant-loop-woken
-invariant-loop-woken l = wake_up (drop l.woken-index l.woken) l.threads ≡ wake_up l.fn.woken l.fn.threads

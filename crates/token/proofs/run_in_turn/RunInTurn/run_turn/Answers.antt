@@ -1,0 +1,17 @@
+use Rattle.std.proofs.Common.{◌<◌, ◌∙◌, ℕ, length, sym, subst}
+use Rattle.call_table.specs.Shared.{state_of}
+use Rattle.call_table.specs.State.{State}
+use Rattle.token.specs.Due.{thread_due}
+use Rattle.token.specs.RunInTurn.{point_of}
+use Rattle.token.specs.declared.due.Due.{Due}
+use Rattle.token.proofs.Committing.{run_there}
+use Rattle.token.proofs.run_in_turn.RunInTurn.run_turn.Goals as goal
+
+pub record-requires-clause-thread : goal.record-requires-clause-thread
+unfolding point_of
+record-requires-clause-thread c =
+    let due : thread_due c.due-due.result < length (state_of c.args.self.now.shared).threads =
+    subst (λ (who : Due). thread_due who < length (state_of c.args.self.now.shared).threads) (sym c.due-due.ensures.due) c.requires.due.now_there in
+    let below : c.thread.result < length (state_of c.args.self.now.shared).threads = subst (λ (n : ℕ). n < length (state_of c.args.self.now.shared).threads) (sym c.thread.ensures) due in
+    subst (λ (n : ℕ). n < length (state_of c.run_on.new.shared).threads) (c.thread.ensures ∙ sym c.thread-2.ensures)
+    (subst (λ (after : State). c.thread.result < length after.threads) (sym c.in_ok-stop.ensures.state) (run_there _ _ _ _ _ _ below))

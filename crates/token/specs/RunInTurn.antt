@@ -1,0 +1,61 @@
+-- What the fields of a run say.
+use Rattle.std.specs.Prelude.{◌≡◌, ◌-◌, ◌<◌, ◌≤◌, ◌^◌, Option, Some, None, IsSome, length, vec_len, slice_index}
+use Rattle.std.specs.Vec.{vec_capacity}
+use Rattle.guest_memory.specs.Memory.{Memory}
+use Rattle.paged_memory.specs.Snapshot.{cells_of}
+use Rattle.paged_memory.specs.declared.snapshot.Snapshot.{Snapshot}
+use Rattle.thread_table.specs.declared.status.Status.TheVariants.{Ready, Woken}
+use Rattle.call_table.specs.Shared.{state_of, input_of}
+use Rattle.call_table.specs.State.{row_of}
+use Rattle.token.specs.Due.{thread_due, mutex_due}
+use Rattle.token.specs.Point.{Point, base_at, due_at}
+use Rattle.token.specs.declared.segment_end.SegmentEnd.{SegmentEnd}
+use Rattle.token.specs.declared.run_in_turn.RunInTurn.{RunInTurn}
+
+-- the base's memory: a snapshot of its own, or the present memory
+abbrev pub base_or : Option Snapshot → Memory → Memory
+base_or None memory = memory
+base_or (Some snapshot) memory = cells_of snapshot
+
+-- where a run stands
+unfoldable pub point_of : RunInTurn → Point
+point_of run =
+    record {
+      setup = record { entry = run.entry; memory = cells_of run.first; input = input_of run.shared; bound = run.bound; quantum = run.quantum };
+      phase = run.phase.number;
+      first = run.phase.first;
+      base = base_or run.phase.base (state_of run.shared).memory;
+      base_threads = run.phase.threads;
+      list = run.phase.list.items;
+      given = run.phase.given;
+      keeper = run.keeper;
+      ended = run.outcome;
+      state = state_of run.shared;
+      turns = run.turns.items;
+      changes = run.changes.items;
+      fresh_from = run.fresh_from;
+    }
+
+-- there is room for a turn
+pub record HasRoom (run : RunInTurn) : Type 0 where
+  pub turns : vec_len run.turns < vec_capacity run.turns
+  pub changes : vec_len run.changes < vec_capacity run.changes
+  pub base : IsSome run.phase.base
+
+-- somebody is due, and is one of the threads, now and in its base
+pub record HasDue (point : Point) : Type 0 where
+  pub listed : point.keeper ≡ None → point.given < length point.list
+  pub now_there : thread_due (due_at point) < length point.state.threads
+  pub next_there : point.keeper ≡ None → slice_index point.list point.given < length point.state.threads
+  pub base_there : thread_due (due_at point) < length (base_at point (due_at point)).threads
+
+-- Who is due may end its segment so: it is ready, and executed no more than it may.
+pub record CanRun (point : Point) (end : SegmentEnd) : Type 0 where
+  pub ready : (row_of point.state (thread_due (due_at point))).status ≡ Ready
+  pub within : end.count ≤ point.setup.bound - (row_of (base_at point (due_at point)) (thread_due (due_at point))).executed
+  pub bound : point.setup.bound ≤ 2 ^ 40
+
+-- Who is due may have its turn: a ready one with this end of its segment, and a woken one without.
+abbrev pub MayTurn : Point → Option SegmentEnd → Type 0
+MayTurn point None = (row_of point.state (thread_due (due_at point))).status ≡ Woken (mutex_due (due_at point))
+MayTurn point (Some end) = CanRun point end

@@ -1,0 +1,264 @@
+//! A run and its turns.
+#![tactic(auto, unfolding(crate::specs::RunInTurn::point_of))]
+
+ghost use Rattle.std.specs.Prelude.{◌≡◌, ◌+◌, ◌^◌, ◌<◌, ◌++◌, [], ◌∷◌, None, Some, length, vec_len, OnOk, OnErr, option_map};
+ghost use Rattle.std.specs.Vec.{vec_capacity};
+ghost use Rattle.token.specs.Point as point;
+
+use crate::due::Due;
+use crate::need::{Need, Work};
+use crate::outcome::RunOutcome;
+use crate::phase::Phase;
+use crate::segment_end::SegmentEnd;
+use crate::segment_turn::run_on;
+use crate::turn::{Turn, TurnStop};
+use crate::turn_change::TurnChange;
+use crate::verdict::{keeper_after, outcome_of_stop, quiet_outcome};
+use call_table::SharedState;
+use commit::changed_addresses;
+use paged_memory::Snapshot;
+use std::alloc::{AllocError, Global};
+use thread_table::{CAPACITY, Status, Thread};
+
+/// A run, also in the middle of a turn. There its state may be one turn ahead of the turns that are written down,
+/// so the fact that a `Serial` keeps of it doesn't hold: each method here says what it makes of the point where
+/// the run stands, and `Serial` hands its calls on to them.
+#[derive(Drop)]
+pub struct RunInTurn {
+    pub(crate) alloc: Global,
+    pub(crate) entry: u32,
+    /// The memory at the start.
+    pub(crate) first: Snapshot,
+    pub(crate) bound: u64,
+    pub(crate) quantum: Option<u64>,
+    pub(crate) phase: Phase,
+    pub(crate) shared: SharedState,
+    /// The thread that keeps the token.
+    pub(crate) keeper: Option<u32>,
+    pub(crate) outcome: Option<RunOutcome>,
+    pub(crate) turns: Vec<Turn>,
+    pub(crate) changes: Vec<TurnChange>,
+    /// How long the output was before the last turn.
+    pub(crate) fresh_from: usize,
+}
+
+impl RunInTurn {
+    ghost use Rattle.paged_memory.specs.Snapshot.{cells_of};
+    ghost use Rattle.thread_table.specs.declared.status.Status.TheVariants.{Ready};
+    ghost use Rattle.call_table.specs.Shared.{state_of};
+    ghost use Rattle.call_table.specs.State.{row_of};
+    ghost use Rattle.token.specs.Due.{thread_due};
+    ghost use Rattle.token.specs.RunInTurn.{point_of, HasRoom, HasDue, CanRun, MayTurn};
+    ghost use Rattle.commit.specs.Patched.{patched};
+
+    /// The memory that the present phase began with.
+    pub(crate) fn base(&self) -> &Snapshot
+        ensures { cells_of result.now ≡ (point_of self.now).base }
+    {
+        match &self.phase.base {
+            Some(base) => base,
+            None => self.shared.memory(),
+        }
+    }
+
+    /// Who is due.
+    #[tactic(auto, unfolding(crate::specs::RunInTurn::point_of, crate::specs::Point::due_at))]
+    fn due(&self) -> Due
+        requires { HasDue (point_of self.now) }
+        ensures due { result ≡ point.due_at (point_of self.now) }
+        ensures given { self.now.keeper ≡ None → self.now.phase.given < CAPACITY }
+    {
+        if let Some(thread) = self.keeper {
+            return Due::Keeper { thread };
+        }
+        let thread = self.phase.list.as_slice()[self.phase.given];
+        match self.shared.threads().get(thread).status {
+            Status::Woken(mutex) => Due::Woken { thread, mutex },
+            Status::Ready | Status::Blocked | Status::Done(_) => Due::Fresh { thread },
+        }
+    }
+
+    /// What who is due has in its base.
+    fn base_row(&self, due: Due) -> &Thread
+        requires there { HasDue (point_of self.now) }
+        requires due { due ≡ point.due_at (point_of self.now) }
+        ensures { result.now ≡ row_of (point.base_at (point_of self.now) due) (thread_due due) }
+    {
+        match due {
+            Due::Fresh { thread } => self.phase.threads.get(thread),
+            Due::Keeper { thread } | Due::Woken { thread, .. } => self.shared.threads().get(thread),
+        }
+    }
+
+    /// The number of the version that is its base.
+    fn base_number(&self, due: Due) -> u64
+        ensures { result ≡ point.base_number_at (point_of self.now) due }
+    {
+        match due {
+            Due::Fresh { .. } => self.phase.first,
+            Due::Keeper { .. } | Due::Woken { .. } => self.turns.len() as u64,
+        }
+    }
+
+    /// What the next turn needs.
+    #[tactic(auto, unfolding(crate::specs::RunInTurn::point_of, crate::specs::Point::need_at))]
+    pub(crate) fn need(&self) -> Need
+        requires { self.now.outcome ≡ None → HasDue (point_of self.now) }
+        ensures { result ≡ point.need_at (point_of self.now) }
+    {
+        if let Some(outcome) = self.outcome {
+            return Need::Ended(outcome);
+        }
+        let due = self.due();
+        match due {
+            Due::Fresh { .. } => Need::Segment(self.work(due, self.quantum)),
+            Due::Keeper { .. } => Need::Keeper(self.work(due, None)),
+            Due::Woken { thread, .. } => Need::Wake { thread },
+        }
+    }
+
+    /// The segment of who is due, with this quantum.
+    fn work(&self, due: Due, quantum: Option<u64>) -> Work
+        requires there { HasDue (point_of self.now) }
+        requires due { due ≡ point.due_at (point_of self.now) }
+        ensures { result ≡ point.work_from (point_of self.now).setup (point.base_at (point_of self.now) due) (thread_due due) quantum }
+    {
+        let row = self.base_row(due);
+        Work {
+            thread: due.thread(),
+            hart: row.hart,
+            left: self.bound.saturating_sub(row.executed),
+            quantum,
+        }
+    }
+
+    /// Does the next turn, with this end of the segment that it needs.
+    #[tactic(auto, unfolding(crate::specs::RunInTurn::point_of, crate::specs::Point::after_step, crate::specs::Point::recorded))]
+    pub(crate) fn turn(&mut self, end: Option<&SegmentEnd>) -> Result<(), AllocError>
+        requires due { HasDue (point_of self.old) }
+        requires ready { MayTurn (point_of self.old) (option_map (λ end. end.now) end) }
+        requires phase { (point_of self.old).phase + 1 < 2 ^ 64 }
+        ensures moved { OnOk result (point_of self.new ≡ point.moved (point_of self.old) (point.step_at (point_of self.old) (option_map (λ end. end.now) end.entry))) }
+        ensures kept { OnErr result (point_of self.new ≡ point_of self.old) }
+    {
+        self.make_room()?;
+        match end {
+            Some(end) => self.run_turn(end)?,
+            None => self.wake_turn(),
+        }
+        self.pass_on();
+        Ok(())
+    }
+
+    /// Makes room for a turn.
+    fn make_room(&mut self) -> Result<(), AllocError>
+        ensures room { OnOk result (HasRoom self.new) }
+        ensures kept { point_of self.new ≡ point_of self.old }
+    {
+        self.turns.reserve(1)?;
+        self.changes.reserve(1)?;
+        if self.phase.base.is_none() {
+            let base = self.shared.memory().try_clone()?;
+            self.phase.base = Some(base);
+        }
+        Ok(())
+    }
+
+    /// The turn of a woken thread.
+    #[tactic(auto, unfolding(crate::specs::RunInTurn::point_of, crate::specs::Point::after_step, crate::specs::Point::woken_step, crate::specs::Turns::wake_step))]
+    fn wake_turn(&mut self)
+        requires due { HasDue (point_of self.old) }
+        requires woken { MayTurn (point_of self.old) None }
+        requires room { HasRoom self.old }
+        ensures { point_of self.new ≡ point.after_step (point_of self.old) (point.woken_step (point_of self.old) (point.due_at (point_of self.old))) }
+    {
+        let due = self.due();
+        let turn = Turn {
+            phase: self.phase.number,
+            thread: due.thread(),
+            base: self.base_number(due),
+            stop: TurnStop::Wake { mutex: due.mutex() },
+            changed: 0,
+            ran: 0,
+        };
+        let fresh_from = self.shared.output().len();
+        self.shared.wake(due.thread(), due.mutex());
+        self.record(turn, Vec::new(self.alloc), fresh_from);
+    }
+
+    /// The turn of a thread whose segment ended.
+    #[tactic(auto, unfolding(crate::specs::RunInTurn::point_of, crate::specs::Point::after_step, crate::specs::Point::ran_step))]
+    fn run_turn(&mut self, end: &SegmentEnd) -> Result<(), AllocError>
+        requires due { HasDue (point_of self.old) }
+        requires ready { CanRun (point_of self.old) end.now }
+        requires room { HasRoom self.old }
+        ensures moved { OnOk result (point_of self.new ≡ point.after_step (point_of self.old) (point.ran_step (point_of self.old) (point.due_at (point_of self.old)) end.now)) }
+        ensures kept { OnErr result (point_of self.new ≡ point_of self.old) }
+    {
+        let due = self.due();
+        let executed = self.base_row(due).executed + end.count;
+        let addresses = changed_addresses(self.alloc, &end.patch)?;
+        let fresh_from = self.shared.output().len();
+        let base = self.base_number(due);
+        let stop = run_on(&mut self.shared, due.thread(), end, executed)?;
+        let turn = Turn {
+            phase: self.phase.number,
+            thread: due.thread(),
+            base,
+            stop,
+            changed: addresses.len() as u64,
+            ran: end.count,
+        };
+        self.record(turn, addresses, fresh_from);
+        Ok(())
+    }
+
+    /// Writes a turn down, once the state is the one after it.
+    #[tactic(auto, unfolding(crate::specs::RunInTurn::point_of, crate::specs::Point::recorded))]
+    fn record(&mut self, turn: Turn, addresses: Vec<u32>, fresh_from: usize)
+        requires room { HasRoom self.old }
+        requires thread { turn.thread < length (state_of self.old.shared).threads }
+        requires given { self.old.keeper ≡ None → self.old.phase.given < CAPACITY }
+        ensures { point_of self.new ≡ point.recorded (point_of self.old) turn (record { phase = turn.phase; thread = turn.thread; addresses = addresses.items }) fresh_from }
+    {
+        if self.keeper.is_none() {
+            self.phase.given += 1;
+        }
+        self.keeper = keeper_after(&self.shared, turn.thread, &turn.stop);
+        self.outcome = outcome_of_stop(turn.thread, &turn.stop);
+        self.fresh_from = fresh_from;
+        let change = TurnChange::new(turn.phase, turn.thread, addresses);
+        push_within(&mut self.changes, change);
+        push_within(&mut self.turns, turn);
+    }
+
+    /// Begins the next phase where the list is used up, or ends the run where nobody has a turn.
+    #[tactic(auto, unfolding(crate::specs::RunInTurn::point_of, crate::specs::Point::passed_on, crate::specs::Point::next_phase))]
+    fn pass_on(&mut self)
+        requires { (point_of self.old).phase + 1 < 2 ^ 64 }
+        ensures { point_of self.new ≡ point.passed_on (point_of self.old) }
+    {
+        if self.outcome.is_some()
+            || self.keeper.is_some()
+            || self.phase.given < self.phase.list.len()
+        {
+            return;
+        }
+        let list = self.shared.threads().serial_list();
+        if list.is_empty() {
+            self.outcome = Some(quiet_outcome(&self.shared));
+            return;
+        }
+        self.phase
+            .begin(self.turns.len() as u64, self.shared.threads(), list);
+    }
+}
+
+/// Pushes where there is room.
+fn push_within<T: Drop>(list: &mut Vec<T>, item: T)
+    requires { vec_len list.old < vec_capacity list.old }
+    ensures { list.new.items ≡ list.old.items ++ item ∷ [] }
+{
+    let pushed = list.push(item);
+    let _ = pushed;
+}
