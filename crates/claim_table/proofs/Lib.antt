@@ -1,0 +1,5 @@
+pub mod Totals
+pub mod Lists
+pub mod Steps
+pub mod Seats
+pub mod Gathers

@@ -1,0 +1,5 @@
+pub mod Logs
+pub mod Draws
+pub mod Rule
+pub mod Plays
+pub mod Seat

@@ -1,0 +1,25 @@
+//! The numbers of jobs, drawn by many host threads at once without a lock, each number by one of them.
+//!
+//! [`Draws`] has two words that change in single atomic steps. Word 0 counts draws, word 1 is the least number
+//! that was noted. Each thread has a [`DrawSeat`], by which it draws, notes and looks, and which keeps what it did.
+//! When all seats are back, [`Draws::gather`] gives their logs.
+#![tactic(auto)]
+
+mod draws;
+mod log;
+mod marks;
+mod rule;
+mod seat;
+mod seat_log;
+mod size;
+#[cfg(test)]
+mod tests;
+mod view;
+
+pub use draws::Draws;
+pub use log::Log;
+pub use marks::JOBS;
+pub use seat::DrawSeat;
+pub use seat_log::SeatLog;
+pub use size::Size;
+pub use view::View;

@@ -1,0 +1,8 @@
+use crate::log::Log;
+use crate::size::Size;
+
+/// What a seat knows, of which proofs alone speak: no value of it is made.
+pub struct View {
+    pub size: Size,
+    pub log: Log,
+}
