@@ -65,13 +65,8 @@ void monitor_enter(void)
 
 void monitor_leave(void)
 {
-#ifdef LEAVE_AT_ONCE
-    if (--own.depth == 0)
-        leave_machine();
-#else
     if (--own.depth == 0 && own.held == 0)
         leave_machine();
-#endif
 }
 
 void monitor_hold(void)

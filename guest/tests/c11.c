@@ -18,7 +18,9 @@ static void first(void)
 
 static void destroy(void *value)
 {
+    mtx_lock(&mutex);
     destroyed += *(int *)value;
+    mtx_unlock(&mutex);
     free(value);
 }
 

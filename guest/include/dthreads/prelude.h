@@ -5,6 +5,7 @@
  * of FENCE, and the functions that the compiler would turn into loads and stores are calls from the start. */
 #ifndef DTHREADS_PRELUDE_H
 #define DTHREADS_PRELUDE_H
+#pragma GCC system_header
 
 #ifdef __ASSEMBLER__
 
