@@ -5,4 +5,5 @@ pub mod HartState
 pub mod Next
 pub mod Steps
 pub mod Segment
+pub mod Slice
 pub mod Stored

@@ -8,6 +8,7 @@ mod control;
 mod execute;
 mod instruction;
 mod segment;
+mod slice_end;
 mod state;
 mod stepped;
 mod stop;
@@ -17,7 +18,8 @@ mod trap;
 
 pub use cause::Cause;
 pub use instruction::step;
-pub use segment::run_to_stop;
+pub use segment::{run_slice, run_to_stop};
+pub use slice_end::SliceEnd;
 pub use state::Hart;
 pub use stepped::Stepped;
 pub use stop::Stop;
