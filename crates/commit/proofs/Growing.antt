@@ -9,7 +9,7 @@ use Rattle.commit.specs.Merge.{changed_byte}
 use Rattle.commit.specs.Changed.{all_addresses, addresses_of}
 use Rattle.commit.specs.Patched.{PageChange, byte_of_change, addresses_in, patched, AreBelow, numbers_of, IsPatch}
 use Rattle.commit.proofs.Blocks.{length-differing_from}
-use Rattle.commit.proofs.Counting.{passing-none, length-passing-small}
+use Rattle.commit.proofs.Counting.{passing, passing-none, length-passing-small}
 use Rattle.commit.proofs.Patching.{is_patched, patched-none, patched-here, patched-elsewhere, addresses_of-more}
 
 -- ascending numbers, not only neighbours
@@ -100,7 +100,7 @@ module _ (patch : List PageChange) (change : PageChange) where
 
 -- the addresses of a patch without pages
 pub addresses_of-none : addresses_of (patched []) ≡ []
-unfolding all_addresses
+unfolding all_addresses passing
 addresses_of-none = passing-none (is_patched []) 0 (2 ^ 32) (λ address above below. ap is_some (patched-none address))
 
 -- a patch without pages is sound
@@ -109,7 +109,7 @@ IsPatch-none = record { ascending = λ place inside. absurd (omega arith); count
 
 -- a patch has at most all addresses
 pub length-addresses_of : (bytes : ℕ → Option ℕ) → length (addresses_of bytes) ≤ 2 ^ 32
-unfolding all_addresses
+unfolding all_addresses passing
 length-addresses_of bytes = length-passing-small (λ address. is_some (bytes address)) 0 (2 ^ 32)
 
 -- two lists whose bytes don't differ

@@ -91,7 +91,7 @@ module _ (patch : List PageChange) (change : PageChange) (below : AreBelow patch
   parts-all rest total whole = rw (← whole, parts-new rest, parts-old rest) refl
 
   addresses-more : change.number < 2 ^ 20 → addresses_of (patched (patch ++ change ∷ [])) ≡ addresses_of (patched patch) ++ addresses_with_byte change
-  unfolding all_addresses
+  unfolding all_addresses passing
   addresses-more small = parts-all (2 ^ 32 - 4096 - 4096 * change.number) (2 ^ 32) (omega arith)
 
 -- a page's addresses that have a byte are those at which its bytes differ

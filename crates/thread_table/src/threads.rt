@@ -1,4 +1,4 @@
-ghost use Rattle.std.specs.Prelude.{◌≡◌, ◌+◌, ◌++◌, ◌==◌, ◌<◌, ◌≤◌, Some, [], length, map, slice_get, slice_set, OnSome, IfNone};
+ghost use Rattle.std.specs.Prelude.{◌≡◌, ◌==◌, ◌<◌, ◌≤◌, Some, [], length, map, slice_get, slice_set, OnSome, IfNone};
 ghost use Rattle.abi.specs.Limits as limit;
 ghost use Rattle.thread_table.specs.Thread.{let_go};
 ghost use Rattle.thread_table.specs.Threads as spec;
@@ -43,7 +43,8 @@ impl Threads {
         ensures { self.new ≡ other.now }
     {
         self.made.clear();
-        push_all(&mut self.made, other.made.as_slice());
+        let copied = self.made.try_extend_from_slice(other.made.as_slice());
+        copied.unwrap();
     }
 
     /// How many threads were made, at most 256. All numbers below it are threads.
@@ -189,15 +190,5 @@ fn let_go_joiners(threads: &mut [Thread], n: u32)
         if thread.is_joiner_of(n) {
             thread.status = Status::Ready;
         }
-    }
-}
-
-/// Pushes some threads.
-fn push_all(made: &mut ArrayVec<Thread, CAPACITY>, threads: &[Thread])
-    requires { length made.old.items + length threads.now ≤ limit.threads }
-    ensures { made.new.items ≡ made.old.items ++ threads.now }
-{
-    for thread in threads {
-        made.push(*thread);
     }
 }
