@@ -11,7 +11,7 @@ outcome_status (Finished status) = status % 256
 outcome_status (Trap _ _ _) = 120
 outcome_status Deadlock = 121
 
--- the status after a failure: 2 for wrong words, and else 123 to 126
+-- the status after a failure: 2 for wrong arguments, and else 123 to 126
 abbrev pub failure_status : Failure → ℕ
 failure_status NotText = 2
 failure_status OutsideRange = 2

@@ -6,10 +6,10 @@ use runtime::{Config, MAX_BOUND, MAX_WORKERS};
 use std::alloc::{AllocError, Global};
 use std::convert::AsStr;
 
-/// Reads the words of a command line, the program's name first.
-pub fn parse<'a, S: AsStr>(alloc: Global, words: &'a [S]) -> Result<Request<'a>, Error> {
+/// Reads the arguments of a command line, the program's name first.
+pub fn parse<'a, S: AsStr>(alloc: Global, arguments: &'a [S]) -> Result<Request<'a>, Error> {
     let mut command = command_line(alloc)?;
-    let matches = command.try_get_matches_from_mut(words)?;
+    let matches = command.try_get_matches_from_mut(arguments)?;
     match requested(&matches) {
         Some(request) => Ok(request),
         None => Err(command.error(ErrorKind::MissingSubcommand, "a command is missing")?),

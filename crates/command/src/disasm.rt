@@ -6,9 +6,9 @@ ghost use Rattle.command.specs.Serves.{IsUnlisted, Lists, Prints};
 use crate::failure::Failure;
 use crate::files::Files;
 use crate::place::Place;
-use crate::standard_output::StandardOutput;
 use disassembler::listing;
 use elf32_reader::{ElfFault, FILE_LIMIT, read};
+use runtime::WriteSink;
 use std::alloc::Global;
 use std::io::Write;
 
@@ -17,7 +17,7 @@ pub fn disasm<'a, F: Files, W: Write>(
     alloc: Global,
     file: &'a str,
     files: &F,
-    stdout: &mut StandardOutput<W>,
+    stdout: &mut WriteSink<W>,
 ) -> Result<(), Failure<'a>>
     ensures printed { OnOk result (Prints (F.content files.now file.now) (W.contents stdout.old.writer) (W.contents stdout.new.writer)) }
     ensures failed { IfErr result (IsUnlisted file.now (F.content files.now file.now)) }

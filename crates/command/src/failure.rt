@@ -6,23 +6,31 @@ use crate::write_fault::WriteFault;
 use elf32_reader::ElfFault;
 use runtime::RunFault;
 use std::alloc::AllocError;
-use std::fmt;
+use thiserror::Error;
 
-/// Why a request was not done. Its `Display` is the line for the user.
-#[derive(Clone, Copy, Debug, PartialEq, Eq)]
+/// Why a request was not done. Its text is the line for the user.
+#[derive(Clone, Copy, Debug, PartialEq, Eq, Error)]
 pub enum Failure<'a> {
-    /// The words of the command line are not all text.
+    /// The arguments of the command line are not all text.
+    #[error("error: invalid UTF-8 was detected in one or more arguments")]
     NotText,
     /// A number of the run is outside its range.
+    #[error("error: a number is outside its range")]
     OutsideRange,
     /// This part of the program is not made yet.
+    #[error("not yet")]
     NotYet,
     /// The file is not a program that can be run.
+    #[error("elf refused: {0}")]
     ElfRefused(ElfFault),
     /// The guest's input is over its limit.
+    #[error("input too large")]
     InputTooLarge,
+    #[error("cannot read {0}")]
     CannotRead(Place<'a>),
+    #[error("cannot write {0}")]
     CannotWrite(Place<'a>),
+    #[error("out of memory")]
     OutOfMemory,
 }
 
@@ -53,7 +61,7 @@ impl<'a> Failure<'a> {
 impl Failure<'_> {
     ghost use Rattle.command.specs.Status.{failure_status};
 
-    /// The status that the program ends with: 2 for wrong words, and else 123 to 126.
+    /// The status that the program ends with: 2 for wrong arguments, and else 123 to 126.
     pub fn status(&self) -> u8
         ensures { result ≡ failure_status self.now }
     {
@@ -90,26 +98,5 @@ impl From<AllocError> for Failure<'_> {
 
     fn from(_error: AllocError) -> Self {
         Failure::OutOfMemory
-    }
-}
-
-impl fmt::Display for Failure<'_> {
-    fn fmt<W: fmt::Write>(&self, f: &mut fmt::Formatter<W>) -> fmt::Result {
-        match self {
-            Failure::NotText => f.write_str(
-                "error: invalid UTF-8 was detected in one or more arguments",
-            ),
-            Failure::OutsideRange => f.write_str("error: a number is outside its range"),
-            Failure::NotYet => f.write_str("not yet"),
-            Failure::ElfRefused(fault) => {
-                let number = fault.number();
-                let name = fault.name();
-                write!(f, "elf refused: {number} {name}")
-            }
-            Failure::InputTooLarge => f.write_str("input too large"),
-            Failure::CannotRead(place) => write!(f, "cannot read {place}"),
-            Failure::CannotWrite(place) => write!(f, "cannot write {place}"),
-            Failure::OutOfMemory => f.write_str("out of memory"),
-        }
     }
 }

@@ -1,6 +1,7 @@
-//! The program: it reads the words of its command line and does what they ask for.
+//! The program: it reads the arguments of its command line and does what they ask for.
 #![tactic(auto)]
 
+mod arguments;
 mod command_line;
 mod disasm;
 mod failure;
@@ -15,28 +16,26 @@ mod read_upto;
 mod records;
 mod request;
 mod running;
-mod standard_output;
-mod words;
 mod write_fault;
 
+use arguments::arguments_of;
 use failure::Failure;
 use host_files::HostFiles;
 use perform::{conclude, perform};
-use standard_output::StandardOutput;
+use runtime::WriteSink;
 use std::process::ExitCode;
-use words::words_of;
 
 fn main(rt: HostRuntime) -> ExitCode {
     let mut stderr = rt.stderr();
-    let status = match words_of(&rt) {
-        Ok(words) => {
+    let status = match arguments_of(&rt) {
+        Ok(arguments) => {
             let mut files = HostFiles::new(&rt);
             let mut stdin = rt.stdin();
-            let mut stdout = StandardOutput::new(rt.stdout());
+            let mut stdout = WriteSink::new(rt.stdout());
             perform(
                 &rt,
                 rt.alloc(),
-                words.as_slice(),
+                arguments.as_slice(),
                 &mut files,
                 &mut stdin,
                 &mut stdout,

@@ -13,11 +13,10 @@ use crate::place::Place;
 use crate::records::Records;
 use crate::request::Request;
 use crate::running::run_file;
-use crate::standard_output::StandardOutput;
 use clap::Error;
 use clap::error::ErrorKind;
 use hart::Trap;
-use runtime::{Config, RunOutcome};
+use runtime::{Config, RunOutcome, WriteSink};
 use std::alloc::Global;
 use std::convert::AsStr;
 use std::io;
@@ -25,23 +24,23 @@ use std::io::{Read, Write};
 use std::sync::Wait;
 
 /// The status of a command line that could not be read.
-const WRONG_WORDS: u8 = 2;
+const WRONG_ARGUMENTS: u8 = 2;
 
-/// Does what the words of a command line ask for, the program's name being the first word, and answers
+/// Does what the arguments of a command line ask for, the program's name being the first, and answers
 /// the status that the program ends with. Where writing to `stderr` fails, the status stays.
 pub fn perform<H: Wait, S: AsStr, F: Files, R: Read, W: Write, E: Write>(
     rt: &H,
     alloc: Global,
-    words: &[S],
+    arguments: &[S],
     files: &mut F,
     stdin: &mut R,
-    stdout: &mut StandardOutput<W>,
+    stdout: &mut WriteSink<W>,
     stderr: &mut E,
 ) -> u8
     requires { stdout.old.failures < 2 ^ 64 - 1 }
     ensures { TakesAtMost (limit.input + 1) (R.remaining stdin.old) (R.remaining stdin.new) }
 {
-    match parse(alloc, words) {
+    match parse(alloc, arguments) {
         Ok(Request::Disasm { file }) => conclude_listing(
             disasm(alloc, file, files, stdout),
             stderr,
@@ -58,7 +57,7 @@ fn answer<'a, H: Wait, F: Files, R: Read, W: Write>(
     request: &Request<'a>,
     files: &mut F,
     stdin: &mut R,
-    stdout: &mut StandardOutput<W>,
+    stdout: &mut WriteSink<W>,
 ) -> Result<RunOutcome, Failure<'a>>
     requires { stdout.old.failures < 2 ^ 64 - 1 }
     ensures input { TakesAtMost (limit.input + 1) (R.remaining stdin.old) (R.remaining stdin.new) }
@@ -85,7 +84,7 @@ fn run_recorded<'a, H: Wait, F: Files, R: Read, W: Write>(
     records: &Records<'a>,
     files: &mut F,
     stdin: &mut R,
-    stdout: &mut StandardOutput<W>,
+    stdout: &mut WriteSink<W>,
 ) -> Result<RunOutcome, Failure<'a>>
     requires { stdout.old.failures < 2 ^ 64 - 1 }
     ensures input { TakesAtMost (limit.input + 1) (R.remaining stdin.old) (R.remaining stdin.new) }
@@ -159,19 +158,19 @@ fn write_trap<E: Write>(thread: u32, pc: u32, trap: Trap, stderr: &mut E) -> io:
     )
 }
 
-/// Answers words that make no request: with help where they ask for it, and else with what is wrong.
+/// Answers arguments that make no request: with help where they ask for it, and else with what is wrong.
 fn refuse<W: Write, E: Write>(error: &Error, stdout: &mut W, stderr: &mut E) -> u8
     ensures memory { kind_of error.now ≡ ErrorKind.OutOfMemory → result ≡ 125 }
     ensures help { (kind_of error.now ≡ ErrorKind.DisplayHelp) → (result ≡ 0) ⊎ (result ≡ 124) }
     ensures wrong { kind_of error.now ≢ ErrorKind.OutOfMemory → kind_of error.now ≢ ErrorKind.DisplayHelp
-        → kind_of error.now ≢ ErrorKind.DisplayVersion → result ≡ WRONG_WORDS }
+        → kind_of error.now ≢ ErrorKind.DisplayVersion → result ≡ WRONG_ARGUMENTS }
 {
     if error.kind() == ErrorKind::OutOfMemory {
         return conclude(Err(Failure::OutOfMemory), stderr);
     }
     if error.use_stderr() {
         let _ = write!(stderr, "{error}");
-        return WRONG_WORDS;
+        return WRONG_ARGUMENTS;
     }
     match write_help(error, stdout) {
         Ok(()) => 0,

@@ -9,9 +9,8 @@ use crate::failure::Failure;
 use crate::files::Files;
 use crate::place::Place;
 use crate::read_upto::read_upto;
-use crate::standard_output::StandardOutput;
 use elf32_reader::FILE_LIMIT;
-use runtime::{Config, MAX_INPUT, OpenGate, Report, run_into};
+use runtime::{Config, MAX_INPUT, OpenGate, Report, WriteSink, run_into};
 use std::alloc::Global;
 use std::io::{Read, Write};
 use std::sync::Wait;
@@ -24,7 +23,7 @@ pub fn run_file<'a, H: Wait, F: Files, R: Read, W: Write>(
     config: &Config,
     files: &F,
     stdin: &mut R,
-    stdout: &mut StandardOutput<W>,
+    stdout: &mut WriteSink<W>,
 ) -> Result<Report, Failure<'a>>
     requires { stdout.old.failures < 2 ^ 64 - 1 }
     ensures input { TakesAtMost (limit.input + 1) (R.remaining stdin.old) (R.remaining stdin.new) }
@@ -50,7 +49,7 @@ fn run_bytes<'a, H: Wait, W: Write>(
     elf: &[u8],
     input: &[u8],
     config: &Config,
-    stdout: &mut StandardOutput<W>,
+    stdout: &mut WriteSink<W>,
 ) -> Result<Report, Failure<'a>>
     requires { stdout.old.failures < 2 ^ 64 - 1 }
     ensures ran { IfOk result (λ report. Answers elf.now input.now config.now (Ok report)) }

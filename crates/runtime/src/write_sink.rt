@@ -1,47 +1,103 @@
-use crate::sink::{Sink, SinkFault};
-use std::io::Write;
+ghost use Rattle.std.specs.Prelude.{◌≡◌, ◌<◌, length, IfOk, OnOk};
+ghost use Rattle.std.specs.Io.{WritesAtMost};
+ghost use Rattle.std.specs.Io.KnownBytes.{Appends, Keeps, WriteAppends};
 
-/// A sink of a writer. It tells its bytes where the writer knows them.
+use crate::sink::{Sink, SinkFault};
+use std::io::{ErrorKind, Write};
+
+/// A sink of a writer. Each piece is flushed, so that it stands where the writer writes to while the run goes on.
+/// It tells its bytes where the writer knows them.
 #[derive(Drop)]
 pub struct WriteSink<W> {
     /// What the bytes are written to.
     pub writer: W,
-    /// How often a write failed, or took nothing.
-    failed_writes: u64,
+    /// How often it didn't take a piece.
+    pub failures: u64,
+    /// Whether a flush failed. Then it takes no further piece.
+    is_lost: bool,
 }
 
 impl<W: Write> WriteSink<W> {
-    ghost use Rattle.std.specs.Prelude.{◌≡◌};
-
     /// The sink that writes to this writer, and hasn't failed.
     pub fn new(writer: W) -> Self
         ensures writer { result.writer ≡ writer }
-        ensures failed { result.failed_writes ≡ 0 }
+        ensures failures { result.failures ≡ 0 }
     {
         WriteSink {
             writer,
-            failed_writes: 0,
+            failures: 0,
+            is_lost: false,
         }
     }
+
+    /// Writes all of these bytes and flushes them.
+    pub fn print(&mut self, bytes: &[u8]) -> Result<(), SinkFault>
+        ensures { OnOk result (Appends (W.contents self.old.writer) (W.contents self.new.writer) bytes.now) }
+    {
+        match self.writer.write_all(bytes) {
+            Ok(()) => self.finish(),
+            Err(_) => Err(SinkFault),
+        }
+    }
+
+    /// Flushes what was written. It fails where this or an earlier flush did.
+    pub fn finish(&mut self) -> Result<(), SinkFault>
+        ensures { Keeps (W.contents self.old.writer) (W.contents self.new.writer) }
+    {
+        match self.writer.flush() {
+            Ok(()) if !self.is_lost => Ok(()),
+            Ok(()) | Err(_) => Err(SinkFault),
+        }
+    }
+
+    /// Writes a prefix of these bytes, flushes it and answers its length, at least 1 where there are any
+    /// bytes. A write that a signal interrupts is made again.
+    fn write_piece(&mut self, bytes: &[u8]) -> Result<usize, SinkFault>
+        ensures within { WritesAtMost result bytes.now }
+        ensures some { IfOk result (λ count. 0 < count) }
+        ensures bytes { WriteAppends (W.contents self.old.writer) (W.contents self.new.writer) result bytes.now }
+        ensures failures { self.new.failures ≡ self.old.failures }
+    {
+        if self.is_lost {
+            return Err(SinkFault);
+        }
+        let count = write_some(&mut self.writer, bytes)?;
+        self.is_lost = self.writer.flush().is_err();
+        Ok(count)
+    }
+}
+
+/// Writes a prefix of these bytes and answers its length, which isn't 0. A write that a signal interrupts is
+/// made again.
+fn write_some<W: Write>(writer: &mut W, bytes: &[u8]) -> Result<usize, SinkFault>
+    ensures within { WritesAtMost result bytes.now }
+    ensures some { IfOk result (λ count. 0 < count) }
+    ensures bytes { WriteAppends (W.contents writer.old) (W.contents writer.new) result bytes.now }
+{
+    'tries: for _ in 0..u64::MAX {
+        match writer.write(bytes) {
+            Ok(count) if count > 0 => return Ok(count),
+            Err(error) if error.kind() == ErrorKind::Interrupted => {}
+            Ok(_) | Err(_) => break,
+        }
+    }
+    Err(SinkFault)
 }
 
 impl<W: Write> Sink for WriteSink<W> {
     ghost taken = { λ sink. W.contents sink.writer };
 
-    ghost failed = { λ sink. sink.failed_writes };
+    ghost failed = { λ sink. sink.failures };
 
-    /// Writes once. An error, also an interruption, is a failure, and so is a write of no byte.
     fn put(&mut self, bytes: &[u8]) -> Result<usize, SinkFault> {
-        match self.writer.write(bytes) {
-            Ok(count) if count > 0 => Ok(count),
-            Ok(_) | Err(_) => {
-                self.failed_writes += 1;
-                Err(SinkFault)
-            }
+        let written = self.write_piece(bytes);
+        if written.is_err() {
+            self.failures += 1;
         }
+        written
     }
 
     fn failures(&self) -> u64 {
-        self.failed_writes
+        self.failures
     }
 }

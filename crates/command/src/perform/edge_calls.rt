@@ -44,8 +44,8 @@ fn check_call<H: Abort + AllocGlobal + Wait>(rt: &H, call: &Row) -> Result<(), A
     let code = call_code(number, first, second);
     let program = program_file(alloc, [&[], &code])?;
     let mut files = MemoryFiles::new(alloc, program.as_slice());
-    let words = ["dthreads", "run", "a.elf", "--trace", "trace"];
-    let performed = Performed::new(rt, &words, &mut files, &mut io::empty());
+    let arguments = ["dthreads", "run", "a.elf", "--trace", "trace"];
+    let performed = Performed::new(rt, &arguments, &mut files, &mut io::empty());
     let line = format!(in alloc;
         "1 0 {name} {first:08x} {second:08x} 00000000 -> {result} changed=0 ran=6\n2 0 exit "
     )?;

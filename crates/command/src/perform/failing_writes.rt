@@ -4,7 +4,7 @@ use super::perform;
 use super::program_file::program_file;
 use super::worked_runs::{LETTER, PRODUCTS, RACE};
 use crate::fakes::{FaultyWriter, MemoryFiles};
-use crate::standard_output::StandardOutput;
+use runtime::WriteSink;
 use std::alloc::{AllocError, Global};
 use std::io;
 use std::process::Abort;
@@ -63,7 +63,7 @@ fn pieces_are_flushed_one_by_one(rt: HostRuntime) -> Result<(), Fail> {
 
 #[test]
 fn a_failed_write_stands_alone_beside_a_trap(rt: HostRuntime) -> Result<(), Fail> {
-    let words = [
+    let arguments = [
         "dthreads", "run", "a.elf", "--bound", "6", "--trace", "trace",
     ];
     let program = program_file(rt.alloc(), LETTER)?;
@@ -71,7 +71,7 @@ fn a_failed_write_stands_alone_beside_a_trap(rt: HostRuntime) -> Result<(), Fail
     let mut stdout = faulty(rt.alloc(), 0, 9, 1);
     check(
         &rt,
-        &words,
+        &arguments,
         &mut files,
         &mut stdout,
         124,
@@ -82,7 +82,7 @@ fn a_failed_write_stands_alone_beside_a_trap(rt: HostRuntime) -> Result<(), Fail
     let mut stdout = faulty(rt.alloc(), 9, 9, 1);
     check(
         &rt,
-        &words,
+        &arguments,
         &mut files,
         &mut stdout,
         124,
@@ -92,7 +92,7 @@ fn a_failed_write_stands_alone_beside_a_trap(rt: HostRuntime) -> Result<(), Fail
     files.assert_old(&rt);
     files.good_writes = 1;
     let line = "trap thread=0 pc=00010018 cause=16 value=00000000\n";
-    check(&rt, &words, &mut files, &mut stdout, 120, line)?;
+    check(&rt, &arguments, &mut files, &mut stdout, 120, line)?;
     assert!(rt;
         files
             .trace
@@ -142,12 +142,12 @@ fn records_that_cannot_be_written(rt: HostRuntime) -> Result<(), Fail> {
     Ok(())
 }
 
-/// Checks what the program answers to these words, with this standard output.
+/// Checks what the program answers to these arguments, with this standard output.
 fn check<H: Abort + AllocGlobal + Wait>(
     rt: &H,
-    words: &[&str],
+    arguments: &[&str],
     files: &mut MemoryFiles<'_>,
-    stdout: &mut StandardOutput<FaultyWriter>,
+    stdout: &mut WriteSink<FaultyWriter>,
     status: u8,
     line: &str,
 ) -> Result<(), AllocError> {
@@ -156,7 +156,7 @@ fn check<H: Abort + AllocGlobal + Wait>(
     let answered = perform(
         rt,
         rt.alloc(),
-        words,
+        arguments,
         files,
         &mut io::empty(),
         stdout,
@@ -176,8 +176,8 @@ fn faulty(
     good_writes: u32,
     good_flushes: u32,
     most: usize,
-) -> StandardOutput<FaultyWriter> {
-    StandardOutput::new(FaultyWriter {
+) -> WriteSink<FaultyWriter> {
+    WriteSink::new(FaultyWriter {
         taken: Vec::new(alloc),
         most,
         good_writes,

@@ -5,7 +5,7 @@ use super::performed::Performed;
 use super::program_file::program_file;
 use super::worked_runs::SEVEN;
 use crate::fakes::{EndlessFiles, EndlessReader, FailingWriter, MemoryFiles};
-use crate::standard_output::StandardOutput;
+use runtime::WriteSink;
 use std::io;
 use std::test::Fail;
 
@@ -62,7 +62,7 @@ fn a_listing_that_is_not_written_is_a_failure(rt: HostRuntime) -> Result<(), Fai
         &DISASM,
         &mut files,
         &mut io::empty(),
-        &mut StandardOutput::new(FailingWriter),
+        &mut WriteSink::new(FailingWriter),
         &mut stderr,
     );
     assert_eq!(rt; status, 124);

@@ -2,7 +2,7 @@
 
 use crate::files::Files;
 use crate::perform::perform;
-use crate::standard_output::StandardOutput;
+use runtime::WriteSink;
 use std::io::Read;
 use std::process::Abort;
 use std::sync::Wait;
@@ -16,17 +16,17 @@ pub struct Performed {
 }
 
 impl Performed {
-    /// Does what the words ask for.
+    /// Does what the arguments ask for.
     pub fn new<H: AllocGlobal + Wait, F: Files, R: Read>(
         rt: &H,
-        words: &[&str],
+        arguments: &[&str],
         files: &mut F,
         stdin: &mut R,
     ) -> Self {
         let alloc = rt.alloc();
-        let mut stdout = StandardOutput::new(Vec::new(alloc));
+        let mut stdout = WriteSink::new(Vec::new(alloc));
         let mut stderr = Vec::new(alloc);
-        let status = perform(rt, alloc, words, files, stdin, &mut stdout, &mut stderr);
+        let status = perform(rt, alloc, arguments, files, stdin, &mut stdout, &mut stderr);
         Performed {
             status,
             stdout: stdout.writer,

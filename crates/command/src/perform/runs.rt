@@ -103,10 +103,10 @@ fn check_run<H: Abort + AllocGlobal + Wait>(
 ) -> Result<(), AllocError> {
     let alloc = rt.alloc();
     let program = program_file(alloc, run.code)?;
-    let words = recorded(alloc, workers, run.options)?;
+    let arguments = recorded(alloc, workers, run.options)?;
     let mut files = MemoryFiles::with_old_files(alloc, program.as_slice())?;
     let mut input = run.input;
-    let performed = Performed::new(rt, words.as_slice(), &mut files, &mut input);
+    let performed = Performed::new(rt, arguments.as_slice(), &mut files, &mut input);
     let name = run.name;
     assert_eq!(rt;
         performed.status,
@@ -141,9 +141,9 @@ fn check_long_run<H: Abort + AllocGlobal + Wait>(
     let alloc = rt.alloc();
     let data = [(0x0002_0000, 4096), (0x0002_1000, 61_440)];
     let program = file_with_data(alloc, run.code, &data)?;
-    let words = recorded(alloc, workers, &[])?;
+    let arguments = recorded(alloc, workers, &[])?;
     let mut files = MemoryFiles::with_old_files(alloc, program.as_slice())?;
-    let performed = Performed::new(rt, words.as_slice(), &mut files, &mut io::empty());
+    let performed = Performed::new(rt, arguments.as_slice(), &mut files, &mut io::empty());
     let ending = run.ending;
     assert_eq!(rt; performed.status, run.status, "the status before {ending}");
     assert_eq!(rt;
@@ -162,15 +162,15 @@ fn check_long_run<H: Abort + AllocGlobal + Wait>(
     Ok(())
 }
 
-/// The words for a run whose trace and report are written, with so many workers and further options.
+/// The arguments for a run whose trace and report are written, with so many workers and further options.
 fn recorded<'a>(
     alloc: Global,
     workers: &'a str,
     options: &[&'a str],
 ) -> Result<Vec<&'a str>, AllocError> {
-    let mut words = Vec::new(alloc);
-    words.extend_from_slice(&["dthreads", "run", "a.elf", "--trace", "trace"])?;
-    words.extend_from_slice(&["--report", "report", "--workers", workers])?;
-    words.extend_from_slice(options)?;
-    Ok(words)
+    let mut arguments = Vec::new(alloc);
+    arguments.extend_from_slice(&["dthreads", "run", "a.elf", "--trace", "trace"])?;
+    arguments.extend_from_slice(&["--report", "report", "--workers", workers])?;
+    arguments.extend_from_slice(options)?;
+    Ok(arguments)
 }

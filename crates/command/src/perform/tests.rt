@@ -5,10 +5,9 @@ use super::{conclude, perform};
 use crate::failure::Failure;
 use crate::fakes::{FailingReader, FailingWriter, MemoryFiles};
 use crate::place::Place;
-use crate::standard_output::StandardOutput;
 use elf32_reader::ElfFault;
 use hart::{Cause, Trap};
-use runtime::RunOutcome;
+use runtime::{RunOutcome, WriteSink};
 use std::io;
 use std::io::ErrorKind;
 use std::sync::Wait;
@@ -20,15 +19,15 @@ const NO_INPUT: FailingReader = FailingReader {
     kind: ErrorKind::Other,
 };
 
-/// Does what the words ask for, where no file is wanted and no input can be read.
-fn wordy<H: AllocGlobal + Wait>(rt: &H, words: &[&str]) -> Performed {
+/// Does what the arguments ask for, where no file is wanted and no input can be read.
+fn asked<H: AllocGlobal + Wait>(rt: &H, arguments: &[&str]) -> Performed {
     let mut files = MemoryFiles::new(rt.alloc(), &[]);
     let mut stdin = NO_INPUT;
-    Performed::new(rt, words, &mut files, &mut stdin)
+    Performed::new(rt, arguments, &mut files, &mut stdin)
 }
 
 /// Command lines that make no request, and the text for each.
-static WRONG_WORDS: [(&[&str], &str); 12] = [
+static WRONG_ARGUMENTS: [(&[&str], &str); 12] = [
     (
         &["dthreads"],
         "error: 'dthreads' requires a subcommand but one was not provided\n  [subcommands: run, disasm, replay]\n\nUsage: dthreads <COMMAND>\n\nFor more information, try '--help'.\n",
@@ -80,14 +79,14 @@ static WRONG_WORDS: [(&[&str], &str); 12] = [
 ];
 
 #[test]
-fn wrong_words(rt: HostRuntime) {
-    for (words, text) in WRONG_WORDS {
-        wordy(&rt, words).assert_is(&rt, 2, b"", text);
+fn wrong_arguments(rt: HostRuntime) {
+    for (arguments, text) in WRONG_ARGUMENTS {
+        asked(&rt, arguments).assert_is(&rt, 2, b"", text);
     }
 }
 
 /// Further command lines that make no request.
-static MORE_WRONG_WORDS: [&[&str]; 9] = [
+static MORE_WRONG_ARGUMENTS: [&[&str]; 9] = [
     &["dthreads", "help"],
     &["dthreads", "run", "a", "--workers", "two"],
     &["dthreads", "run", "a", "--workers"],
@@ -109,14 +108,14 @@ static MORE_WRONG_WORDS: [&[&str]; 9] = [
 ];
 
 #[test]
-fn more_wrong_words(rt: HostRuntime) {
-    for words in MORE_WRONG_WORDS {
-        let performed = wordy(&rt, words);
-        assert_eq!(rt; performed.status, 2, "at {words:?}");
-        assert!(rt; performed.stdout.is_empty(), "at {words:?}");
+fn more_wrong_arguments(rt: HostRuntime) {
+    for arguments in MORE_WRONG_ARGUMENTS {
+        let performed = asked(&rt, arguments);
+        assert_eq!(rt; performed.status, 2, "at {arguments:?}");
+        assert!(rt; performed.stdout.is_empty(), "at {arguments:?}");
         assert!(rt;
             performed.stderr.as_slice().starts_with(b"error: "),
-            "at {words:?}"
+            "at {arguments:?}"
         );
     }
 }
@@ -136,8 +135,8 @@ Options:
   -h, --help  Print help
 ";
     for name in ["dthreads", "out/command", ""] {
-        let words = [name, "--help"];
-        wordy(&rt, &words).assert_is(&rt, 0, text.as_bytes(), "");
+        let arguments = [name, "--help"];
+        asked(&rt, &arguments).assert_is(&rt, 0, text.as_bytes(), "");
     }
     let text = "Run a program, with standard input as its input
 
@@ -154,21 +153,21 @@ Options:
       --report <FILE>  Write the sharing of pages to this file
   -h, --help           Print help
 ";
-    let words = ["dthreads", "run", "--help"];
-    wordy(&rt, &words).assert_is(&rt, 0, text.as_bytes(), "");
+    let arguments = ["dthreads", "run", "--help"];
+    asked(&rt, &arguments).assert_is(&rt, 0, text.as_bytes(), "");
 }
 
 #[test]
 fn a_replay_is_not_made_yet_and_reads_nothing(rt: HostRuntime) {
-    let words = ["dthreads", "replay", "a", "s", "--workers", "64"];
-    wordy(&rt, &words).assert_is(&rt, 126, b"", "not yet\n");
+    let arguments = ["dthreads", "replay", "a", "s", "--workers", "64"];
+    asked(&rt, &arguments).assert_is(&rt, 126, b"", "not yet\n");
 }
 
 #[test]
 fn what_cannot_be_read_is_named(rt: HostRuntime) -> Result<(), Fail> {
-    let words = ["dthreads", "run", "a", "--trace", "trace"];
-    wordy(&rt, &words).assert_is(&rt, 124, b"", "cannot read a\n");
-    let words = ["dthreads", "run", "a.elf", "--trace", "trace"];
+    let arguments = ["dthreads", "run", "a", "--trace", "trace"];
+    asked(&rt, &arguments).assert_is(&rt, 124, b"", "cannot read a\n");
+    let arguments = ["dthreads", "run", "a.elf", "--trace", "trace"];
     let mut files = MemoryFiles::with_old_files(rt.alloc(), &[])?;
     for good_reads in 0..3 {
         let mut input = FailingReader {
@@ -176,7 +175,7 @@ fn what_cannot_be_read_is_named(rt: HostRuntime) -> Result<(), Fail> {
             kind: ErrorKind::OutOfMemory,
         };
         let line = "cannot read standard input\n";
-        Performed::new(&rt, &words, &mut files, &mut input).assert_is(&rt, 124, b"", line);
+        Performed::new(&rt, &arguments, &mut files, &mut input).assert_is(&rt, 124, b"", line);
     }
     files.assert_old(&rt);
     Ok(())
@@ -292,27 +291,27 @@ fn a_status_stays_where_nothing_can_be_written(rt: HostRuntime) -> Result<(), Fa
         (&["dthreads", "disasm", "a"], 124),
         (&["dthreads", "--help"], 124),
     ];
-    for (words, wanted) in rows {
+    for (arguments, wanted) in rows {
         let status = perform(
             &rt,
             alloc,
-            words,
+            arguments,
             &mut MemoryFiles::new(alloc, &[]),
             &mut io::empty(),
-            &mut StandardOutput::new(FailingWriter),
+            &mut WriteSink::new(FailingWriter),
             &mut FailingWriter,
         );
-        assert_eq!(rt; status, wanted, "at {words:?}");
+        assert_eq!(rt; status, wanted, "at {arguments:?}");
     }
     let mut stderr = Vec::new(alloc);
-    let words = ["dthreads", "--help"];
+    let arguments = ["dthreads", "--help"];
     perform(
         &rt,
         alloc,
-        words.as_slice(),
+        arguments.as_slice(),
         &mut MemoryFiles::new(alloc, &[]),
         &mut io::empty(),
-        &mut StandardOutput::new(FailingWriter),
+        &mut WriteSink::new(FailingWriter),
         &mut stderr,
     );
     assert!(rt; stderr.as_slice() == b"cannot write standard output\n".as_slice());

@@ -6,13 +6,15 @@ use std::env;
 use std::io::ErrorKind;
 use std::rt::Env;
 
-/// The words of the command line, the program's name first. Words that are not all text are refused
+/// The arguments of the command line, the program's name first. Arguments that are not all text are refused
 /// as a whole.
-pub fn words_of<R: Env + AllocGlobal>(rt: &R) -> Result<Vec<String>, Failure<'static>>
+pub fn arguments_of<R: Env + AllocGlobal>(rt: &R) -> Result<Vec<String>, Failure<'static>>
     ensures { IfErr result (λ failure. (failure ≡ Failure.NotText) ⊎ (failure ≡ Failure.OutOfMemory)) }
 {
     match env::args(rt) {
-        Ok(words) => words.collect(rt.alloc()).map_err(|_| Failure::OutOfMemory),
+        Ok(arguments) => arguments
+            .collect(rt.alloc())
+            .map_err(|_| Failure::OutOfMemory),
         Err(error) if error.kind() == ErrorKind::OutOfMemory => Err(Failure::OutOfMemory),
         Err(_) => Err(Failure::NotText),
     }
