@@ -1,0 +1,17 @@
+/// What a run writes.
+#[derive(Clone, Copy, Debug)]
+pub enum Output {
+    Bytes(&'static [u8]),
+    /// So many bytes that are 0.
+    Zeros(usize),
+}
+
+impl Output {
+    /// Whether these bytes are the output.
+    pub fn is(&self, bytes: &[u8]) -> bool {
+        match self {
+            Output::Bytes(wanted) => bytes == *wanted,
+            Output::Zeros(count) => bytes.len() == *count && bytes.iter().all(|byte| *byte == 0),
+        }
+    }
+}
