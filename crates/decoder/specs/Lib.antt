@@ -1,4 +1,5 @@
 pub mod Decoding
 pub mod Encoding
 pub mod Forms
+pub mod Groups
 pub mod Word

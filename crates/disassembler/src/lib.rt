@@ -13,8 +13,10 @@
 
 mod disassembly;
 mod instruction;
+mod line;
 mod operand;
 mod program;
+mod tables;
 
 pub use disassembly::{distinct_texts, text};
 pub use program::listing;

@@ -1,6 +1,5 @@
 pub mod Arithmetic
 pub mod Cause
-pub mod Groups
 pub mod HartState
 pub mod Next
 pub mod Steps

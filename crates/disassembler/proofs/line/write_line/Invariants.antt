@@ -1,7 +1,7 @@
 use Rattle.std.proofs.Common.{◌≡◌, ◌<◌, ◌++◌, drop}
 use Rattle.std.specs.String.{string_bytes}
 use Rattle.disassembler.specs.Operands.{operands_after, line_of}
-use Rattle.disassembler.proofs.instruction.write_line.Given as goal
+use Rattle.disassembler.proofs.line.write_line.Given as goal
 
 abbrev pub invariant-loop-operand : goal.invariant-loop-operand
 invariant-loop-operand l = record {
