@@ -1,7 +1,7 @@
 use crate::answer::Answer;
 use crate::failed::Failed;
-use crate::programs::{ECHO, PRODUCTS, RACE, RELEASE_RACE, SIGNAL};
 use crate::{commits, runs, snapshots, views};
+use guest_programs::{ECHO, QUOTIENTS, RACE, RELEASE_RACE, SIGNAL};
 use std::alloc::Global;
 
 /// A call that is made, and again where it is refused.
@@ -18,7 +18,7 @@ pub enum Case {
     Addresses,
     Apply,
     Open,
-    Products,
+    Quotients,
     Race,
     Signal,
     Echo,
@@ -38,7 +38,7 @@ pub const CASES: [(&str, Case); 16] = [
     ("changed_addresses", Case::Addresses),
     ("apply", Case::Apply),
     ("Serial::open", Case::Open),
-    ("turns of products", Case::Products),
+    ("turns of quotients", Case::Quotients),
     ("turns of race", Case::Race),
     ("turns of signal", Case::Signal),
     ("turns of echo", Case::Echo),
@@ -60,7 +60,7 @@ impl Case {
             Case::Addresses => commits::addresses(alloc),
             Case::Apply => commits::commit(alloc),
             Case::Open => runs::open(alloc, &ECHO, b"ab"),
-            Case::Products => runs::turns(alloc, &PRODUCTS, b""),
+            Case::Quotients => runs::turns(alloc, &QUOTIENTS, b""),
             Case::Race => runs::turns(alloc, &RACE, b""),
             Case::Signal => runs::turns(alloc, &SIGNAL, b""),
             Case::Echo => runs::turns(alloc, &ECHO, b"ab"),

@@ -1,12 +1,13 @@
 //! The calls that take no memory.
 use crate::answer::{Answer, mixed};
 use crate::failed::Failed;
-use crate::programs::{DATA, ECHO, PRODUCTS, image_of};
+use crate::programs::image_of;
 use crate::runs::BOUND;
 use crate::snapshots::snapshot_with_heap;
 use commit::{Patch, changed, count_page, merge_page};
 use guest_memory::GuestMemory;
 use guest_memory::layout::{IMAGE_START, STACK_POINTER};
+use guest_programs::{DATA, ECHO};
 use hart::{Hart, Stepped, Stop, run_to_stop, step};
 use paged_memory::Snapshot;
 use std::alloc::{AllocError, Global};

@@ -1,5 +1,5 @@
 //! Runs, turn by turn.
-ghost use Rattle.std.specs.Prelude.{◌<◌, ◌^◌, length, option_map};
+ghost use Rattle.std.specs.Prelude.{option_map};
 ghost use Rattle.token.specs.Serial.{IsNeeded};
 
 use crate::answer::{Answer, digest_of, mixed};
@@ -7,6 +7,7 @@ use crate::failed::Failed;
 use crate::programs::image_of;
 use crate::retry::again;
 use crate::standing::Standing;
+use guest_programs::Program;
 use std::alloc::Global;
 use token::{Next, RunOutcome, SegmentEnd, Serial, next_turn};
 
@@ -17,10 +18,8 @@ const MOST_TURNS: u32 = 20;
 pub const BOUND: u64 = 1 << 40;
 
 /// A run opened.
-pub fn open(alloc: Global, words: &[u32], input: &[u8]) -> Result<Answer, Failed>
-    requires { length words.now < 2 ^ 20 }
-{
-    let image = image_of(alloc, words)?;
+pub fn open(alloc: Global, program: &Program, input: &[u8]) -> Result<Answer, Failed> {
+    let image = image_of(alloc, program)?;
     let serial = again!(Serial::open(alloc, &image, input, BOUND, None), true);
     let standing = Standing::of(alloc, &serial)?;
     Ok(Answer {
@@ -31,10 +30,8 @@ pub fn open(alloc: Global, words: &[u32], input: &[u8]) -> Result<Answer, Failed
 }
 
 /// A run from its start to its end.
-pub fn turns(alloc: Global, words: &[u32], input: &[u8]) -> Result<Answer, Failed>
-    requires { length words.now < 2 ^ 20 }
-{
-    let image = image_of(alloc, words)?;
+pub fn turns(alloc: Global, program: &Program, input: &[u8]) -> Result<Answer, Failed> {
+    let image = image_of(alloc, program)?;
     let mut serial = Serial::open(alloc, &image, input, BOUND, None)?;
     for _ in 0..MOST_TURNS {
         if let Some(outcome) = one_turn(alloc, &mut serial)? {

@@ -2,10 +2,11 @@
 use crate::answer::Answer;
 use crate::failed::Failed;
 use crate::picture::Picture;
-use crate::programs::{DATA, PRODUCTS, image_of};
+use crate::programs::image_of;
 use crate::retry::again;
 use guest_memory::layout::{HEAP_START, PAGE_SIZE};
 use guest_memory::{GuestMemory, Perm};
+use guest_programs::{DATA, QUOTIENTS};
 use paged_memory::Snapshot;
 use std::alloc::Global;
 
@@ -24,7 +25,7 @@ pub const MAPPED_PAGES: u32 = 40;
 
 /// The memory of a program, with pages of zeros in the heap.
 pub fn snapshot_with_heap(alloc: Global) -> Result<Snapshot, Failed> {
-    let image = image_of(alloc, &PRODUCTS)?;
+    let image = image_of(alloc, &QUOTIENTS)?;
     let mut snapshot = Snapshot::of_image(alloc, &image)?;
     snapshot.map_zero(FIRST_PAGE, MAPPED_PAGES, Perm::READ_WRITE)?;
     Ok(snapshot)
@@ -50,7 +51,7 @@ pub fn answer_beside(
 
 /// The memory of a loaded program.
 pub fn of_image(alloc: Global) -> Result<Answer, Failed> {
-    let image = image_of(alloc, &PRODUCTS)?;
+    let image = image_of(alloc, &QUOTIENTS)?;
     let snapshot = again!(Snapshot::of_image(alloc, &image), true);
     let before = Picture::of(alloc, &snapshot)?;
     answer_beside(alloc, &snapshot, &snapshot, &before)

@@ -2,11 +2,11 @@
 use crate::answer::Answer;
 use crate::failed::Failed;
 use crate::picture::Picture;
-use crate::programs::DATA;
 use crate::retry::again;
 use crate::snapshots::{FIRST_PAGE, snapshot_with_heap};
 use guest_memory::GuestMemory;
 use guest_memory::layout::PAGE_SIZE;
+use guest_programs::DATA;
 use std::alloc::Global;
 use twins::View;
 

@@ -184,20 +184,14 @@ fn write_help<W: Write>(help: &Error, stdout: &mut W) -> io::Result<()> {
 }
 
 #[cfg(test)]
-mod edge_calls;
-#[cfg(test)]
 mod failing_writes;
 #[cfg(test)]
 mod listings;
 #[cfg(test)]
 mod performed;
 #[cfg(test)]
-mod program_file;
-#[cfg(test)]
 mod refusals;
 #[cfg(test)]
 mod runs;
 #[cfg(test)]
 mod tests;
-#[cfg(test)]
-mod worked_runs;

@@ -1,8 +1,8 @@
 //! Loads and stores.
 
-use crate::fixtures::{CODE, CONFIG, EXIT, answer, ends, memory_of, operands};
+use crate::fixtures::{assert_status, memory_of};
+use guest_programs::{CODE, DATA, ECALL, load};
 use hart::{Hart, Stop, run_to_stop};
-use runtime::RunOutcome;
 use std::test::Fail;
 
 /// `sw x6,0(x5)`.
@@ -49,32 +49,15 @@ static STORES: [(u32, u32, u32); 6] = [
 ];
 
 #[test]
-fn loads(rt: HostRuntime) -> Result<(), Fail> {
-    for (word, value, wanted) in LOADS {
-        let [w0, w1, w2, w3] = operands(0x0002_0000, value);
-        let words = [w0, w1, w2, w3, STORE, word, EXIT[0], EXIT[1]];
-        let answer = answer(&rt, rt.alloc(), &words, &CONFIG)?;
-        assert_eq!(rt;
-            answer,
-            ends(RunOutcome::Exit(wanted)),
-            "{word:08x} of {value:x}"
-        );
+fn loads_and_stores(rt: HostRuntime) -> Result<(), Fail> {
+    for (word, value, wanted) in &LOADS {
+        let operands = (DATA, *value);
+        assert_status(&rt, rt.alloc(), operands, &[STORE, *word], *wanted)?;
     }
-    Ok(())
-}
-
-#[test]
-fn stores(rt: HostRuntime) -> Result<(), Fail> {
-    for (word, value, wanted) in STORES {
-        let [w0, w1, w2, w3] = operands(0x0002_0000, 0x5555_5555);
-        let [_, _, w5, w6] = operands(0, value);
-        let words = [w0, w1, w2, w3, STORE, w5, w6, word, LOAD, EXIT[0], EXIT[1]];
-        let answer = answer(&rt, rt.alloc(), &words, &CONFIG)?;
-        assert_eq!(rt;
-            answer,
-            ends(RunOutcome::Exit(wanted)),
-            "{word:08x} of {value:x}"
-        );
+    for (word, value, wanted) in &STORES {
+        let [upper, lower] = load(6, *value);
+        let words = [STORE, upper, lower, *word, LOAD];
+        assert_status(&rt, rt.alloc(), (DATA, 0x5555_5555), &words, *wanted)?;
     }
     Ok(())
 }
@@ -82,7 +65,7 @@ fn stores(rt: HostRuntime) -> Result<(), Fail> {
 /// `sb x6,0(x5)`, `sh x6,2(x5)`, `sw x6,4(x5)` and `ecall`.
 #[test]
 fn stores_bytes_in_order(rt: HostRuntime) -> Result<(), Fail> {
-    let words = [0x0062_8023, 0x0062_9123, 0x0062_A223, 0x0000_0073];
+    let words = [0x0062_8023, 0x0062_9123, 0x0062_A223, ECALL];
     let mut memory = memory_of(rt.alloc(), &words)?;
     let mut hart = Hart::new(CODE, 0, 0, 0);
     hart.set_reg(5, 0x0002_0000);

@@ -1,8 +1,10 @@
+use crate::memory_rows::{Access, assert_cells, assert_loads, store_all};
 use commit::*;
 use elf32_reader::{Image, Segment};
-use guest_memory::{GuestMemory, Perm};
+use guest_memory::Perm;
 use paged_memory::Snapshot;
 use std::alloc::{AllocError, Global};
+use std::process::Abort;
 use std::test::Fail;
 use twins::View;
 
@@ -24,6 +26,31 @@ const DATA: u32 = 0x0002_0000;
 /// The page number of that address.
 const DATA_PAGE: u32 = 0x20;
 
+/// Stores to three pages, not in the order of their addresses.
+static STORES: [Access; 4] = [
+    (4, 0x7FFF_FFF0, 0x0100_0001),
+    (1, DATA + 0x1000, 3),
+    (4, DATA, 0x0009_0700),
+    (1, DATA + 0xFFF, 4),
+];
+
+/// The addresses of the bytes that they change.
+static DIFFERING: [u32; 5] = [
+    DATA + 2,
+    DATA + 0xFFF,
+    DATA + 0x1000,
+    0x7FFF_FFF0,
+    0x7FFF_FFF3,
+];
+
+/// Stores after which each byte is as it was.
+static REPEATED: [Access; 4] = [
+    (4, 0x7FFF_FFF0, 0),
+    (2, DATA, 0x0700),
+    (1, DATA + 1, 8),
+    (1, DATA + 1, 7),
+];
+
 /// A program of one instruction with two pages of data, which begin with the bytes 0, 7 and 7.
 fn sample(alloc: Global) -> Result<Snapshot, AllocError> {
     let code = vec![in alloc; 0x13, 0x05, 0xA0, 0x02]?;
@@ -35,17 +62,10 @@ fn sample(alloc: Global) -> Result<Snapshot, AllocError> {
     Snapshot::of_image(alloc, &Image::new(0x0001_0000, segments))
 }
 
-/// A view of a clone of a snapshot, in which a byte is stored.
-fn view_with(base: &Snapshot, address: u32, byte: u8) -> Result<View, Fail> {
+/// A view of a clone of a snapshot, with these stores.
+fn view_with(rt: &impl Abort, base: &Snapshot, stores: &[Access]) -> Result<View, AllocError> {
     let mut view = View::open(base.try_clone()?);
-    view.store8(address, byte)?;
-    Ok(view)
-}
-
-/// A view of a clone of a snapshot, in which two bytes are stored.
-fn view_with_half(base: &Snapshot, address: u32, half: u16) -> Result<View, Fail> {
-    let mut view = View::open(base.try_clone()?);
-    view.store16(address, half)?;
+    store_all(rt, &mut view, stores);
     Ok(view)
 }
 
@@ -98,111 +118,87 @@ fn merges_bytes_that_differ(rt: HostRuntime) {
 }
 
 #[test]
-fn a_store_of_the_same_byte_changes_nothing(rt: HostRuntime) -> Result<(), Fail> {
-    let mut now = sample(rt.alloc())?;
-    let a = view_with(&now, DATA, 5)?;
-    let b = view_with(&now, DATA, 0)?;
-    assert_eq!(rt; merge(rt.alloc(), &mut now, &a)?, 1);
-    assert_eq!(rt; merge(rt.alloc(), &mut now, &b)?, 0);
-    assert_eq!(rt; now.byte(DATA), Some(5));
-    Ok(())
-}
-
-#[test]
-fn neighbouring_bytes_are_merged_apart(rt: HostRuntime) -> Result<(), Fail> {
-    let mut now = sample(rt.alloc())?;
-    let a = view_with_half(&now, DATA, 0x0701)?;
-    let b = view_with_half(&now, DATA, 0x0200)?;
-    merge(rt.alloc(), &mut now, &a)?;
-    merge(rt.alloc(), &mut now, &b)?;
-    assert_eq!(rt; now.load32(DATA), Ok(0x0007_0201));
+fn two_views_are_merged_byte_by_byte(rt: HostRuntime) -> Result<(), Fail> {
+    // Of two stores to one byte the second leaves it as it was; the others are to neighbouring bytes.
+    for (first, second, counts, word) in [
+        ((1, DATA, 5), (1, DATA, 0), [1, 0], 0x0007_0705),
+        ((2, DATA, 0x0701), (2, DATA, 0x0200), [1, 1], 0x0007_0201),
+    ] {
+        let mut now = sample(rt.alloc())?;
+        let a = view_with(&rt, &now, &[first])?;
+        let b = view_with(&rt, &now, &[second])?;
+        let merged = [
+            merge(rt.alloc(), &mut now, &a)?,
+            merge(rt.alloc(), &mut now, &b)?,
+        ];
+        assert_eq!(rt; merged, counts, "{word:x}");
+        assert_loads(&rt, &now, &[(4, DATA, word)]);
+    }
     Ok(())
 }
 
 #[test]
 fn a_patch_has_the_bytes_that_differ(rt: HostRuntime) -> Result<(), Fail> {
-    let mut view = View::open(sample(rt.alloc())?);
-    view.store32(0x7FFF_FFF0, 0x0100_0001)?;
-    view.store8(DATA + 0x1000, 3)?;
-    view.store32(DATA, 0x0009_0700)?;
-    view.store8(DATA + 0xFFF, 4)?;
-    let patch = Patch::of(rt.alloc(), &view)?;
-    let addresses = changed_addresses(rt.alloc(), &patch)?;
-    assert_eq!(rt;
-        addresses.as_slice(),
-        [
-            DATA + 2,
-            DATA + 0xFFF,
-            DATA + 0x1000,
-            0x7FFF_FFF0,
-            0x7FFF_FFF3
-        ]
-        .as_slice()
-    );
-    assert_eq!(rt; changed(&patch), 5);
-    Ok(())
-}
-
-#[test]
-fn repeated_stores_make_an_empty_patch(rt: HostRuntime) -> Result<(), Fail> {
-    let mut view = View::open(sample(rt.alloc())?);
-    view.store32(0x7FFF_FFF0, 0)?;
-    view.store16(DATA, 0x0700)?;
-    view.store8(DATA + 1, 8)?;
-    view.store8(DATA + 1, 7)?;
-    let patch = Patch::of(rt.alloc(), &view)?;
-    assert_eq!(rt; changed(&patch), 0);
-    assert_eq!(rt; changed_addresses(rt.alloc(), &patch)?.len(), 0);
+    let base = sample(rt.alloc())?;
+    for (stores, wanted) in [
+        (STORES.as_slice(), DIFFERING.as_slice()),
+        (REPEATED.as_slice(), [].as_slice()),
+    ] {
+        let view = view_with(&rt, &base, stores)?;
+        let patch = Patch::of(rt.alloc(), &view)?;
+        let addresses = changed_addresses(rt.alloc(), &patch)?;
+        assert_eq!(rt; addresses.as_slice(), wanted);
+        assert_eq!(rt; changed(&patch), wanted.len() as u64);
+    }
     Ok(())
 }
 
 #[test]
 fn an_empty_patch_changes_nothing(rt: HostRuntime) -> Result<(), Fail> {
     let mut now = sample(rt.alloc())?;
-    let mut view = view_with(&now, DATA + 1, 8)?;
-    view.store8(DATA + 1, 7)?;
-    now.store8(DATA + 1, 6)?;
+    let view = view_with(&rt, &now, &[(1, DATA + 1, 8), (1, DATA + 1, 7)])?;
+    store_all(&rt, &mut now, &[(1, DATA + 1, 6)]);
     assert_eq!(rt; merge(rt.alloc(), &mut now, &view)?, 0);
-    assert_eq!(rt; now.load32(DATA), Ok(0x0007_0600));
+    assert_loads(&rt, &now, &[(4, DATA, 0x0007_0600)]);
     Ok(())
 }
 
 #[test]
 fn bytes_of_an_unmapped_page_are_dropped(rt: HostRuntime) -> Result<(), Fail> {
     let mut now = sample(rt.alloc())?;
-    let mut view = view_with(&now, DATA, 5)?;
-    view.store8(DATA + 0x1000, 6)?;
+    let view = view_with(&rt, &now, &[(1, DATA, 5), (1, DATA + 0x1000, 6)])?;
     now.unmap(DATA_PAGE, 1)?;
     assert_eq!(rt; merge(rt.alloc(), &mut now, &view)?, 2);
-    assert_eq!(rt; now.byte(DATA), None);
-    assert_eq!(rt; now.perm(DATA), None);
-    assert_eq!(rt; now.byte(DATA + 0x1000), Some(6));
+    let kept = Some((6, Perm::READ_WRITE));
+    assert_cells(&rt, &now, &[(DATA, None), (DATA + 0x1000, kept)]);
     Ok(())
 }
 
 #[test]
 fn permissions_are_those_of_the_snapshot(rt: HostRuntime) -> Result<(), Fail> {
     let mut now = sample(rt.alloc())?;
-    let view = view_with(&now, DATA, 5)?;
+    let view = view_with(&rt, &now, &[(1, DATA, 5)])?;
     now.unmap(DATA_PAGE, 1)?;
     now.map_zero(DATA_PAGE, 1, READ_ONLY)?;
     merge(rt.alloc(), &mut now, &view)?;
-    assert_eq!(rt; now.byte(DATA), Some(5));
-    assert_eq!(rt; now.byte(DATA + 1), Some(0));
-    assert_eq!(rt; now.perm(DATA), Some(READ_ONLY));
+    let cells = [
+        (DATA, Some((5, READ_ONLY))),
+        (DATA + 1, Some((0, READ_ONLY))),
+    ];
+    assert_cells(&rt, &now, &cells);
     Ok(())
 }
 
 #[test]
 fn other_snapshots_and_views_stay(rt: HostRuntime) -> Result<(), Fail> {
     let base = sample(rt.alloc())?;
-    let view = view_with(&base, DATA, 5)?;
+    let view = view_with(&rt, &base, &[(1, DATA, 5)])?;
     let mut now = base.try_clone()?;
-    let other = view_with(&now, DATA + 1, 6)?;
+    let other = view_with(&rt, &now, &[(1, DATA + 1, 6)])?;
     merge(rt.alloc(), &mut now, &view)?;
-    assert_eq!(rt; now.load16(DATA), Ok(0x0705));
-    assert_eq!(rt; base.load16(DATA), Ok(0x0700));
-    assert_eq!(rt; other.load16(DATA), Ok(0x0600));
-    assert_eq!(rt; view.load16(DATA), Ok(0x0705));
+    assert_loads(&rt, &now, &[(2, DATA, 0x0705)]);
+    assert_loads(&rt, &base, &[(2, DATA, 0x0700)]);
+    assert_loads(&rt, &other, &[(2, DATA, 0x0600)]);
+    assert_loads(&rt, &view, &[(2, DATA, 0x0705)]);
     Ok(())
 }

@@ -1,27 +1,8 @@
 use elf32_reader::*;
 use guest_memory::Perm;
+use guest_programs::{CODE, DATA, ProgramHeader, SEVEN, file_of_headers};
 use std::alloc::{AllocError, Global};
-use std::process::Abort;
 use std::test::Fail;
-
-/// A file with two segments, code at 0x00010000 and zeros at 0x00020000, whose code is the call of exit
-/// with the status 7.
-static SEVEN: [u8; 128] = [
-    0x7F, 0x45, 0x4C, 0x46, 1, 1, 1, 0, 0, 0, 0, 0, 0, 0, 0, 0, //
-    0x02, 0, 0xF3, 0, 1, 0, 0, 0, 0, 0, 1, 0, 0x34, 0, 0, 0, //
-    0, 0, 0, 0, 0, 0, 0, 0, 0x34, 0, 0x20, 0, 2, 0, 0, 0, //
-    0, 0, 0, 0, //
-    1, 0, 0, 0, 0x74, 0, 0, 0, 0, 0, 1, 0, 0, 0, 0, 0, //
-    0x0C, 0, 0, 0, 0x0C, 0, 0, 0, 5, 0, 0, 0, 0, 0, 0, 0, //
-    1, 0, 0, 0, 0x74, 0, 0, 0, 0, 0, 2, 0, 0, 0, 0, 0, //
-    0, 0, 0, 0, 0, 0x10, 0, 0, 6, 0, 0, 0, 0, 0, 0, 0, //
-    0x93, 0x08, 0x10, 0x00, 0x13, 0x05, 0x70, 0x00, 0x73, 0x00, 0x00, 0x00, //
-];
-
-/// The code of the file.
-static CODE: [u8; 12] = [
-    0x93, 0x08, 0x10, 0x00, 0x13, 0x05, 0x70, 0x00, 0x73, 0x00, 0x00, 0x00,
-];
 
 const READ_EXECUTE: Perm = Perm {
     read: true,
@@ -161,71 +142,54 @@ fn refusal(alloc: Global, file: &[u8]) -> u8 {
     }
 }
 
-/// A file of these program headers with the entry 0x00010000: type, offset, address, size in the file,
-/// size in memory, flags.
-fn file_of(alloc: Global, headers: &[[u32; 6]], count: u16) -> Result<Vec<u8>, AllocError> {
-    let mut file = Vec::from_slice(alloc, &SEVEN[..44])?;
-    file.extend_from_slice(&count.to_le_bytes())?;
-    file.extend_from_slice(&[0; 6])?;
-    for header in headers {
-        let [kind, offset, vaddr, filesz, memsz, flags] = *header;
-        for word in [kind, offset, vaddr, 0, filesz, memsz, flags, 0] {
-            file.extend_from_slice(&word.to_le_bytes())?;
-        }
+/// The number of the refusal of `seven` with words changed, each by its offset.
+fn refusal_with(alloc: Global, changes: &[(usize, u32)]) -> Result<u8, AllocError> {
+    let mut file = SEVEN.file(alloc)?;
+    for (offset, word) in changes {
+        with_word(&mut file, *offset, *word);
     }
-    Ok(file)
+    Ok(refusal(alloc, &file))
 }
 
+/// The number of the refusal of a file of these program headers and no words.
+fn refusal_of(alloc: Global, headers: &[ProgramHeader]) -> Result<u8, AllocError> {
+    Ok(refusal(alloc, &file_of_headers(alloc, headers, &[])?))
+}
+
+/// The image of `seven`, and how faults are told.
 #[test]
 fn reads_seven(rt: HostRuntime) -> Result<(), Fail> {
-    let image = read(rt.alloc(), &SEVEN)?;
-    assert_eq!(rt; image.entry(), 0x0001_0000);
+    let file = SEVEN.file(rt.alloc())?;
+    let image = read(rt.alloc(), &file)?;
+    assert_eq!(rt; image.entry(), CODE);
     assert_eq!(rt; image.segments().len(), 2);
     let rows = [
-        ((0x0001_0000, 12, READ_EXECUTE), CODE.as_slice()),
-        ((0x0002_0000, 4096, Perm::READ_WRITE), [].as_slice()),
+        ((CODE, 12, READ_EXECUTE), file.get(116..).ok_or("no code")?),
+        ((DATA, 4096, Perm::READ_WRITE), [].as_slice()),
     ];
     for (segment, (head, bytes)) in image.segments().iter().zip(rows) {
         assert_eq!(rt; (segment.vaddr(), segment.memsz(), segment.flags()), head);
         assert_eq!(rt; segment.bytes(), bytes);
     }
-    Ok(())
-}
-
-#[test]
-fn refuses_what_is_cut(rt: HostRuntime) {
-    for length in 0..128 {
-        let number = match length {
-            0..=51 => 2,
-            52..=115 => 12,
-            _ => 15,
-        };
-        assert_eq!(rt;
-            refusal(rt.alloc(), &SEVEN[..length]),
-            number,
-            "at {length}"
-        );
-    }
-}
-
-#[test]
-fn refuses_one_change(rt: HostRuntime) -> Result<(), Fail> {
-    for (offset, word, number) in ONE_CHANGE.iter() {
-        let mut file = Vec::from_slice(rt.alloc(), &SEVEN)?;
-        with_word(&mut file, *offset, *word);
-        assert_eq!(rt; refusal(rt.alloc(), &file), *number, "{word:x} at {offset}");
+    for (fault, wanted) in [
+        (ElfFault::Truncated, "2 Truncated"),
+        (ElfFault::OutOfMemory, "21 OutOfMemory"),
+    ] {
+        assert_eq!(rt; fault.to_string(rt.alloc())?.as_str(), wanted);
     }
     Ok(())
 }
 
 #[test]
-fn refuses_two_changes(rt: HostRuntime) -> Result<(), Fail> {
-    for (first, word, second, other, number) in TWO_CHANGES.iter() {
-        let mut file = Vec::from_slice(rt.alloc(), &SEVEN)?;
-        with_word(&mut file, *first, *word);
-        with_word(&mut file, *second, *other);
+fn refuses_what_is_changed(rt: HostRuntime) -> Result<(), Fail> {
+    for (offset, word, number) in &ONE_CHANGE {
+        let refused = refusal_with(rt.alloc(), &[(*offset, *word)])?;
+        assert_eq!(rt; refused, *number, "{word:x} at {offset}");
+    }
+    for (first, word, second, other, number) in &TWO_CHANGES {
+        let refused = refusal_with(rt.alloc(), &[(*first, *word), (*second, *other)])?;
         assert_eq!(rt;
-            refusal(rt.alloc(), &file),
+            refused,
             *number,
             "{word:x} at {first}, {other:x} at {second}"
         );
@@ -234,28 +198,36 @@ fn refuses_two_changes(rt: HostRuntime) -> Result<(), Fail> {
 }
 
 #[test]
-fn header_alone(rt: HostRuntime) -> Result<(), Fail> {
-    let file = file_of(rt.alloc(), &[], 0)?;
-    assert_eq!(rt; file.len(), 52);
-    assert_eq!(rt; read(rt.alloc(), &file).err(), Some(ElfFault::BadEntry));
+fn refuses_what_is_cut_or_too_large(rt: HostRuntime) -> Result<(), Fail> {
+    let mut file = SEVEN.file(rt.alloc())?;
+    for length in 0..128 {
+        let number = match length {
+            0..=51 => 2,
+            52..=115 => 12,
+            _ => 15,
+        };
+        let cut = file.get(..length).ok_or("the file is too short")?;
+        assert_eq!(rt; refusal(rt.alloc(), cut), number, "at {length}");
+    }
+    file.resize(67_108_864, 0)?;
+    assert_eq!(rt; refusal(rt.alloc(), &file), 0);
+    file.push(0)?;
+    assert_eq!(rt; refusal(rt.alloc(), &file), 1);
     Ok(())
 }
 
+/// From no to 65 program headers.
 #[test]
 fn counts_segments(rt: HostRuntime) -> Result<(), Fail> {
     let mut headers = Vec::new(rt.alloc());
-    for page in 16..80u32 {
+    assert_eq!(rt; refusal_of(rt.alloc(), &headers)?, 20);
+    for page in 16..81_u32 {
         headers.push([1, 0, page * 4096, 52, 4096, 5])?;
     }
-    let file = file_of(rt.alloc(), &headers, 64)?;
-    let image = read(rt.alloc(), &file)?;
-    assert_eq!(rt; image.segments().len(), 64);
-    headers.push([1, 0, 80 * 4096, 52, 4096, 5])?;
-    let file = file_of(rt.alloc(), &headers, 65)?;
-    assert_eq!(rt;
-        read(rt.alloc(), &file).err(),
-        Some(ElfFault::TooManySegments)
-    );
+    assert_eq!(rt; refusal_of(rt.alloc(), &headers)?, 11);
+    headers.pop();
+    let file = file_of_headers(rt.alloc(), &headers, &[])?;
+    assert_eq!(rt; read(rt.alloc(), &file)?.segments().len(), 64);
     Ok(())
 }
 
@@ -266,7 +238,7 @@ fn ignores_empty_segments(rt: HostRuntime) -> Result<(), Fail> {
         [1, 0, 0, 0, 0, 7],
         [1, 0, 0x0001_1000, 4, 8, 6],
     ];
-    let file = file_of(rt.alloc(), &between, 3)?;
+    let file = file_of_headers(rt.alloc(), &between, &[])?;
     let image = read(rt.alloc(), &file)?;
     assert_eq!(rt; image.segments().len(), 2);
     assert_eq!(rt; image.segments()[1].bytes(), b"\x7fELF".as_slice());
@@ -276,42 +248,6 @@ fn ignores_empty_segments(rt: HostRuntime) -> Result<(), Fail> {
         [1, 0, 0x0002_0000, 0, 0, 6],
         [1, 0, 0x0001_1800, 4, 8, 6],
     ];
-    let file = file_of(rt.alloc(), &meeting, 3)?;
-    assert_eq!(rt; read(rt.alloc(), &file).err(), Some(ElfFault::SegmentOrder));
-    Ok(())
-}
-
-#[test]
-fn limits_the_size(rt: HostRuntime) -> Result<(), Fail> {
-    let mut file = Vec::from_slice(rt.alloc(), &SEVEN)?;
-    file.resize(67_108_864, 0)?;
-    assert_eq!(rt; refusal(rt.alloc(), &file), 0);
-    file.push(0)?;
-    assert_eq!(rt; read(rt.alloc(), &file).err(), Some(ElfFault::TooLarge));
-    Ok(())
-}
-
-#[test]
-fn tells_a_fault(rt: HostRuntime) -> Result<(), Fail> {
-    let text = format!(in rt.alloc(); "{}", ElfFault::Truncated)?;
-    assert_eq!(rt; text.as_str(), "2 Truncated");
-    let text = format!(in rt.alloc(); "{}", ElfFault::OutOfMemory)?;
-    assert_eq!(rt; text.as_str(), "21 OutOfMemory");
-    Ok(())
-}
-
-#[test]
-fn makes_an_image(rt: HostRuntime) -> Result<(), Fail> {
-    let code = Perm {
-        read: true,
-        write: false,
-        execute: true,
-    };
-    let segment = Segment::new(0x0001_0000, code, Vec::new(rt.alloc()), 4);
-    let mut segments = Vec::new(rt.alloc());
-    segments.push(segment)?;
-    let image = Image::new(0x0001_0000, segments);
-    assert_eq!(rt; image.entry(), 0x0001_0000);
-    assert_eq!(rt; image.segments().len(), 1);
+    assert_eq!(rt; refusal_of(rt.alloc(), &meeting)?, 18);
     Ok(())
 }

@@ -6,8 +6,6 @@
 #[cfg(test)]
 mod accesses;
 #[cfg(test)]
-mod answers;
-#[cfg(test)]
 mod arithmetic;
 #[cfg(test)]
 mod commits;
@@ -18,15 +16,13 @@ mod files;
 #[cfg(test)]
 mod fixtures;
 #[cfg(test)]
+mod guest_runs;
+#[cfg(test)]
 mod harts;
 #[cfg(test)]
-mod histories;
-#[cfg(test)]
-mod loops;
-#[cfg(test)]
-mod meetings;
-#[cfg(test)]
 mod memories;
+#[cfg(test)]
+mod memory_rows;
 #[cfg(test)]
 mod objects;
 #[cfg(test)]
@@ -38,8 +34,6 @@ mod sinks;
 #[cfg(test)]
 mod snapshots;
 #[cfg(test)]
-mod texts;
-#[cfg(test)]
 mod threads;
 #[cfg(test)]
 mod traces;
@@ -49,5 +43,3 @@ mod traps;
 mod views;
 #[cfg(test)]
 mod words;
-#[cfg(test)]
-mod worked;

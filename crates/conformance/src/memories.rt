@@ -1,3 +1,4 @@
+use crate::memory_rows::{Access, Cell, assert_loads, assert_no_loads, assert_refuses, store_all};
 use elf32_reader::{Image, Segment};
 use paged_memory::*;
 use std::alloc::{AllocError, Global};
@@ -30,41 +31,68 @@ fn sample(alloc: Global) -> Result<Image, AllocError> {
     Ok(Image::new(0x0001_0000, segments))
 }
 
+/// Addresses in the segments, between them and at the borders of their pages and of the stack.
+static CELLS: [Cell; 19] = [
+    (0x0000_0000, None),
+    (0x0000_FFFF, None),
+    (0x0001_0000, Some((0x13, READ_EXECUTE))),
+    (0x0001_0003, Some((0x02, READ_EXECUTE))),
+    (0x0001_0FFF, Some((0, READ_EXECUTE))),
+    (0x0001_1000, None),
+    (0x0002_0000, Some((0, Perm::READ_WRITE))),
+    (0x0002_0FFE, Some((1, Perm::READ_WRITE))),
+    (0x0002_1000, Some((3, Perm::READ_WRITE))),
+    (0x0002_1001, Some((0, Perm::READ_WRITE))),
+    (0x0002_2FFF, Some((0, Perm::READ_WRITE))),
+    (0x0002_3000, None),
+    (0x0003_0000, Some((9, NO_ACCESS))),
+    (0x2000_0000, None),
+    (0x7FFB_FFFF, None),
+    (0x7FFC_0000, Some((0, Perm::READ_WRITE))),
+    (0x7FFF_FFFF, Some((0, Perm::READ_WRITE))),
+    (0x8000_0000, None),
+    (0xFFFF_FFFF, None),
+];
+
+/// Loads that are permitted.
+static LOADS: [Access; 9] = [
+    (1, 0x0002_0FFD, 0),
+    (1, 0x0002_0FFF, 2),
+    (1, 0x0002_1000, 3),
+    (1, 0x0002_2FFF, 0),
+    (2, 0x0002_0FFE, 0x0201),
+    (2, 0x0002_1000, 0x0003),
+    (4, 0x0001_0000, 0x02A0_0513),
+    (4, 0x0002_0FFC, 0x0201_0000),
+    (4, 0x7FFF_FFFC, 0),
+];
+
+/// Loads by width and address where nothing is mapped, or nothing permitted.
+static DENIED: [(u32, u32); 5] = [
+    (1, 0x0002_3000),
+    (1, 0x0003_0000),
+    (1, 0x8000_0000),
+    (2, 0x0002_3000),
+    (4, 0x0003_0000),
+];
+
+/// Loads by width and address at no multiple of the width.
+static MISALIGNED: [(u32, u32); 3] = [(2, 0x0002_0FFF), (2, 0x0002_3001), (4, 0x0001_0002)];
+
+/// Stores that are permitted.
+static STORES: [Access; 4] = [
+    (1, 0x0002_0000, 0x65),
+    (2, 0x0002_0002, 0x8765),
+    (4, 0x0002_0004, 0x1234_8765),
+    (4, 0x7FFF_FFFC, 0xDEAD_BEEF),
+];
+
 #[test]
 fn maps_the_image_and_the_stack(rt: HostRuntime) -> Result<(), Fail> {
     let memory = WholeMemory::of_image(rt.alloc(), &sample(rt.alloc())?)?;
-    let cells = [
-        (0x0000_0000, None),
-        (0x0000_FFFF, None),
-        (0x0001_0000, Some((0x13, READ_EXECUTE))),
-        (0x0001_0003, Some((0x02, READ_EXECUTE))),
-        (0x0001_0FFF, Some((0, READ_EXECUTE))),
-        (0x0001_1000, None),
-        (0x0002_0000, Some((0, Perm::READ_WRITE))),
-        (0x0002_0FFE, Some((1, Perm::READ_WRITE))),
-        (0x0002_1000, Some((3, Perm::READ_WRITE))),
-        (0x0002_1001, Some((0, Perm::READ_WRITE))),
-        (0x0002_2FFF, Some((0, Perm::READ_WRITE))),
-        (0x0002_3000, None),
-        (0x0003_0000, Some((9, NO_ACCESS))),
-        (0x2000_0000, None),
-        (0x7FFB_FFFF, None),
-        (0x7FFC_0000, Some((0, Perm::READ_WRITE))),
-        (0x7FFF_FFFF, Some((0, Perm::READ_WRITE))),
-        (0x8000_0000, None),
-        (0xFFFF_FFFF, None),
-    ];
-    for (address, cell) in cells {
-        assert_eq!(rt;
-            memory.byte(address),
-            cell.map(|(byte, _)| byte),
-            "{address:x}"
-        );
-        assert_eq!(rt;
-            memory.perm(address),
-            cell.map(|(_, perm)| perm),
-            "{address:x}"
-        );
+    for (address, cell) in CELLS {
+        let found = memory.byte(address).zip(memory.perm(address));
+        assert_eq!(rt; found, cell, "{address:x}");
     }
     Ok(())
 }
@@ -72,35 +100,9 @@ fn maps_the_image_and_the_stack(rt: HostRuntime) -> Result<(), Fail> {
 #[test]
 fn loads_and_fetches(rt: HostRuntime) -> Result<(), Fail> {
     let memory = WholeMemory::of_image(rt.alloc(), &sample(rt.alloc())?)?;
-    for (address, byte) in [
-        (0x0002_0FFD, Ok(0)),
-        (0x0002_0FFF, Ok(2)),
-        (0x0002_1000, Ok(3)),
-        (0x0002_2FFF, Ok(0)),
-        (0x0002_3000, Err(AccessFault::Denied)),
-        (0x0003_0000, Err(AccessFault::Denied)),
-        (0x8000_0000, Err(AccessFault::Denied)),
-    ] {
-        assert_eq!(rt; memory.load8(address), byte, "{address:x}");
-    }
-    for (address, half) in [
-        (0x0002_0FFE, Ok(0x0201)),
-        (0x0002_1000, Ok(0x0003)),
-        (0x0002_0FFF, Err(AccessFault::Misaligned)),
-        (0x0002_3001, Err(AccessFault::Misaligned)),
-        (0x0002_3000, Err(AccessFault::Denied)),
-    ] {
-        assert_eq!(rt; memory.load16(address), half, "{address:x}");
-    }
-    for (address, word) in [
-        (0x0001_0000, Ok(0x02A0_0513)),
-        (0x0002_0FFC, Ok(0x0201_0000)),
-        (0x7FFF_FFFC, Ok(0)),
-        (0x0001_0002, Err(AccessFault::Misaligned)),
-        (0x0003_0000, Err(AccessFault::Denied)),
-    ] {
-        assert_eq!(rt; memory.load32(address), word, "{address:x}");
-    }
+    assert_loads(&rt, &memory, &LOADS);
+    assert_no_loads(&rt, &memory, AccessFault::Denied, &DENIED);
+    assert_no_loads(&rt, &memory, AccessFault::Misaligned, &MISALIGNED);
     for (address, word) in [
         (0x0001_0000, Some(0x02A0_0513)),
         (0x0001_0FFC, Some(0)),
@@ -114,52 +116,19 @@ fn loads_and_fetches(rt: HostRuntime) -> Result<(), Fail> {
 }
 
 #[test]
-fn stores(rt: HostRuntime) -> Result<(), Fail> {
+fn stores_and_refuses_stores(rt: HostRuntime) -> Result<(), Fail> {
     let mut memory = WholeMemory::of_image(rt.alloc(), &sample(rt.alloc())?)?;
-    assert!(rt; memory.store8(0x0002_0000, 0x65).is_ok());
-    assert!(rt; memory.store16(0x0002_0002, 0x8765).is_ok());
-    assert!(rt; memory.store32(0x0002_0004, 0x1234_8765).is_ok());
+    store_all(&rt, &mut memory, &STORES);
     let stored = [0x65, 0x00, 0x65, 0x87, 0x65, 0x87, 0x34, 0x12, 0x00];
     for (address, byte) in (0x0002_0000..).zip(stored) {
         assert_eq!(rt; memory.byte(address), Some(byte), "{address:x}");
     }
-    assert!(rt; memory.store32(0x7FFF_FFFC, 0xDEAD_BEEF).is_ok());
-    assert_eq!(rt; memory.load16(0x7FFF_FFFE), Ok(0xDEAD));
+    let refused = [0x0001_0000, 0x0002_3000, 0x0003_0000, 0x8000_0000];
+    assert_refuses(&rt, &mut memory, &refused);
+    assert_loads(
+        &rt,
+        &memory,
+        &[(2, 0x7FFF_FFFE, 0xDEAD), (4, 0x0001_0000, 0x02A0_0513)],
+    );
     Ok(())
-}
-
-#[test]
-fn refuses_stores(rt: HostRuntime) -> Result<(), Fail> {
-    let mut memory = WholeMemory::of_image(rt.alloc(), &sample(rt.alloc())?)?;
-    for address in [0x0001_0000, 0x0002_3000, 0x0003_0000, 0x8000_0000] {
-        assert!(rt;
-            is_refused(memory.store8(address, 7), AccessFault::Denied),
-            "{address:x}"
-        );
-        assert!(rt;
-            is_refused(memory.store16(address, 7), AccessFault::Denied),
-            "{address:x}"
-        );
-        assert!(rt;
-            is_refused(memory.store32(address, 7), AccessFault::Denied),
-            "{address:x}"
-        );
-        assert!(rt;
-            is_refused(memory.store16(address + 1, 7), AccessFault::Misaligned),
-            "{address:x}"
-        );
-        assert!(rt;
-            is_refused(memory.store32(address + 2, 7), AccessFault::Misaligned),
-            "{address:x}"
-        );
-    }
-    assert_eq!(rt; memory.load32(0x0001_0000), Ok(0x02A0_0513));
-    Ok(())
-}
-
-fn is_refused(answer: Result<(), StoreFault>, wanted: AccessFault) -> bool {
-    match answer {
-        Err(StoreFault::Refused(fault)) => fault == wanted,
-        _ => false,
-    }
 }

@@ -1,56 +1,32 @@
-//! Whole runs: from the bytes of a file to the report.
+//! How whole runs end: at limits, and where the configuration, the input or the file is refused.
 
-use crate::fixtures::{CODE, CONFIG, Ending, SEVEN, answer, elf_of, ending_of, ends};
+use crate::fixtures::{CONFIG, Ending, WORKERS, ending, ends};
 use elf32_reader::ElfFault;
+use guest_programs::{CODE, SEVEN, file_of};
 use hart::{Cause, Trap};
-use runtime::{Config, MAX_BOUND, MAX_INPUT, MAX_WORKERS, OpenGate, RunFault, RunOutcome, run};
+use runtime::{Config, MAX_BOUND, MAX_INPUT, MAX_WORKERS, RunFault, RunOutcome};
+use std::alloc::Global;
+use std::process::Abort;
+use std::sync::Wait;
 use std::test::Fail;
-
-/// The file of the call exit with the status 7.
-static SEVEN_FILE: [u8; 128] = [
-    0x7F, 0x45, 0x4C, 0x46, 0x01, 0x01, 0x01, 0x00, 0x00, 0x00, 0x00, 0x00, 0x00, 0x00, 0x00, 0x00, //
-    0x02, 0x00, 0xF3, 0x00, 0x01, 0x00, 0x00, 0x00, 0x00, 0x00, 0x01, 0x00, 0x34, 0x00, 0x00, 0x00, //
-    0x00, 0x00, 0x00, 0x00, 0x00, 0x00, 0x00, 0x00, 0x34, 0x00, 0x20, 0x00, 0x02, 0x00, 0x00, 0x00, //
-    0x00, 0x00, 0x00, 0x00, //
-    0x01, 0x00, 0x00, 0x00, 0x74, 0x00, 0x00, 0x00, 0x00, 0x00, 0x01, 0x00, 0x00, 0x00, 0x00, 0x00, //
-    0x0C, 0x00, 0x00, 0x00, 0x0C, 0x00, 0x00, 0x00, 0x05, 0x00, 0x00, 0x00, 0x00, 0x00, 0x00, 0x00, //
-    0x01, 0x00, 0x00, 0x00, 0x74, 0x00, 0x00, 0x00, 0x00, 0x00, 0x02, 0x00, 0x00, 0x00, 0x00, 0x00, //
-    0x00, 0x00, 0x00, 0x00, 0x00, 0x10, 0x00, 0x00, 0x06, 0x00, 0x00, 0x00, 0x00, 0x00, 0x00, 0x00, //
-    0x93, 0x08, 0x10, 0x00, 0x13, 0x05, 0x70, 0x00, 0x73, 0x00, 0x00, 0x00, //
-];
-
-/// Writes the letter A by the call write, and exits.
-const LETTER: [u32; 8] = [
-    0x0410_0293,
-    0x0051_0023,
-    0x0001_0513,
-    0x0010_0593,
-    0x00B0_0893,
-    0x0000_0073,
-    0x0010_0893,
-    0x0000_0073,
-];
 
 /// A program of one word that is no instruction: of zeros, FENCE.I, and SLLI with bit 25 set.
 static ILLEGAL: [u32; 3] = [0x0000_0000, 0x0000_100F, 0x0202_9293];
 
-/// How many workers a run is tried with. Their number changes no answer.
-static WORKERS: [u32; 3] = [1, 4, 64];
-
-/// A bound and a quantum, and how the run of the program ends whose third and last instruction is the call
-/// exit.
-static LIMITS: [(u64, Option<u64>, Stop); 9] = [
-    (MAX_BOUND, None, Stop::Exit),
-    (3, None, Stop::Exit),
-    (2, None, Stop::Bound(0x0001_0008)),
-    (1, None, Stop::Bound(0x0001_0004)),
-    (MAX_BOUND, Some(3), Stop::Exit),
-    (MAX_BOUND, Some(2), Stop::Exit),
-    (MAX_BOUND, Some(1), Stop::Exit),
+/// A bound and a quantum, and the pc at which the bound stops the program whose third and last instruction is the call exit,
+/// or none where it exits.
+static LIMITS: [(u64, Option<u64>, Option<u32>); 9] = [
+    (MAX_BOUND, None, None),
+    (3, None, None),
+    (2, None, Some(0x0001_0008)),
+    (1, None, Some(0x0001_0004)),
+    (MAX_BOUND, Some(3), None),
+    (MAX_BOUND, Some(2), None),
+    (MAX_BOUND, Some(1), None),
     // The bound is tested ahead of the quantum.
-    (2, Some(2), Stop::Bound(0x0001_0008)),
+    (2, Some(2), Some(0x0001_0008)),
     // The instructions of all its segments count.
-    (2, Some(1), Stop::Bound(0x0001_0008)),
+    (2, Some(1), Some(0x0001_0008)),
 ];
 
 /// Numbers outside their ranges: bound, quantum, workers.
@@ -63,24 +39,7 @@ static BAD_CONFIGS: [(u64, Option<u64>, u32); 6] = [
     (MAX_BOUND, Some(MAX_BOUND + 1), 1),
 ];
 
-/// How a run under limits ends.
-#[derive(Clone, Copy)]
-enum Stop {
-    /// By the call.
-    Exit,
-    /// By the bound, at this pc.
-    Bound(u32),
-}
-
-impl Stop {
-    fn answer(self) -> Ending {
-        match self {
-            Stop::Exit => ends(RunOutcome::Exit(7)),
-            Stop::Bound(pc) => ends(trap(pc, Cause::BoundReached, 0)),
-        }
-    }
-}
-
+/// A trap of thread 0.
 fn trap(pc: u32, cause: Cause, value: u32) -> RunOutcome {
     RunOutcome::Trap {
         thread: 0,
@@ -89,127 +48,86 @@ fn trap(pc: u32, cause: Cause, value: u32) -> RunOutcome {
     }
 }
 
-#[test]
-fn makes_a_file(rt: HostRuntime) -> Result<(), Fail> {
-    let file = elf_of(rt.alloc(), &SEVEN)?;
-    assert_eq!(rt; file.as_slice(), SEVEN_FILE.as_slice());
-    Ok(())
-}
-
-#[test]
-fn exits_or_stops_at_a_limit(rt: HostRuntime) -> Result<(), Fail> {
-    for (bound, quantum, ending) in LIMITS {
-        for workers in WORKERS {
-            let config = Config {
-                bound,
-                quantum,
-                workers,
-            };
-            let answer = answer(&rt, rt.alloc(), &SEVEN, &config)?;
-            assert_eq!(rt; answer, ending.answer(), "{bound} {quantum:?} {workers}");
-        }
-    }
-    Ok(())
-}
-
-#[test]
-fn traps_at_an_illegal_word(rt: HostRuntime) -> Result<(), Fail> {
-    for word in ILLEGAL {
-        for workers in WORKERS {
-            let answer = answer(&rt, rt.alloc(), &[word], &Config { workers, ..CONFIG })?;
-            let trap = trap(CODE, Cause::IllegalInstruction, word);
-            assert_eq!(rt; answer, ends(trap), "{word:08x} {workers}");
-        }
-    }
-    Ok(())
-}
-
-#[test]
-fn writes_a_letter(rt: HostRuntime) -> Result<(), Fail> {
-    let file = elf_of(rt.alloc(), &LETTER)?;
+/// Asserts how the runs of a file end under limits, with few and with many workers.
+fn assert_ends(
+    rt: &(impl Abort + Wait),
+    alloc: Global,
+    file: &[u8],
+    (bound, quantum): (u64, Option<u64>),
+    wanted: Ending,
+) {
     for workers in WORKERS {
-        let config = Config { workers, ..CONFIG };
-        let report = run(&rt, rt.alloc(), &file, &[], &config, &OpenGate)?;
-        assert_eq!(rt; report.outcome, RunOutcome::Exit(0), "{workers}");
-        assert_eq!(rt; report.output.as_slice(), b"A".as_slice(), "{workers}");
-    }
-    Ok(())
-}
-
-#[test]
-fn refuses_a_file_without_a_header(rt: HostRuntime) -> Result<(), Fail> {
-    let truncated = RunFault::Elf(ElfFault::Truncated);
-    for length in [0, 51] {
-        for workers in WORKERS {
-            let config = Config { workers, ..CONFIG };
-            let answer = ending_of(run(
-                &rt,
-                rt.alloc(),
-                &SEVEN_FILE[..length],
-                &[],
-                &config,
-                &OpenGate,
-            ));
-            assert_eq!(rt; answer, Err(truncated), "{length} {workers}");
-        }
-    }
-    assert_eq!(rt;
-        truncated.to_string(rt.alloc())?.as_str(),
-        "elf refused: 2 Truncated"
-    );
-    Ok(())
-}
-
-#[test]
-fn refuses_a_header_without_segments(rt: HostRuntime) -> Result<(), Fail> {
-    let mut header = SEVEN_FILE[..52].to_vec(rt.alloc())?;
-    assert_eq!(rt; header.len(), 52);
-    header[44] = 0;
-    for workers in WORKERS {
-        let config = Config { workers, ..CONFIG };
-        let answer = ending_of(run(&rt, rt.alloc(), &header, &[], &config, &OpenGate));
-        assert_eq!(rt; answer, Err(RunFault::Elf(ElfFault::BadEntry)), "{workers}");
-    }
-    Ok(())
-}
-
-/// The configuration is looked at ahead of the file and of the input.
-#[test]
-fn refuses_a_bad_configuration(rt: HostRuntime) -> Result<(), Fail> {
-    let input = vec![in rt.alloc(); 0; MAX_INPUT + 1]?;
-    for (bound, quantum, workers) in BAD_CONFIGS {
         let config = Config {
             bound,
             quantum,
             workers,
         };
-        for file in [SEVEN_FILE.as_slice(), [].as_slice()] {
-            for input in [[].as_slice(), input.as_slice()] {
-                let answer = ending_of(run(&rt, rt.alloc(), file, input, &config, &OpenGate));
-                assert_eq!(rt; answer, Err(RunFault::BadConfig), "{config:?}");
-            }
-        }
+        assert_eq!(rt; ending(rt, alloc, file, &[], &config), wanted, "{config:?}");
+    }
+}
+
+#[test]
+fn runs_stop_at_limits_and_illegal_words(rt: HostRuntime) -> Result<(), Fail> {
+    let file = SEVEN.file(rt.alloc())?;
+    for (bound, quantum, stop) in LIMITS {
+        let outcome = match stop {
+            None => RunOutcome::Exit(7),
+            Some(pc) => trap(pc, Cause::BoundReached, 0),
+        };
+        assert_ends(&rt, rt.alloc(), &file, (bound, quantum), ends(outcome));
+    }
+    for word in ILLEGAL {
+        let file = file_of(rt.alloc(), &[word])?;
+        let outcome = trap(CODE, Cause::IllegalInstruction, word);
+        assert_ends(&rt, rt.alloc(), &file, (MAX_BOUND, None), ends(outcome));
     }
     Ok(())
 }
 
-/// The input is looked at ahead of the file.
 #[test]
-fn refuses_a_large_input(rt: HostRuntime) -> Result<(), Fail> {
-    let input = vec![in rt.alloc(); 0; MAX_INPUT + 1]?;
-    assert_eq!(rt; input.len(), 16_777_217);
-    for file in [SEVEN_FILE.as_slice(), [].as_slice()] {
-        let answer = ending_of(run(&rt, rt.alloc(), file, &input, &CONFIG, &OpenGate));
-        assert_eq!(rt; answer, Err(RunFault::InputTooLarge));
-    }
-    let answer = ending_of(run(
+fn refuses_files(rt: HostRuntime) -> Result<(), Fail> {
+    let limits = (MAX_BOUND, None);
+    let file = SEVEN.file(rt.alloc())?;
+    let truncated = RunFault::Elf(ElfFault::Truncated);
+    assert_ends(&rt, rt.alloc(), &[], limits, Err(truncated));
+    assert_ends(
         &rt,
         rt.alloc(),
-        &SEVEN_FILE,
-        &input[1..],
-        &CONFIG,
-        &OpenGate,
-    ));
+        file.get(..51).ok_or("51 bytes")?,
+        limits,
+        Err(truncated),
+    );
+    let text = truncated.to_string(rt.alloc())?;
+    assert_eq!(rt; text.as_str(), "elf refused: 2 Truncated");
+    let mut header = file.get(..52).ok_or("a header")?.to_vec(rt.alloc())?;
+    *header.get_mut(44).ok_or("its number of segments")? = 0;
+    let fault = RunFault::Elf(ElfFault::BadEntry);
+    assert_ends(&rt, rt.alloc(), &header, limits, Err(fault));
+    Ok(())
+}
+
+/// The configuration is looked at ahead of the input, and the input ahead of the file.
+#[test]
+fn refuses_configurations_and_inputs(rt: HostRuntime) -> Result<(), Fail> {
+    let large = vec![in rt.alloc(); 0; MAX_INPUT + 1]?;
+    assert_eq!(rt; large.len(), 16_777_217);
+    let seven = SEVEN.file(rt.alloc())?;
+    for file in [seven.as_slice(), [].as_slice()] {
+        for (bound, quantum, workers) in BAD_CONFIGS {
+            let config = Config {
+                bound,
+                quantum,
+                workers,
+            };
+            for input in [[].as_slice(), large.as_slice()] {
+                let answer = ending(&rt, rt.alloc(), file, input, &config);
+                assert_eq!(rt; answer, Err(RunFault::BadConfig), "{config:?}");
+            }
+        }
+        let answer = ending(&rt, rt.alloc(), file, &large, &CONFIG);
+        assert_eq!(rt; answer, Err(RunFault::InputTooLarge));
+    }
+    let answer = ending(&rt, rt.alloc(), &seven, &large[1..], &CONFIG);
     assert_eq!(rt; answer, ends(RunOutcome::Exit(7)));
     Ok(())
 }

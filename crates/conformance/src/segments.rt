@@ -1,21 +1,9 @@
 //! Segments of instructions up to a stop, on the memory of an image.
 
-use crate::fixtures::{CODE, SEVEN, memory_of};
+use crate::fixtures::memory_of;
+use guest_programs::{CODE, LATE_TRAP, SEVEN};
 use hart::{Cause, Hart, Stepped, Stop, Trap, run_to_stop, step};
 use std::test::Fail;
-
-/// A loop that thread 1 runs, by its number in x11, 499,712 times with two instructions a turn, up to an
-/// EBREAK; thread 2 branches over it, to a word that is no instruction:
-/// `addi x5,x11,-1`, `bne x5,x0,20`, `lui x6,0x7a`, `addi x6,x6,-1`, `bne x6,x0,-4`, `ebreak`.
-const LOOP: [u32; 7] = [
-    0xFFF5_8293,
-    0x0002_9A63,
-    0x0007_A337,
-    0xFFF3_0313,
-    0xFE03_1EE3,
-    0x0010_0073,
-    0x0000_0000,
-];
 
 /// How many instructions are left and a quantum, and where the program stops whose third and last
 /// instruction is the ecall: the stop, how many were executed, and pc.
@@ -41,7 +29,7 @@ const BOUND: Stop = Stop::Trap(Trap {
 
 #[test]
 fn stops_at_the_first_reason(rt: HostRuntime) -> Result<(), Fail> {
-    let mut memory = memory_of(rt.alloc(), &SEVEN)?;
+    let mut memory = memory_of(rt.alloc(), &SEVEN.words(rt.alloc())?)?;
     for (left, quantum, stop, count, pc) in STOPS {
         let mut hart = Hart::new(CODE, 0, 0, 0);
         let end = run_to_stop(&mut hart, &mut memory, left, quantum)?;
@@ -53,7 +41,7 @@ fn stops_at_the_first_reason(rt: HostRuntime) -> Result<(), Fail> {
 
 #[test]
 fn steps_up_to_an_ecall(rt: HostRuntime) -> Result<(), Fail> {
-    let mut memory = memory_of(rt.alloc(), &SEVEN)?;
+    let mut memory = memory_of(rt.alloc(), &SEVEN.words(rt.alloc())?)?;
     let mut hart = Hart::new(CODE, 0, 0, 0);
     assert!(rt; matches!(step(&mut hart, &mut memory), Stepped::Next));
     assert_eq!(rt;
@@ -71,21 +59,18 @@ fn steps_up_to_an_ecall(rt: HostRuntime) -> Result<(), Fail> {
     Ok(())
 }
 
+/// Thread 1 of `late-trap` by its number in x11, and thread 2.
 #[test]
 fn counts_a_long_loop(rt: HostRuntime) -> Result<(), Fail> {
-    let mut memory = memory_of(rt.alloc(), &LOOP)?;
+    let mut memory = memory_of(rt.alloc(), &LATE_TRAP.words(rt.alloc())?)?;
     for (number, cause, count, pc) in [
-        (1, Cause::Breakpoint, 999_427, 0x0001_0014),
-        (2, Cause::IllegalInstruction, 2, 0x0001_0018),
+        (1, Cause::Breakpoint, 999_427, 0x0001_0060),
+        (2, Cause::IllegalInstruction, 2, 0x0001_0064),
     ] {
-        let mut hart = Hart::new(CODE, 0, 0, number);
-        let (stop, executed) = run_to_stop(&mut hart, &mut memory, 1 << 40, None)?;
-        assert_eq!(rt;
-            stop,
-            Stop::Trap(Trap { cause, value: 0 }),
-            "thread {number}"
-        );
-        assert_eq!(rt; (executed, hart.pc()), (count, pc), "thread {number}");
+        let mut hart = Hart::new(0x0001_004C, 0, 0, number);
+        let end = run_to_stop(&mut hart, &mut memory, 1 << 40, None)?;
+        let stop = Stop::Trap(Trap { cause, value: 0 });
+        assert_eq!(rt; (end, hart.pc()), ((stop, count), pc), "thread {number}");
     }
     Ok(())
 }

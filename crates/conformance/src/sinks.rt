@@ -2,20 +2,13 @@
 
 ghost use Rattle.std.specs.Prelude.{◌≡◌};
 
-use crate::fixtures::elf_of;
-use crate::worked::PRODUCTS;
+use guest_programs::{QUOTIENTS, TWO_WRITES};
 use runtime::{Config, Gate, MAX_BOUND, OpenGate, RunFault, RunOutcome, Sink, SinkFault, run_into};
 use std::sync::atomic::{AtomicU64, Ordering};
 use std::test::Fail;
 
-/// What `PRODUCTS` writes.
+/// What `quotients` writes.
 const OUTPUT: [u8; 8] = [0, 0, 0, 0x80, 0, 0, 0, 0x80];
-
-/// Writes the two words at its stack pointer by two calls, 8 bytes and 4 bytes, and ends with the status 3.
-const TWICE: &[u32] = &[
-    0x00010513, 0x00800593, 0x00B00893, 0x00000073, 0x00010513, 0x00400593, 0x00B00893, 0x00000073,
-    0x00100893, 0x00300513, 0x00000073,
-];
 
 /// As many instructions as a run may have, and no quantum.
 const fn config(workers: u32) -> Config {
@@ -112,7 +105,7 @@ impl Gate for Watching<'_> {
 
 #[test]
 fn output_is_sent_at_its_turn(rt: HostRuntime) -> Result<(), Fail> {
-    let file = elf_of(rt.alloc(), PRODUCTS)?;
+    let file = QUOTIENTS.file(rt.alloc())?;
     let taken = AtomicU64::new(0);
     let gate = Watching {
         taken: &taken,
@@ -131,7 +124,7 @@ fn output_is_sent_at_its_turn(rt: HostRuntime) -> Result<(), Fail> {
 
 #[test]
 fn sinks_take_all_in_pieces(rt: HostRuntime) -> Result<(), Fail> {
-    let file = elf_of(rt.alloc(), TWICE)?;
+    let file = TWO_WRITES.file(rt.alloc())?;
     for workers in [1, 2, 64] {
         for (most, puts) in [(1, 12), (3, 5), (5, 3), (8, 2), (100, 2)] {
             let mut sink = Pieces::new(most, u64::MAX);
@@ -153,7 +146,7 @@ fn sinks_take_all_in_pieces(rt: HostRuntime) -> Result<(), Fail> {
 
 #[test]
 fn a_failed_put_is_a_failed_write(rt: HostRuntime) -> Result<(), Fail> {
-    let file = elf_of(rt.alloc(), TWICE)?;
+    let file = TWO_WRITES.file(rt.alloc())?;
     // With three bytes at a time the puts are of 3, 3, 2, 3 and 1 bytes.
     for (fails_at, taken) in [(0, 0), (1, 3), (2, 6), (3, 8), (4, 11)] {
         let mut sink = Pieces::new(3, fails_at);

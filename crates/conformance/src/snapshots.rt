@@ -1,11 +1,14 @@
 //! Snapshots: what a clone keeps while the other one changes, pages mapped and taken away, and the memory of
 //! an image, compared with that of a whole memory.
 
-use crate::fixtures::{CODE, SEVEN, elf_of};
+use crate::memory_rows::{
+    Access, Cell, assert_bytes, assert_cells, assert_loads, assert_refuses, assert_same_loads,
+    store_all,
+};
 use elf32_reader::{Image, Segment, read};
+use guest_programs::{CODE, DATA, ECALL, EXIT, SEVEN};
 use paged_memory::*;
 use std::alloc::{AllocError, Global};
-use std::process::Abort;
 use std::sync::Arc;
 use std::test::Fail;
 
@@ -61,47 +64,92 @@ const PLACES: [u32; 20] = [
     0xFFFF_FFFF,
 ];
 
+/// Cells of `sample`.
+static CELLS: [Cell; 3] = [
+    (0x0002_0FFE, Some((1, Perm::READ_WRITE))),
+    (0x0002_1000, Some((3, Perm::READ_WRITE))),
+    (0x7FFF_FFFF, Some((0, Perm::READ_WRITE))),
+];
+
+/// Cells of `sample` with the page 0x21 replaced.
+static REPLACED: [Cell; 3] = [
+    (0x0002_0FFE, Some((1, Perm::READ_WRITE))),
+    (0x0002_1000, Some((0, READ))),
+    (0x0002_1FFF, Some((5, READ))),
+];
+
+/// Stores that a clone made before doesn't see.
+static STORES: [Access; 3] = [
+    (1, 0x0002_0000, 0x65),
+    (2, 0x0002_0002, 0x8765),
+    (4, 0x7FFF_FFFC, 0x1234_8765),
+];
+
+/// Bytes at one place of several pages of zeros, after stores to two of them.
+static APART: [(u32, Option<u8>); 6] = [
+    (0x2000_0010, Some(0)),
+    (0x2000_1010, Some(7)),
+    (0x2000_2010, Some(0)),
+    (0x2000_3010, None),
+    (0x7FFC_0010, Some(8)),
+    (0x7FFC_1010, Some(0)),
+];
+
+/// Bytes of pages that were mapped, taken away and stored to.
+static GROWN: [(u32, Option<u8>); 3] = [
+    (0x2000_2FFF, Some(0)),
+    (0x0002_1000, None),
+    (0x7FFC_0000, Some(7)),
+];
+
+/// The highest pages of the address space, mapped.
+static MAPPED: [Cell; 3] = [
+    (0xFFF7_EFFF, None),
+    (0xFFF7_F000, Some((0, READ))),
+    (0xFFFF_FFFF, Some((0, READ))),
+];
+
+/// All but the first and the last of them taken away.
+static UNMAPPED: [Cell; 4] = [
+    (0xFFF7_FFFF, Some((0, READ))),
+    (0xFFF8_0000, None),
+    (0xFFFF_EFFF, None),
+    (0xFFFF_F000, Some((0, READ))),
+];
+
+/// One mapped between them.
+static ONE_PAGE: [Cell; 2] = [
+    (0xFFFF_0000, Some((0, Perm::READ_WRITE))),
+    (0xFFFF_1000, None),
+];
+
 #[test]
-fn maps_an_image_as_a_whole_memory_does(rt: HostRuntime) -> Result<(), Fail> {
+fn is_as_a_whole_memory(rt: HostRuntime) -> Result<(), Fail> {
     let image = sample(rt.alloc())?;
-    let snapshot = Snapshot::of_image(rt.alloc(), &image)?;
+    let mut snapshot = Snapshot::of_image(rt.alloc(), &image)?;
     let whole = WholeMemory::of_image(rt.alloc(), &image)?;
+    assert_same_loads(&rt, &snapshot, &whole, &PLACES);
     for address in PLACES {
-        let cell = (snapshot.byte(address), snapshot.perm(address));
-        assert_eq!(rt;
-            cell,
-            (whole.byte(address), whole.perm(address)),
-            "{address:x}"
-        );
-        assert_eq!(rt;
-            snapshot.load8(address),
-            whole.load8(address),
-            "{address:x}"
-        );
-        assert_eq!(rt;
-            snapshot.load16(address),
-            whole.load16(address),
-            "{address:x}"
-        );
-        assert_eq!(rt;
-            snapshot.load32(address),
-            whole.load32(address),
-            "{address:x}"
-        );
+        let wanted = (whole.byte(address), whole.perm(address));
+        assert_eq!(rt; cell(&snapshot, address), wanted, "{address:x}");
     }
-    assert_eq!(rt; snapshot.byte(0x0002_0FFE), Some(1));
-    assert_eq!(rt; snapshot.byte(0x0002_1000), Some(3));
-    assert_eq!(rt; snapshot.perm(0x7FFF_FFFF), Some(Perm::READ_WRITE));
+    assert_cells(&rt, &snapshot, &CELLS);
+    assert_refuses(
+        &rt,
+        &mut snapshot,
+        &[0x0001_0000, 0x0002_3FFC, 0x0002_4000, 0x8000_0000],
+    );
+    assert_loads(&rt, &snapshot, &[(4, 0x0001_0000, 0x02A0_0513)]);
     Ok(())
 }
 
 #[test]
 fn fetches_the_code_of_a_file(rt: HostRuntime) -> Result<(), Fail> {
-    let file = elf_of(rt.alloc(), &SEVEN)?;
+    let file = SEVEN.file(rt.alloc())?;
     let snapshot = Snapshot::of_image(rt.alloc(), &read(rt.alloc(), &file)?)?;
-    assert_eq!(rt; snapshot.fetch(CODE), Some(SEVEN[0]));
-    assert_eq!(rt; snapshot.fetch(CODE + 8), Some(SEVEN[2]));
-    assert_eq!(rt; snapshot.fetch(0x0002_0000), None);
+    for (address, word) in [(CODE, Some(EXIT[0])), (CODE + 8, Some(ECALL)), (DATA, None)] {
+        assert_eq!(rt; snapshot.fetch(address), word, "{address:x}");
+    }
     Ok(())
 }
 
@@ -110,21 +158,23 @@ fn a_clone_keeps_what_it_had(rt: HostRuntime) -> Result<(), Fail> {
     let mut now = Snapshot::of_image(rt.alloc(), &sample(rt.alloc())?)?;
     let before = now.try_clone()?;
     let other = before.try_clone()?;
-    assert!(rt; now.store8(0x0002_0000, 0x65).is_ok());
-    assert!(rt; now.store16(0x0002_0002, 0x8765).is_ok());
-    assert!(rt; now.store32(0x7FFF_FFFC, 0x1234_8765).is_ok());
+    store_all(&rt, &mut now, &STORES);
     now.map_zero(0x2_0000, 2, READ)?;
     now.unmap(0x23, 1)?;
     for kept in [before, other] {
-        assert_eq!(rt; kept.load32(0x0002_0000), Ok(0));
-        assert_eq!(rt; kept.load32(0x7FFF_FFFC), Ok(0));
-        assert_eq!(rt; kept.perm(0x2000_0000), None);
-        assert_eq!(rt; kept.byte(0x0002_3FFF), Some(9));
+        assert_loads(&rt, &kept, &[(4, 0x0002_0000, 0), (4, 0x7FFF_FFFC, 0)]);
+        assert_bytes(&rt, &kept, &[(0x2000_0000, None), (0x0002_3FFF, Some(9))]);
     }
-    assert_eq!(rt; now.load32(0x0002_0000), Ok(0x8765_0065));
-    assert_eq!(rt; now.load32(0x7FFF_FFFC), Ok(0x1234_8765));
-    assert_eq!(rt; now.perm(0x2000_1FFF), Some(READ));
-    assert_eq!(rt; now.byte(0x0002_3FFF), None);
+    assert_loads(
+        &rt,
+        &now,
+        &[(4, 0x0002_0000, 0x8765_0065), (4, 0x7FFF_FFFC, 0x1234_8765)],
+    );
+    assert_cells(
+        &rt,
+        &now,
+        &[(0x2000_1FFF, Some((0, READ))), (0x0002_3FFF, None)],
+    );
     Ok(())
 }
 
@@ -132,19 +182,12 @@ fn a_clone_keeps_what_it_had(rt: HostRuntime) -> Result<(), Fail> {
 fn two_pages_of_zeros_are_two_pages(rt: HostRuntime) -> Result<(), Fail> {
     let mut memory = Snapshot::of_image(rt.alloc(), &sample(rt.alloc())?)?;
     memory.map_zero(0x2_0000, 3, Perm::READ_WRITE)?;
-    assert!(rt; memory.store8(0x2000_1010, 7).is_ok());
-    assert!(rt; memory.store8(0x7FFC_0010, 8).is_ok());
-    let bytes = [
-        (0x2000_0010, Some(0)),
-        (0x2000_1010, Some(7)),
-        (0x2000_2010, Some(0)),
-        (0x2000_3010, None),
-        (0x7FFC_0010, Some(8)),
-        (0x7FFC_1010, Some(0)),
-    ];
-    for (address, byte) in bytes {
-        assert_eq!(rt; memory.byte(address), byte, "{address:x}");
-    }
+    store_all(
+        &rt,
+        &mut memory,
+        &[(1, 0x2000_1010, 7), (1, 0x7FFC_0010, 8)],
+    );
+    assert_bytes(&rt, &memory, &APART);
     Ok(())
 }
 
@@ -152,58 +195,14 @@ fn two_pages_of_zeros_are_two_pages(rt: HostRuntime) -> Result<(), Fail> {
 fn maps_and_takes_away_exactly_the_named_pages(rt: HostRuntime) -> Result<(), Fail> {
     let mut memory = Snapshot::of_image(rt.alloc(), &sample(rt.alloc())?)?;
     memory.map_zero(0xF_FF7F, 0x81, READ)?;
-    is_mapped(&rt, &memory, 0xFFF7_EFFF, None);
-    is_mapped(&rt, &memory, 0xFFF7_F000, Some(READ));
-    is_mapped(&rt, &memory, 0xFFFF_FFFF, Some(READ));
+    assert_cells(&rt, &memory, &MAPPED);
     memory.unmap(0xF_FF80, 0x7F)?;
-    is_mapped(&rt, &memory, 0xFFF7_FFFF, Some(READ));
-    is_mapped(&rt, &memory, 0xFFF8_0000, None);
-    is_mapped(&rt, &memory, 0xFFFF_EFFF, None);
-    is_mapped(&rt, &memory, 0xFFFF_F000, Some(READ));
+    assert_cells(&rt, &memory, &UNMAPPED);
     memory.map_zero(0xF_FFF0, 1, Perm::READ_WRITE)?;
-    is_mapped(&rt, &memory, 0xFFFF_0000, Some(Perm::READ_WRITE));
-    is_mapped(&rt, &memory, 0xFFFF_1000, None);
+    assert_cells(&rt, &memory, &ONE_PAGE);
     memory.unmap(0xF_FFF0, 0)?;
-    is_mapped(&rt, &memory, 0xFFFF_0000, Some(Perm::READ_WRITE));
+    assert_cells(&rt, &memory, &ONE_PAGE);
     Ok(())
-}
-
-fn is_mapped(rt: &impl Abort, memory: &Snapshot, address: u32, perm: Option<Perm>) {
-    assert_eq!(rt; memory.perm(address), perm, "{address:x}");
-    assert_eq!(rt; memory.byte(address), perm.map(|_| 0), "{address:x}");
-}
-
-#[test]
-fn refuses_as_a_whole_memory_does(rt: HostRuntime) -> Result<(), Fail> {
-    let image = sample(rt.alloc())?;
-    let mut memory = Snapshot::of_image(rt.alloc(), &image)?;
-    for address in [0x0001_0000, 0x0002_3FFC, 0x0002_4000, 0x8000_0000] {
-        assert!(rt;
-            is_refused(memory.store8(address, 7), AccessFault::Denied),
-            "{address:x}"
-        );
-        assert!(rt;
-            is_refused(memory.store32(address, 7), AccessFault::Denied),
-            "{address:x}"
-        );
-        assert!(rt;
-            is_refused(memory.store16(address + 1, 7), AccessFault::Misaligned),
-            "{address:x}"
-        );
-        assert!(rt;
-            is_refused(memory.store32(address + 2, 7), AccessFault::Misaligned),
-            "{address:x}"
-        );
-    }
-    assert_eq!(rt; memory.load32(0x0001_0000), Ok(0x02A0_0513));
-    Ok(())
-}
-
-fn is_refused(answer: Result<(), StoreFault>, wanted: AccessFault) -> bool {
-    match answer {
-        Err(StoreFault::Refused(fault)) => fault == wanted,
-        _ => false,
-    }
 }
 
 #[test]
@@ -213,17 +212,12 @@ fn lends_and_replaces_a_page(rt: HostRuntime) -> Result<(), Fail> {
     let mut bytes = [0; 4096];
     bytes[4095] = 5;
     let page = Arc::new(rt.alloc(), Page::new(READ, bytes))?;
-    assert_eq!(rt; memory.perm(0x0002_1000), Some(Perm::READ_WRITE));
-    assert!(rt; memory.page(0x21).is_some());
+    assert_cells(&rt, &memory, &CELLS);
     memory.replace(0x21, page)?;
-    assert_eq!(rt; memory.byte(0x0002_1FFF), Some(5));
-    assert_eq!(rt; memory.byte(0x0002_1000), Some(0));
-    assert_eq!(rt; memory.perm(0x0002_1000), Some(READ));
-    assert_eq!(rt; memory.byte(0x0002_0FFE), Some(1));
-    assert_eq!(rt; before.byte(0x0002_1000), Some(3));
+    assert_cells(&rt, &memory, &REPLACED);
+    assert_cells(&rt, &before, &CELLS);
     let lent = before.page(0x21).ok_or("page 0x21")?;
-    assert_eq!(rt; lent.bytes()[0], 3);
-    assert_eq!(rt; lent.perm(), Perm::READ_WRITE);
+    assert_eq!(rt; (lent.bytes()[0], lent.perm()), (3, Perm::READ_WRITE));
     assert!(rt; before.page(0x24).is_none());
     Ok(())
 }
@@ -264,8 +258,6 @@ fn a_refused_growth_changes_nothing(rt: HostRuntime) -> Result<(), Fail> {
         assert!(rt; now.store8(0x7FFC_0000, 7).is_ok());
     }
     assert!(rt; is_same(&kept, &start));
-    assert_eq!(rt; now.byte(0x2000_2FFF), Some(0));
-    assert_eq!(rt; now.byte(0x0002_1000), None);
-    assert_eq!(rt; now.byte(0x7FFC_0000), Some(7));
+    assert_bytes(&rt, &now, &GROWN);
     Ok(())
 }

@@ -1,97 +1,39 @@
 //! The calls of a hart, and the table of threads: create, join, a thread's end and the lists.
 
-use abi::{Call, Code, Reply};
+use abi::{Code, Reply};
 use ecalls::{call_of, finish};
 use hart::Hart;
 use std::process::Abort;
+use std::test::Fail;
 use thread_table::{Status, Thread, Threads};
 
 /// What x10, x11 and x12 hold at each call.
 const ARGUMENTS: [u32; 3] = [0xA000_0001, 0xB000_0002, 0xC000_0003];
 
-/// Each call's number, and the call.
-static CALLS: [(u32, Call); 19] = [
-    (0, Call::Unknown { number: 0 }),
-    (
-        1,
-        Call::Exit {
-            status: 0xA000_0001,
-        },
-    ),
-    (2, Call::ThreadExit { value: 0xA000_0001 }),
+/// Each call's number, and the call as it is shown with these.
+static CALLS: [(u32, &str); 19] = [
+    (0, "Unknown { number: 0 }"),
+    (1, "Exit { status: 2684354561 }"),
+    (2, "ThreadExit { value: 2684354561 }"),
     (
         3,
-        Call::Create {
-            entry: 0xA000_0001,
-            argument: 0xB000_0002,
-            stack_pointer: 0xC000_0003,
-        },
+        "Create { entry: 2684354561, argument: 2952790018, stack_pointer: 3221225475 }",
     ),
-    (
-        4,
-        Call::Join {
-            thread: 0xA000_0001,
-        },
-    ),
-    (5, Call::Lock { mutex: 0xA000_0001 }),
-    (6, Call::Unlock { mutex: 0xA000_0001 }),
-    (
-        7,
-        Call::Wait {
-            condition: 0xA000_0001,
-            mutex: 0xB000_0002,
-        },
-    ),
-    (
-        8,
-        Call::Signal {
-            condition: 0xA000_0001,
-        },
-    ),
-    (
-        9,
-        Call::Broadcast {
-            condition: 0xA000_0001,
-        },
-    ),
-    (
-        10,
-        Call::Barrier {
-            barrier: 0xA000_0001,
-            count: 0xB000_0002,
-        },
-    ),
-    (
-        11,
-        Call::Write {
-            address: 0xA000_0001,
-            length: 0xB000_0002,
-        },
-    ),
-    (
-        12,
-        Call::Read {
-            address: 0xA000_0001,
-            length: 0xB000_0002,
-        },
-    ),
-    (13, Call::Memory { pages: 0xA000_0001 }),
-    (14, Call::Sync),
-    (
-        15,
-        Call::Release {
-            address: 0xA000_0001,
-            pages: 0xB000_0002,
-        },
-    ),
-    (16, Call::Unknown { number: 16 }),
-    (260, Call::Unknown { number: 260 }),
-    (
-        0xFFFF_FFFF,
-        Call::Unknown {
-            number: 0xFFFF_FFFF,
-        },
-    ),
+    (4, "Join { thread: 2684354561 }"),
+    (5, "Lock { mutex: 2684354561 }"),
+    (6, "Unlock { mutex: 2684354561 }"),
+    (7, "Wait { condition: 2684354561, mutex: 2952790018 }"),
+    (8, "Signal { condition: 2684354561 }"),
+    (9, "Broadcast { condition: 2684354561 }"),
+    (10, "Barrier { barrier: 2684354561, count: 2952790018 }"),
+    (11, "Write { address: 2684354561, length: 2952790018 }"),
+    (12, "Read { address: 2684354561, length: 2952790018 }"),
+    (13, "Memory { pages: 2684354561 }"),
+    (14, "Sync"),
+    (15, "Release { address: 2684354561, pages: 2952790018 }"),
+    (16, "Unknown { number: 16 }"),
+    (260, "Unknown { number: 260 }"),
+    (0xFFFF_FFFF, "Unknown { number: 4294967295 }"),
 ];
 
 /// A code and a value, the old pc, and what x10, x11 and pc are after the call. x11 was 0xB0000002.
@@ -212,10 +154,12 @@ fn assert_threads(rt: &impl Abort, threads: &Threads, statuses: &[Status]) {
 }
 
 #[test]
-fn names_calls(rt: HostRuntime) {
-    for (number, call) in CALLS {
-        assert_eq!(rt; call_of(&hart_at(number, ARGUMENTS)), call, "{number}");
+fn names_calls(rt: HostRuntime) -> Result<(), Fail> {
+    for (number, shown) in &CALLS {
+        let call = call_of(&hart_at(*number, ARGUMENTS));
+        assert_eq!(rt; format!(in rt.alloc(); "{call:?}")?.as_str(), *shown);
     }
+    Ok(())
 }
 
 #[test]

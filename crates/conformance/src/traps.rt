@@ -1,8 +1,10 @@
 //! Instructions that trap. Each stands at 0x00010010, with 9 in x5; the tables give the word, what x6 holds,
 //! and the trap's value.
 
-use crate::fixtures::{CODE, CONFIG, answer, ends, memory_of, operands};
+use crate::fixtures::{answer_on, ends, memory_of};
+use guest_programs::{CODE, DATA};
 use hart::{Cause, Hart, Stepped, Trap, step};
+use paged_memory::WholeMemory;
 use runtime::RunOutcome;
 use std::alloc::Global;
 use std::process::Abort;
@@ -101,124 +103,80 @@ fn by_cause() -> [(Cause, &'static [(u32, u32, u32)]); 7] {
     ]
 }
 
-#[test]
-fn a_trap_ends_the_run(rt: HostRuntime) -> Result<(), Fail> {
-    for (cause, rows) in by_cause() {
-        runs_to_traps(&rt, rt.alloc(), cause, rows)?;
-    }
-    Ok(())
-}
-
-/// Asserts that the runs of programs that put the words into x5 and x6 first end so.
-fn runs_to_traps(
-    rt: &(impl Abort + Wait),
-    alloc: Global,
-    cause: Cause,
-    rows: &[(u32, u32, u32)],
-) -> Result<(), Fail> {
-    for (word, x6, value) in rows {
-        let [w0, w1, w2, w3] = operands(9, *x6);
-        let answer = answer(rt, alloc, &[w0, w1, w2, w3, *word], &CONFIG)?;
-        let trap = RunOutcome::Trap {
-            thread: 0,
-            pc: 0x0001_0010,
-            trap: Trap {
-                cause,
-                value: *value,
-            },
-        };
-        assert_eq!(rt; answer, ends(trap), "{word:08x} of {x6:x}");
-    }
-    Ok(())
-}
-
-#[test]
-fn a_trap_changes_no_register(rt: HostRuntime) -> Result<(), Fail> {
-    for (cause, rows) in by_cause() {
-        steps_to_traps(&rt, rt.alloc(), cause, rows)?;
-    }
-    Ok(())
-}
-
-/// Asserts that the instructions trap so by themselves, and leave the hart as it was.
-fn steps_to_traps(
+/// The trap of an instruction at a pc in a memory, with x5 and x6. The hart stays as it was.
+fn trap_at(
     rt: &impl Abort,
-    alloc: Global,
-    cause: Cause,
-    rows: &[(u32, u32, u32)],
-) -> Result<(), Fail> {
-    for (word, x6, value) in rows {
-        let mut memory = memory_of(alloc, &[0, 0, 0, 0, *word])?;
-        let mut hart = Hart::new(0x0001_0010, 0, 0, 0);
-        hart.set_reg(5, 9);
-        hart.set_reg(6, *x6);
-        let before = hart;
-        let trap = trap_of(&step(&mut hart, &mut memory));
-        let wanted = Trap {
-            cause,
-            value: *value,
-        };
-        assert_eq!(rt; trap, Some(wanted), "{word:08x} of {x6:x}");
-        assert_eq!(rt; hart, before, "{word:08x}");
-    }
-    Ok(())
-}
-
-#[test]
-fn a_fetch_may_trap(rt: HostRuntime) -> Result<(), Fail> {
-    let mut memory = memory_of(rt.alloc(), &[0])?;
-    for pc in NOT_EXECUTABLE {
-        assert_eq!(rt; pc % 4, 0);
-        let mut hart = Hart::new(pc, 0, 0, 0);
-        let trap = Trap {
-            cause: Cause::FetchDenied,
-            value: pc,
-        };
-        let stepped = step(&mut hart, &mut memory);
-        assert_eq!(rt; trap_of(&stepped), Some(trap), "{pc:x}");
-        assert_eq!(rt; hart, Hart::new(pc, 0, 0, 0));
-    }
-    Ok(())
-}
-
-/// A jump to an address that is a multiple of 4 is made, and the fetch there traps.
-#[test]
-fn a_jump_out_of_the_code_traps_at_its_target(rt: HostRuntime) -> Result<(), Fail> {
-    let [w0, w1, ..] = operands(0x0002_0000, 0);
-    let answer = answer(&rt, rt.alloc(), &[w0, w1, 0x0002_8067], &CONFIG)?;
-    let trap = RunOutcome::Trap {
-        thread: 0,
-        pc: 0x0002_0000,
-        trap: Trap {
-            cause: Cause::FetchDenied,
-            value: 0x0002_0000,
-        },
-    };
-    assert_eq!(rt; answer, ends(trap));
-    Ok(())
-}
-
-/// `sw x6,0(x5)` where that is refused.
-#[test]
-fn a_trap_changes_no_byte(rt: HostRuntime) -> Result<(), Fail> {
-    let mut memory = memory_of(rt.alloc(), &[0x0062_A023])?;
-    for address in [CODE, 0x0002_0002, 0x0002_1000] {
-        let mut hart = Hart::new(CODE, 0, 0, 0);
-        hart.set_reg(5, address);
-        hart.set_reg(6, 0xFFFF_FFFF);
-        let before = memory.byte(address);
-        assert!(rt;
-            trap_of(&step(&mut hart, &mut memory)).is_some(),
-            "{address:x}"
-        );
-        assert_eq!(rt; memory.byte(address), before, "{address:x}");
-    }
-    Ok(())
-}
-
-fn trap_of(stepped: &Stepped) -> Option<Trap> {
+    memory: &mut WholeMemory,
+    pc: u32,
+    (x5, x6): (u32, u32),
+) -> Option<Trap> {
+    assert!(rt; pc % 4 == 0);
+    let mut hart = Hart::new(pc, 0, 0, 0);
+    hart.set_reg(5, x5);
+    hart.set_reg(6, x6);
+    let before = hart;
+    let stepped = step(&mut hart, memory);
+    assert_eq!(rt; hart, before, "{pc:x} {x5:x} {x6:x}");
     match stepped {
-        Stepped::Trap(trap) => Some(*trap),
+        Stepped::Trap(trap) => Some(trap),
         Stepped::Next | Stepped::Ecall | Stepped::OutOfMemory(_) => None,
     }
+}
+
+/// Asserts that an instruction traps so by itself, and that a program ends so that puts the words into x5 and x6 first.
+fn assert_traps(
+    rt: &(impl Abort + Wait),
+    alloc: Global,
+    trap: Trap,
+    word: u32,
+    x6: u32,
+) -> Result<(), Fail> {
+    let mut memory = memory_of(alloc, &[0, 0, 0, 0, word])?;
+    let stepped = trap_at(rt, &mut memory, 0x0001_0010, (9, x6));
+    assert_eq!(rt; stepped, Some(trap), "{word:08x} of {x6:x}");
+    let outcome = RunOutcome::Trap {
+        thread: 0,
+        pc: 0x0001_0010,
+        trap,
+    };
+    let answer = answer_on(rt, alloc, (9, x6), &[word])?;
+    assert_eq!(rt; answer, ends(outcome), "{word:08x} of {x6:x}");
+    Ok(())
+}
+
+#[test]
+fn instructions_trap(rt: HostRuntime) -> Result<(), Fail> {
+    for (cause, rows) in by_cause() {
+        for (word, x6, value) in rows {
+            let value = *value;
+            assert_traps(&rt, rt.alloc(), Trap { cause, value }, *word, *x6)?;
+        }
+    }
+    Ok(())
+}
+
+/// A jump to an address that is a multiple of 4 is made, and the fetch there traps. A refused store, `sw x6,0(x5)`, changes no
+/// byte.
+#[test]
+fn fetches_trap_and_refused_stores_change_nothing(rt: HostRuntime) -> Result<(), Fail> {
+    let mut memory = memory_of(rt.alloc(), &[0x0062_A023])?;
+    let cause = Cause::FetchDenied;
+    for value in NOT_EXECUTABLE {
+        let trap = trap_at(&rt, &mut memory, value, (0, 0));
+        assert_eq!(rt; trap, Some(Trap { cause, value }), "{value:x}");
+    }
+    for address in [CODE, 0x0002_0002, 0x0002_1000] {
+        let before = memory.byte(address);
+        let trap = trap_at(&rt, &mut memory, CODE, (address, 0xFFFF_FFFF));
+        assert!(rt; trap.is_some(), "{address:x}");
+        assert_eq!(rt; memory.byte(address), before, "{address:x}");
+    }
+    let outcome = RunOutcome::Trap {
+        thread: 0,
+        pc: DATA,
+        trap: Trap { cause, value: DATA },
+    };
+    let answer = answer_on(&rt, rt.alloc(), (DATA, 0), &[0x0002_8067])?;
+    assert_eq!(rt; answer, ends(outcome));
+    Ok(())
 }

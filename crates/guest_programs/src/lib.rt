@@ -4,8 +4,11 @@
 //! compares texts.
 #![tactic(auto)]
 
+mod answer;
 mod elf_file;
 mod ending;
+mod full_outputs;
+mod instructions;
 mod limits;
 mod measured;
 mod objects;
@@ -15,28 +18,35 @@ mod part;
 mod program;
 mod run;
 mod shared_bytes;
+mod single_call;
 mod threads;
 
+pub use answer::Answer;
 pub use elf_file::{CODE, DATA, ProgramHeader, file_of, file_of_headers};
 pub use ending::Ending;
+pub use full_outputs::RUNS as FULL_OUTPUTS;
+pub use instructions::{ECALL, EXIT, load, operands};
+pub use limits::RUNS as LIMITS;
 pub use measured::{COUNTING, MEASURED, MIXED, TURNS};
-pub use objects::SIGNAL;
-pub use one_thread::{ECHO, LETTER, QUOTIENTS, SEVEN, TWO_WRITES};
+pub use objects::{RUNS as OBJECTS, SIGNAL};
+pub use one_thread::{ECHO, LETTER, QUOTIENTS, RUNS as ONE_THREAD, SEVEN, TWO_WRITES};
 pub use output::Output;
 pub use part::Part;
 pub use program::Program;
 pub use run::Run;
-pub use shared_bytes::{LATE_TRAP, RACE};
-pub use threads::RELEASE_RACE;
+pub use shared_bytes::{LATE_TRAP, RACE, RUNS as SHARED_BYTES};
+pub use single_call::{SingleCall, single_calls};
+pub use threads::{RELEASE_RACE, RUNS as THREADS};
 
 /// The runs, in tables by topic.
-pub fn runs() -> [&'static [Run]; 5] {
+pub fn runs() -> [&'static [Run]; 6] {
     [
-        one_thread::RUNS.as_slice(),
-        shared_bytes::RUNS.as_slice(),
-        threads::RUNS.as_slice(),
-        objects::RUNS.as_slice(),
-        limits::RUNS.as_slice(),
+        ONE_THREAD.as_slice(),
+        SHARED_BYTES.as_slice(),
+        THREADS.as_slice(),
+        OBJECTS.as_slice(),
+        LIMITS.as_slice(),
+        FULL_OUTPUTS.as_slice(),
     ]
 }
 

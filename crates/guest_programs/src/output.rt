@@ -1,3 +1,6 @@
+/// As many zeros as are compared at once.
+static ZEROS: [u8; 4096] = [0; 4096];
+
 /// What a run writes.
 #[derive(Clone, Copy, Debug)]
 pub enum Output {
@@ -11,7 +14,10 @@ impl Output {
     pub fn is(&self, bytes: &[u8]) -> bool {
         match self {
             Output::Bytes(wanted) => bytes == *wanted,
-            Output::Zeros(count) => bytes.len() == *count && bytes.iter().all(|byte| *byte == 0),
+            Output::Zeros(count) => bytes.len() == *count
+                && bytes
+                    .chunks(ZEROS.len())
+                    .all(|piece| ZEROS.starts_with(piece)),
         }
     }
 }

@@ -1,9 +1,8 @@
 //! Writes that fail at any place: what was written before, that nothing is written after, and the line.
 
 use super::perform;
-use super::program_file::program_file;
-use super::worked_runs::{LETTER, PRODUCTS, RACE};
 use crate::fakes::{FaultyWriter, MemoryFiles};
+use guest_programs::{LETTER, QUOTIENTS, RACE};
 use runtime::WriteSink;
 use std::alloc::{AllocError, Global};
 use std::io;
@@ -16,7 +15,7 @@ const RUN: [&str; 7] = [
 ];
 
 /// How many writes and flushes succeed, how many bytes each write takes, and how many of the eight bytes of
-/// `products` are written, where some fail.
+/// `quotients` are written, where some fail.
 static FAILING_OUTPUTS: [(u32, u32, usize, usize); 9] = [
     (0, 9, 3, 0),
     (1, 9, 3, 3),
@@ -31,7 +30,7 @@ static FAILING_OUTPUTS: [(u32, u32, usize, usize); 9] = [
 
 #[test]
 fn standard_output_that_fails(rt: HostRuntime) -> Result<(), Fail> {
-    let program = program_file(rt.alloc(), PRODUCTS)?;
+    let program = QUOTIENTS.file(rt.alloc())?;
     for (good_writes, good_flushes, most, written) in FAILING_OUTPUTS {
         let mut files = MemoryFiles::with_old_files(rt.alloc(), program.as_slice())?;
         let mut stdout = faulty(rt.alloc(), good_writes, good_flushes, most);
@@ -51,7 +50,7 @@ fn standard_output_that_fails(rt: HostRuntime) -> Result<(), Fail> {
 
 #[test]
 fn pieces_are_flushed_one_by_one(rt: HostRuntime) -> Result<(), Fail> {
-    let program = program_file(rt.alloc(), PRODUCTS)?;
+    let program = QUOTIENTS.file(rt.alloc())?;
     let mut files = MemoryFiles::with_old_files(rt.alloc(), program.as_slice())?;
     let mut stdout = faulty(rt.alloc(), 3, 9, 3);
     check(&rt, &RUN, &mut files, &mut stdout, 0, "")?;
@@ -66,7 +65,7 @@ fn a_failed_write_stands_alone_beside_a_trap(rt: HostRuntime) -> Result<(), Fail
     let arguments = [
         "dthreads", "run", "a.elf", "--bound", "6", "--trace", "trace",
     ];
-    let program = program_file(rt.alloc(), LETTER)?;
+    let program = LETTER.file(rt.alloc())?;
     let mut files = MemoryFiles::with_old_files(rt.alloc(), program.as_slice())?;
     let mut stdout = faulty(rt.alloc(), 0, 9, 1);
     check(
@@ -104,7 +103,7 @@ fn a_failed_write_stands_alone_beside_a_trap(rt: HostRuntime) -> Result<(), Fail
 
 #[test]
 fn records_that_cannot_be_written(rt: HostRuntime) -> Result<(), Fail> {
-    let program = program_file(rt.alloc(), RACE)?;
+    let program = RACE.file(rt.alloc())?;
     let mut files = MemoryFiles::with_old_files(rt.alloc(), program.as_slice())?;
     let mut stdout = faulty(rt.alloc(), 9, 9, 1);
     files.good_writes = 0;

@@ -2,9 +2,8 @@
 
 use super::perform;
 use super::performed::Performed;
-use super::program_file::program_file;
-use super::worked_runs::SEVEN;
 use crate::fakes::{EndlessFiles, EndlessReader, FailingWriter, MemoryFiles};
+use guest_programs::SEVEN;
 use runtime::WriteSink;
 use std::io;
 use std::test::Fail;
@@ -14,7 +13,7 @@ const DISASM: [&str; 3] = ["dthreads", "disasm", "a.elf"];
 #[test]
 fn prints_a_listing_and_reads_no_input(rt: HostRuntime) -> Result<(), Fail> {
     let alloc = rt.alloc();
-    let file = program_file(alloc, SEVEN)?;
+    let file = SEVEN.file(alloc)?;
     let mut files = MemoryFiles::new(alloc, file.as_slice());
     let listing = "00010000: 00100893 addi x17,x0,1
 00010004: 00700513 addi x10,x0,7
@@ -28,7 +27,7 @@ fn prints_a_listing_and_reads_no_input(rt: HostRuntime) -> Result<(), Fail> {
 #[test]
 fn a_file_without_a_listing_is_refused(rt: HostRuntime) -> Result<(), Fail> {
     let alloc = rt.alloc();
-    let file = program_file(alloc, SEVEN)?;
+    let file = SEVEN.file(alloc)?;
     for (length, line) in [
         (51, "elf refused: 2 Truncated\n"),
         (52, "elf refused: 12 TableOutside\n"),
@@ -53,7 +52,7 @@ fn a_file_without_a_listing_is_refused(rt: HostRuntime) -> Result<(), Fail> {
 #[test]
 fn a_listing_that_is_not_written_is_a_failure(rt: HostRuntime) -> Result<(), Fail> {
     let alloc = rt.alloc();
-    let file = program_file(alloc, SEVEN)?;
+    let file = SEVEN.file(alloc)?;
     let mut files = MemoryFiles::new(alloc, file.as_slice());
     let mut stderr = Vec::new(alloc);
     let status = perform(

@@ -3,6 +3,7 @@
 use crate::files::Files;
 use crate::perform::perform;
 use runtime::WriteSink;
+use std::convert::AsStr;
 use std::io::Read;
 use std::process::Abort;
 use std::sync::Wait;
@@ -17,9 +18,9 @@ pub struct Performed {
 
 impl Performed {
     /// Does what the arguments ask for.
-    pub fn new<H: AllocGlobal + Wait, F: Files, R: Read>(
+    pub fn new<H: AllocGlobal + Wait, S: AsStr, F: Files, R: Read>(
         rt: &H,
-        arguments: &[&str],
+        arguments: &[S],
         files: &mut F,
         stdin: &mut R,
     ) -> Self {
@@ -31,6 +32,14 @@ impl Performed {
             status,
             stdout: stdout.writer,
             stderr,
+        }
+    }
+
+    /// Whether standard error has this line alone, or nothing where the line is empty.
+    pub fn is_message(&self, line: &str) -> bool {
+        match self.stderr.as_slice() {
+            [text @ .., b'\n'] => text == line.as_bytes(),
+            text => text.is_empty() && line.is_empty(),
         }
     }
 

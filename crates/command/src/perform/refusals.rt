@@ -1,9 +1,8 @@
 //! Files that are refused and inputs that are too large. No record is written for them.
 
 use super::performed::Performed;
-use super::program_file::program_file;
-use super::worked_runs::SEVEN;
 use crate::fakes::{EndlessFiles, EndlessReader, MemoryFiles};
+use guest_programs::{SEVEN, file_of};
 use std::alloc::AllocError;
 use std::io;
 use std::process::Abort;
@@ -49,7 +48,7 @@ static ILLEGAL_WORDS: [(u32, &str); 3] = [
 
 #[test]
 fn a_file_that_is_cut_is_refused(rt: HostRuntime) -> Result<(), Fail> {
-    let file = program_file(rt.alloc(), SEVEN)?;
+    let file = SEVEN.file(rt.alloc())?;
     assert_eq!(rt; file.len(), 128);
     for (first, last, line) in CUTS {
         for length in first..last + 1 {
@@ -63,7 +62,7 @@ fn a_file_that_is_cut_is_refused(rt: HostRuntime) -> Result<(), Fail> {
 #[test]
 fn a_file_that_is_changed_at_one_place_is_refused(rt: HostRuntime) -> Result<(), Fail> {
     for (place, word, line) in CHANGES {
-        let mut file = program_file(rt.alloc(), SEVEN)?;
+        let mut file = SEVEN.file(rt.alloc())?;
         assert!(rt; place + 4 <= file.len());
         file[place..place + 4].copy_from_slice(&word.to_le_bytes());
         check_refused(&rt, file.as_slice(), line)?;
@@ -73,7 +72,7 @@ fn a_file_that_is_changed_at_one_place_is_refused(rt: HostRuntime) -> Result<(),
 
 #[test]
 fn a_program_without_segments_has_no_entry(rt: HostRuntime) -> Result<(), Fail> {
-    let mut file = program_file(rt.alloc(), SEVEN)?;
+    let mut file = SEVEN.file(rt.alloc())?;
     file.truncate(52);
     assert_eq!(rt; file.len(), 52);
     file[44] = 0;
@@ -84,7 +83,7 @@ fn a_program_without_segments_has_no_entry(rt: HostRuntime) -> Result<(), Fail> 
 #[test]
 fn a_word_that_is_no_instruction_traps(rt: HostRuntime) -> Result<(), Fail> {
     for (word, line) in ILLEGAL_WORDS {
-        let file = program_file(rt.alloc(), [&[], &[word]])?;
+        let file = file_of(rt.alloc(), &[word])?;
         let mut files = MemoryFiles::new(rt.alloc(), file.as_slice());
         let performed = Performed::new(&rt, &RUN, &mut files, &mut io::empty());
         performed.assert_is(&rt, 120, b"", line);
