@@ -64,6 +64,28 @@ static THREADS: [(Status, u32, u32); 7] = [
     (Status::Woken(63), 7, 2),
 ];
 
+/// Their statuses after thread 2 has ended with 9.
+static AFTER_2: [Status; 7] = [
+    Status::Ready,
+    Status::Blocked,
+    Status::Done(9),
+    Status::Ready,
+    Status::Ready,
+    Status::Blocked,
+    Status::Woken(63),
+];
+
+/// Their statuses after thread 6 has ended with 0xFFFFFFFF.
+static AFTER_6: [Status; 7] = [
+    Status::Blocked,
+    Status::Blocked,
+    Status::Ready,
+    Status::Ready,
+    Status::Blocked,
+    Status::Blocked,
+    Status::Done(0xFFFF_FFFF),
+];
+
 /// The caller, the thread that it names, whether it holds a mutex, the reply, and the caller's status
 /// after it. Thread 2 is done with the value 0x80000000.
 static JOINS: [(u32, u32, bool, Reply, Status); 12] = [
@@ -140,6 +162,18 @@ fn thread_at(rt: &impl Abort, threads: &Threads, n: u32) -> Thread {
     *threads.get(n)
 }
 
+/// Ends a thread that is there, and asserts which threads it lets go.
+fn assert_end(rt: &impl Abort, threads: &mut Threads, n: u32, value: u32, let_go: &[u32]) {
+    assert!(rt; (n as usize) < threads.len(), "thread {n}");
+    assert_eq!(rt; threads.end(n, value).as_slice(), let_go, "thread {n}");
+}
+
+/// Asserts which threads are ready, and which have a turn.
+fn assert_lists(rt: &impl Abort, threads: &Threads, ready: &[u32], serial: &[u32]) {
+    assert_eq!(rt; threads.ready_list().as_slice(), ready);
+    assert_eq!(rt; threads.serial_list().as_slice(), serial);
+}
+
 /// Asserts that threads have these statuses, and else are as `THREADS` has them.
 fn assert_threads(rt: &impl Abort, threads: &Threads, statuses: &[Status]) {
     assert_eq!(rt; threads.len(), statuses.len());
@@ -200,56 +234,39 @@ fn makes_256_threads(rt: HostRuntime) {
         assert_eq!(rt; thread_at(&rt, &threads, number), wanted, "{number}");
     }
     let numbers: [u32; 256] = std::array::from_fn(|n| n as u32);
-    assert_eq!(rt; threads.ready_list().as_slice(), numbers.as_slice());
-    assert_eq!(rt; threads.serial_list().as_slice(), numbers.as_slice());
+    assert_lists(&rt, &threads, &numbers, &numbers);
 }
 
 #[test]
 fn joins(rt: HostRuntime) {
-    for (caller, n, holds_lock, reply, status) in JOINS {
+    for (caller, n, holds_lock, reply, status) in &JOINS {
         let mut threads = threads_of_table(&rt);
-        assert!(rt; threads.len() == 7 && caller < 7);
-        threads.end(2, 0x8000_0000);
+        assert_end(&rt, &mut threads, 2, 0x8000_0000, &[0, 4]);
+        assert!(rt; (*caller as usize) < threads.len());
+        let answer = threads.join(*caller, *n, *holds_lock);
+        let after = thread_at(&rt, &threads, *caller).status;
         assert_eq!(rt;
-            threads.join(caller, n, holds_lock),
-            reply,
-            "{caller} {n} {holds_lock}"
-        );
-        assert_eq!(rt;
-            thread_at(&rt, &threads, caller).status,
-            status,
+            (answer, after),
+            (*reply, *status),
             "{caller} {n} {holds_lock}"
         );
     }
 }
 
+/// A thread that two others join, then one that another joins, and one that none joins.
 #[test]
-fn ends_a_thread_that_is_joined(rt: HostRuntime) {
+fn ends_threads(rt: HostRuntime) {
     let mut threads = threads_of_table(&rt);
-    assert!(rt; threads.len() == 7);
-    assert_eq!(rt; threads.end(2, 9).as_slice(), [0, 4].as_slice());
-    let after = [
-        Status::Ready,
-        Status::Blocked,
-        Status::Done(9),
-        Status::Ready,
-        Status::Ready,
-        Status::Blocked,
-        Status::Woken(63),
-    ];
-    assert_threads(&rt, &threads, &after);
-    assert_eq!(rt; threads.end(3, 0).as_slice(), [1].as_slice());
+    assert_lists(&rt, &threads, &[2, 3], &[2, 3, 6]);
+    assert_end(&rt, &mut threads, 2, 9, &[0, 4]);
+    assert_threads(&rt, &threads, &AFTER_2);
+    assert_lists(&rt, &threads, &[0, 3, 4], &[0, 3, 4, 6]);
+    assert_end(&rt, &mut threads, 3, 0, &[1]);
     assert_eq!(rt; thread_at(&rt, &threads, 1).status, Status::Ready);
-}
-
-#[test]
-fn ends_a_thread_that_none_joins(rt: HostRuntime) {
-    let mut threads = threads_of_table(&rt);
-    assert!(rt; threads.len() == 7);
-    assert!(rt; threads.end(6, 0xFFFF_FFFF).is_empty());
-    let mut after = THREADS.map(|row| row.0);
-    after[6] = Status::Done(0xFFFF_FFFF);
-    assert_threads(&rt, &threads, &after);
+    let mut others = threads_of_table(&rt);
+    assert_end(&rt, &mut others, 6, 0xFFFF_FFFF, &[]);
+    assert_threads(&rt, &others, &AFTER_6);
+    assert_lists(&rt, &Threads::new(), &[], &[]);
 }
 
 #[test]
@@ -263,17 +280,4 @@ fn tells_who_runs(rt: HostRuntime) {
         assert_eq!(rt; status.is_ready(), is_ready, "{status:?}");
         assert_eq!(rt; status.has_turn(), has_turn, "{status:?}");
     }
-}
-
-#[test]
-fn lists_threads(rt: HostRuntime) {
-    let mut threads = threads_of_table(&rt);
-    assert!(rt; threads.len() == 7);
-    assert_eq!(rt; threads.ready_list().as_slice(), [2, 3].as_slice());
-    assert_eq!(rt; threads.serial_list().as_slice(), [2, 3, 6].as_slice());
-    threads.end(2, 9);
-    assert_eq!(rt; threads.ready_list().as_slice(), [0, 3, 4].as_slice());
-    assert_eq!(rt; threads.serial_list().as_slice(), [0, 3, 4, 6].as_slice());
-    assert!(rt; Threads::new().ready_list().is_empty());
-    assert!(rt; Threads::new().serial_list().is_empty());
 }
