@@ -7,7 +7,8 @@ use Rattle.hart.specs.Next.{Next, Goes, Calls, Traps, next}
 use Rattle.hart.specs.declared.stop.Stop.TheVariants.{Trap as Trapped, Quantum}
 use Rattle.hart.specs.declared.stop.Stop.{Stop}
 use Rattle.hart.specs.Segment.{Segment, after, bound_trap, counted, is_used_up, left_by, stop_after, stop_at, stop_of}
-use Rattle.hart.proofs.Segments.{Runs, begun, ends, stop_here}
+use Rattle.hart.proofs.Segments.{begun, ends, stop_here}
+use Rattle.hart.specs.Slice.{Runs}
 use Rattle.token.specs.Turns.{Ran}
 
 -- a segment that ends with this
