@@ -8,8 +8,8 @@ use Rattle.abi.specs.declared.call.Call.{Call}
 use Rattle.abi.specs.declared.call.Call.TheVariants as call
 use Rattle.abi.specs.declared.code.Code.TheVariants.{Done as Success}
 use Rattle.abi.specs.declared.reply.Reply.{Reply}
-use Rattle.abi.specs.declared.limits.TheConstants.{OBJECTS, BARRIER_COUNT, TRANSFER, OUTPUT}
-use Rattle.guest_memory.specs.declared.layout.TheConstants.{PAGE_SIZE, HEAP_PAGES}
+use Rattle.abi.specs.Limits as limit
+use Rattle.guest_memory.specs.Layout as layout
 use Rattle.abi.specs.declared.reply.Reply.TheVariants.{Completed, Waits, Ends}
 use Rattle.ecalls.specs.Request.{call_of}
 use Rattle.condvar_barrier.specs.Objects.{is_among}
@@ -165,35 +165,35 @@ module _ (state : State) (thread : ℕ) where
     fine-lock : (mutex : ℕ) → IsFineOutcome (row.lock state.objects thread mutex)
     unfolding row.lock with_holder
     fine-lock mutex =
-        if-outcome (nat_le OBJECTS mutex) (kept-outcome refl refl refl)
+        if-outcome (nat_le limit.objects mutex) (kept-outcome refl refl refl)
         (if-outcome (objects.holds_mutex state.objects thread mutex) (kept-outcome refl refl refl) (kept-outcome refl refl refl))
 
     fine-unlock : (mutex : ℕ) → IsFineOutcome (row.unlock state.objects thread mutex)
     unfolding row.unlock with_holder
     fine-unlock mutex =
-        if-outcome (nat_le OBJECTS mutex) (kept-outcome refl refl refl)
+        if-outcome (nat_le limit.objects mutex) (kept-outcome refl refl refl)
         (if-outcome (not (objects.holds_mutex state.objects thread mutex)) (kept-outcome refl refl refl) (kept-outcome refl refl refl))
 
     fine-wait : (own : Thread) → slice_get state.threads thread ≡ Some own → is_join (call_of own.hart) ≡ false → (condition mutex : ℕ) → IsFineOutcome (row.wait state.objects thread condition mutex)
     unfolding row.wait with_holder
     fine-wait own is no_join condition mutex =
-        if-outcome (nat_le OBJECTS condition || nat_le OBJECTS mutex) (kept-outcome refl refl refl)
+        if-outcome (nat_le limit.objects condition || nat_le limit.objects mutex) (kept-outcome refl refl refl)
         (if-outcome (not (objects.holds_mutex state.objects thread mutex)) (kept-outcome refl refl refl)
         (if-outcome (objects.holds (with_holder state.objects mutex None) thread) (kept-outcome refl refl refl)
         (fine-waits own is no_join (with_holder state.objects mutex None).holders (Condition condition mutex))))
 
     fine-signal : (condition : ℕ) → IsFineOutcome (row.signal state.objects condition)
     unfolding row.signal
-    fine-signal condition = if-outcome (nat_le OBJECTS condition) (kept-outcome refl refl refl) (fine-wakes (take 1 (objects.queue state.objects condition)))
+    fine-signal condition = if-outcome (nat_le limit.objects condition) (kept-outcome refl refl refl) (fine-wakes (take 1 (objects.queue state.objects condition)))
 
     fine-broadcast : (condition : ℕ) → IsFineOutcome (row.broadcast state.objects condition)
     unfolding row.broadcast
-    fine-broadcast condition = if-outcome (nat_le OBJECTS condition) (kept-outcome refl refl refl) (fine-wakes (objects.queue state.objects condition))
+    fine-broadcast condition = if-outcome (nat_le limit.objects condition) (kept-outcome refl refl refl) (fine-wakes (objects.queue state.objects condition))
 
     fine-barrier : (own : Thread) → slice_get state.threads thread ≡ Some own → is_join (call_of own.hart) ≡ false → (number count : ℕ) → IsFineOutcome (row.barrier state.objects thread number count)
     unfolding row.barrier
     fine-barrier own is no_join number count =
-        if-outcome (nat_le OBJECTS number || (count == 0) || nat_lt BARRIER_COUNT count) (kept-outcome refl refl refl)
+        if-outcome (nat_le limit.objects number || (count == 0) || nat_lt limit.barrier_count count) (kept-outcome refl refl refl)
         (if-outcome (objects.holds state.objects thread) (kept-outcome refl refl refl)
         (if-outcome (objects.counts_differ state.objects number count) (kept-outcome refl refl refl)
         (if-outcome (nat_lt (length (objects.arrivals state.objects number) + 1) count) (fine-waits own is no_join state.objects.holders (Barrier number count))
@@ -245,23 +245,23 @@ module _ (state : State) (thread : ℕ) where
     fine-write : (address count : ℕ) → IsFine (effects.write state address count)
     unfolding effects.write
     fine-write address count =
-        if-effect (nat_lt TRANSFER count) (kept-effect refl refl)
+        if-effect (nat_lt limit.transfer count) (kept-effect refl refl)
         (if-effect (not (is_permitted_range (λ perm. perm.read) state.memory address count)) (kept-effect refl refl)
-        (if-effect (nat_lt OUTPUT (length state.output + count)) (kept-effect refl refl) (kept-effect refl refl)))
+        (if-effect (nat_lt limit.output (length state.output + count)) (kept-effect refl refl) (kept-effect refl refl)))
 
     fine-read : (address count : ℕ) → IsFine (effects.read state address count)
     unfolding effects.read
     fine-read address count =
-        if-effect (nat_lt TRANSFER count) (kept-effect refl refl) (if-effect (not (is_permitted_range (λ perm. perm.write) state.memory address count)) (kept-effect refl refl) (kept-effect refl refl))
+        if-effect (nat_lt limit.transfer count) (kept-effect refl refl) (if-effect (not (is_permitted_range (λ perm. perm.write) state.memory address count)) (kept-effect refl refl) (kept-effect refl refl))
 
     fine-new_pages : (count : ℕ) → IsFine (effects.new_pages state count)
     unfolding effects.new_pages
-    fine-new_pages count = if-effect (not (is_page_count count)) (kept-effect refl refl) (if-effect (nat_lt HEAP_PAGES (state.heap_pages + count)) (kept-effect refl refl) (kept-effect refl refl))
+    fine-new_pages count = if-effect (not (is_page_count count)) (kept-effect refl refl) (if-effect (nat_lt layout.heap_pages (state.heap_pages + count)) (kept-effect refl refl) (kept-effect refl refl))
 
     fine-release : (address count : ℕ) → IsFine (effects.release state address count)
     unfolding effects.release
     fine-release address count =
-        if-effect (not (is_page_count count) || not (address % PAGE_SIZE == 0)) (kept-effect refl refl) (if-effect (not (is_mapped_heap state address count)) (kept-effect refl refl) (kept-effect refl refl))
+        if-effect (not (is_page_count count) || not (address % layout.page_size == 0)) (kept-effect refl refl) (if-effect (not (is_mapped_heap state address count)) (kept-effect refl refl) (kept-effect refl refl))
 
     -- each call
     fine-effect : (own : Thread) → slice_get state.threads thread ≡ Some own → (what : Call) → what ≡ call_of own.hart → IsFine (effect state thread what)

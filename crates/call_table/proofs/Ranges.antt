@@ -3,7 +3,7 @@ use Rattle.std.proofs.Common.{◌≡◌, ℕ, zero, suc, ◌+◌, ◌-◌, ◌*�
 use Rattle.std.specs.Prelude.{is_some, if◌then◌else◌, option_map}
 use Rattle.guest_memory.specs.Memory.{Cell, Memory, permitted}
 use Rattle.guest_memory.specs.declared.perm.Perm.{Perm}
-use Rattle.guest_memory.specs.declared.layout.TheConstants.{PAGE_SIZE}
+use Rattle.guest_memory.specs.Layout as layout
 use Rattle.call_table.specs.Effects.{all_permitted, are_mapped, bytes_of}
 
 -- how many are left
@@ -14,19 +14,19 @@ none_over : (done count : ℕ) → count ≤ done → count - done ≡ 0
 none_over done count past = omega arith
 
 are_mapped-next : (memory : Memory) (first done count : ℕ) → done < count
-    → are_mapped memory (first + done) (count - done) ≡ (is_some (memory (PAGE_SIZE * (first + done))) && are_mapped memory (first + (done + 1)) (count - (done + 1)))
+    → are_mapped memory (first + done) (count - done) ≡ (is_some (memory (layout.page_size * (first + done))) && are_mapped memory (first + (done + 1)) (count - (done + 1)))
 unfolding are_mapped
 are_mapped-next memory first done count within =
     let place : first + done + 1 ≡ first + (done + 1) = omega arith in
     ap (are_mapped memory (first + done)) (left_over done count within)
-    ∙ ap (λ (page : ℕ). is_some (memory (PAGE_SIZE * (first + done))) && are_mapped memory page (count - (done + 1))) place
+    ∙ ap (λ (page : ℕ). is_some (memory (layout.page_size * (first + done))) && are_mapped memory page (count - (done + 1))) place
 
 -- a page by whether its first address is mapped
 pub are_mapped-told : (memory : Memory) (first done count : ℕ) (answer : Option ℕ) (none : Bool) → done < count
-    → answer ≡ option_map (λ (cell : Cell). cell.byte) (memory (PAGE_SIZE * (first + done))) → is_some answer ≡ not none
+    → answer ≡ option_map (λ (cell : Cell). cell.byte) (memory (layout.page_size * (first + done))) → is_some answer ≡ not none
     → are_mapped memory (first + done) (count - done) ≡ (not none && are_mapped memory (first + (done + 1)) (count - (done + 1)))
 are_mapped-told memory first done count answer none within is told =
-    let same : is_some (memory (PAGE_SIZE * (first + done))) ≡ not none = sym (kept (memory (PAGE_SIZE * (first + done)))) ∙ ap is_some (sym is) ∙ told in
+    let same : is_some (memory (layout.page_size * (first + done))) ≡ not none = sym (kept (memory (layout.page_size * (first + done)))) ∙ ap is_some (sym is) ∙ told in
     rw (are_mapped-next memory first done count within, same) refl
   where
     kept : (cell : Option Cell) → is_some (option_map (λ (cell : Cell). cell.byte) cell) ≡ is_some cell

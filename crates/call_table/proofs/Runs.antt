@@ -7,7 +7,7 @@ use Rattle.std.proofs.lemmas.Bool.{cases_eq, cases_lt}
 use Rattle.std.proofs.lemmas.List.{drop_more, get_or_append_left, length-take-le}
 use Rattle.guest_memory.specs.Layout.{page_of}
 use Rattle.guest_memory.specs.Memory.{Cell, Memory, permitted}
-use Rattle.guest_memory.specs.declared.layout.TheConstants.{PAGE_SIZE}
+use Rattle.guest_memory.specs.Layout as layout
 use Rattle.guest_memory.specs.declared.perm.Perm.{Perm}
 use Rattle.paged_memory.proofs.Accesses.{page-same, offset-same}
 use Rattle.paged_memory.proofs.Among.{is_among-apart, is_among-inside, is_among-outside, is_among-same}
@@ -25,7 +25,7 @@ unfolding memory_of_pages
 perm_at pages address = by_page (pages (page_of address))
   where
     by_page : (page : Option PageValue)
-        → option_map (λ (cell : Cell). cell.perm) (option_map (λ (page : PageValue). record { perm = page.perm; byte = slice_index page.bytes (address % PAGE_SIZE) }) page)
+        → option_map (λ (cell : Cell). cell.perm) (option_map (λ (page : PageValue). record { perm = page.perm; byte = slice_index page.bytes (address % layout.page_size) }) page)
         ≡ option_map (λ (page : PageValue). page.perm) page
     by_page None = refl
     by_page (Some page) = refl
@@ -97,7 +97,7 @@ bytes_of-run memory address done run count within =
     ap (bytes_of memory (address + done)) parts ∙ bytes_of-split memory (address + done) run (count - (done + run))
     ∙ ap (λ (other : ℕ). bytes_of memory (address + done) run ++ bytes_of memory other (count - (done + run))) place
 
-byte_of_page : (pages : PageMap) (page : PageValue) (address : ℕ) → Some page ≡ pages (page_of address) → byte_at (memory_of_pages pages) address ≡ slice_index page.bytes (address % PAGE_SIZE)
+byte_of_page : (pages : PageMap) (page : PageValue) (address : ℕ) → Some page ≡ pages (page_of address) → byte_at (memory_of_pages pages) address ≡ slice_index page.bytes (address % layout.page_size)
 unfolding memory_of_pages
 byte_of_page pages page address is = rw (← is) refl
 

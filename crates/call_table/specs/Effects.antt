@@ -2,7 +2,7 @@
 use Rattle.std.specs.Prelude.{ℕ, zero, suc, ◌+◌, ◌*◌, ◌%◌, ◌^◌, Bool, true, false, ◌&&◌, ◌||◌, not, ◌==◌, nat_le, nat_lt, min, if◌then◌else◌, Option, Some, None, option_map, unwrap_or, is_some, List, [], ◌∷◌, ◌++◌, length, take, drop}
 use Rattle.guest_memory.specs.Memory.{Memory, permitted}
 use Rattle.guest_memory.specs.Layout.{page_of}
-use Rattle.guest_memory.specs.declared.layout.TheConstants.{PAGE_SIZE, HEAP_START, HEAP_PAGES}
+use Rattle.guest_memory.specs.Layout as layout
 use Rattle.guest_memory.specs.declared.perm.Perm.{Perm}
 use Rattle.paged_memory.specs.Mapping.{with_bytes, with_zeros, without_pages}
 use Rattle.abi.specs.declared.call.Call.{Call}
@@ -11,7 +11,7 @@ use Rattle.abi.specs.declared.code.Code.{Code}
 use Rattle.abi.specs.declared.code.Code.TheVariants.{Done, NoSuchCall, BadArgument, BadAddress, Limit}
 use Rattle.abi.specs.declared.reply.Reply.{Reply}
 use Rattle.abi.specs.declared.reply.Reply.TheVariants.{Completed, Waits, Ends}
-use Rattle.abi.specs.declared.limits.TheConstants.{TRANSFER, CALL_PAGES, OUTPUT}
+use Rattle.abi.specs.Limits as limit
 use Rattle.ecalls.specs.Answer.{finished}
 use Rattle.thread_table.specs.Threads.{new_number, created, join_reply, joined, joiners, ended, with_status}
 use Rattle.thread_table.specs.declared.thread.Thread.{Thread}
@@ -102,45 +102,45 @@ bytes_of memory address (suc count) = byte_at memory address ∷ bytes_of memory
 -- write(address, count)
 unfoldable pub write : State → ℕ → ℕ → Effect
 write state address count =
-    if nat_lt TRANSFER count then answered BadArgument state
+    if nat_lt limit.transfer count then answered BadArgument state
     else (if not (is_permitted_range (λ perm. perm.read) state.memory address count) then answered BadAddress state
-    else (if nat_lt OUTPUT (length state.output + count) then answered Limit state
+    else (if nat_lt limit.output (length state.output + count) then answered Limit state
     else answered_with count (record state { output = state.output ++ bytes_of state.memory address count })))
 
 -- read(address, count): the next bytes of the input, as many as there are and as the caller asks for, go to shared memory
 unfoldable pub read : State → ℕ → ℕ → Effect
 read state address count =
-    if nat_lt TRANSFER count then answered BadArgument state
+    if nat_lt limit.transfer count then answered BadArgument state
     else (if not (is_permitted_range (λ perm. perm.write) state.memory address count) then answered BadAddress state
     else answered_with (min count (length state.rest))
     (record state { memory = with_bytes address (take count state.rest) state.memory; rest = drop count state.rest }))
 
 -- whether a call may name so many pages
 abbrev pub is_page_count : ℕ → Bool
-is_page_count count = not (count == 0) && nat_le count CALL_PAGES
+is_page_count count = not (count == 0) && nat_le count limit.call_pages
 
 -- memory(count): pages of zeros at the heap's top
 unfoldable pub new_pages : State → ℕ → Effect
 new_pages state count =
     if not (is_page_count count) then answered BadArgument state
-    else (if nat_lt HEAP_PAGES (state.heap_pages + count) then answered Limit state
+    else (if nat_lt layout.heap_pages (state.heap_pages + count) then answered Limit state
     else answered_with (heap_top state)
     (record state { memory = with_zeros (page_of (heap_top state)) count (record { read = true; write = true; execute = false }) state.memory; heap_pages = state.heap_pages + count }))
 
 -- whether all of so many pages are mapped
 unfoldable pub are_mapped : Memory → ℕ → ℕ → Bool
 are_mapped memory page zero = true
-are_mapped memory page (suc count) = is_some (memory (PAGE_SIZE * page)) && are_mapped memory (page + 1) count
+are_mapped memory page (suc count) = is_some (memory (layout.page_size * page)) && are_mapped memory (page + 1) count
 
 -- whether so many pages from an address on are the heap's and mapped
 abbrev pub is_mapped_heap : State → ℕ → ℕ → Bool
 is_mapped_heap state address count =
-    nat_le HEAP_START address && nat_le (address + PAGE_SIZE * count) (heap_top state) && are_mapped state.memory (page_of address) count
+    nat_le layout.heap_start address && nat_le (address + layout.page_size * count) (heap_top state) && are_mapped state.memory (page_of address) count
 
 -- release(address, count): a page of the heap that isn't mapped was released before
 unfoldable pub release : State → ℕ → ℕ → Effect
 release state address count =
-    if not (is_page_count count) || not (address % PAGE_SIZE == 0) then answered BadArgument state
+    if not (is_page_count count) || not (address % layout.page_size == 0) then answered BadArgument state
     else (if not (is_mapped_heap state address count) then answered BadAddress state
     else answered Done (record state { memory = without_pages (page_of address) count state.memory }))
 

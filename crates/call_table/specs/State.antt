@@ -1,7 +1,7 @@
 -- The state of a run between two turns, whole.
 use Rattle.std.specs.Prelude.{ℕ, ◌+◌, ◌*◌, Option, Some, None, unwrap_or, List, [], ◌∷◌, slice_get, slice_set}
 use Rattle.guest_memory.specs.Memory.{Memory}
-use Rattle.guest_memory.specs.declared.layout.TheConstants.{PAGE_SIZE, HEAP_START, STACK_POINTER}
+use Rattle.guest_memory.specs.Layout as layout
 use Rattle.hart.specs.HartState.{HartState, started_registers}
 use Rattle.thread_table.specs.Thread.{blank, started}
 use Rattle.thread_table.specs.declared.thread.Thread.{Thread}
@@ -26,7 +26,7 @@ abbrev pub started_state : ℕ → Memory → List ℕ → State
 started_state entry memory input =
     record {
       memory = memory;
-      threads = started (hart_at entry STACK_POINTER 0 0) ∷ [];
+      threads = started (hart_at entry layout.stack_pointer 0 0) ∷ [];
       objects = all_free;
       heap_pages = 0;
       rest = input;
@@ -35,7 +35,7 @@ started_state entry memory input =
 
 -- the address after the pages that the heap was ever given
 abbrev pub heap_top : State → ℕ
-heap_top state = HEAP_START + PAGE_SIZE * state.heap_pages
+heap_top state = layout.heap_start + layout.page_size * state.heap_pages
 
 -- what a thread's row has in a state
 abbrev pub row_of : State → ℕ → Thread

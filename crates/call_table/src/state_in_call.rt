@@ -2,8 +2,8 @@
 #![tactic(auto, unfolding(crate::specs::StateInCall::state_in))]
 
 ghost use Rattle.std.specs.Prelude.{◌≡◌, ◌<◌, ◌≤◌, length};
-ghost use Rattle.guest_memory.specs.declared.layout.TheConstants.{HEAP_PAGES as MOST_PAGES};
-ghost use Rattle.abi.specs.declared.limits.TheConstants.{OUTPUT as MOST_OUTPUT};
+ghost use Rattle.abi.specs.Limits as limit;
+ghost use Rattle.guest_memory.specs.Layout as layout;
 
 mod commits;
 mod memory_calls;
@@ -37,9 +37,9 @@ pub(crate) struct StateInCall {
     /// How many bytes of the input were read.
     pub(crate) taken: usize,
     pub(crate) output: Vec<u8>,
-    ghost heap: { heap_pages ≤ MOST_PAGES },
+    ghost heap: { heap_pages ≤ layout.heap_pages },
     ghost input_left: { taken ≤ length input.items },
-    ghost output_room: { length output.items ≤ MOST_OUTPUT },
+    ghost output_room: { length output.items ≤ limit.output },
 }
 
 impl StateInCall {
@@ -79,7 +79,7 @@ impl StateInCall {
     #[tactic(auto, unfolding(crate::specs::StateInCall::state_in, crate::specs::Effects::effect))]
     fn carry_out(&mut self, thread: u32, call: Call) -> Result<Reply, AllocError>
         requires made { thread < length self.old.threads }
-        requires number { thread < 256 }
+        requires number { thread < limit.threads }
         requires idle { is_waiting self.old.objects thread ≡ false }
         ensures done { IfOk result (λ reply. came_to reply self.new ≡ effect (state_in self.old) thread call) }
         ensures kept { OnErr result (state_in self.new ≡ state_in self.old) }

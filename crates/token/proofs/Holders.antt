@@ -9,7 +9,7 @@ use Rattle.condvar_barrier.specs.declared.place.Place.{Place}
 use Rattle.condvar_barrier.specs.declared.place.Place.TheVariants.{Condition}
 use Rattle.abi.specs.declared.code.Code.TheVariants.{BadArgument, NotHolder, HoldsLock}
 use Rattle.abi.specs.declared.reply.Reply.TheVariants.{Waits}
-use Rattle.abi.specs.declared.limits.TheConstants.{OBJECTS}
+use Rattle.abi.specs.Limits as limit
 use Rattle.condvar_barrier.specs.Rows.{Outcome, refused, replied, barrier, broadcast, lock, release_all, released_by, signal, take_back, unlock, wait}
 use Rattle.ecalls.specs.Request.{call_of}
 use Rattle.hart.specs.HartState.{HartState}
@@ -103,7 +103,7 @@ waits_only : (objects : ObjectState) (thread condition mutex : ℕ) → OnlyHold
 unfolding wait
 waits_only objects thread condition mutex before =
     let waits = waiter_only (with_holder objects mutex None) thread (Condition condition mutex) thread (given_back objects thread mutex before) in
-    either thread (nat_le OBJECTS condition || nat_le OBJECTS mutex) (refused BadArgument objects) (if not (holds_mutex objects thread mutex) then refused NotHolder objects else (if holds (with_holder objects mutex None) thread then refused HoldsLock objects else replied Waits (with_waiter (with_holder objects mutex None) thread (Condition condition mutex)))) before
+    either thread (nat_le limit.objects condition || nat_le limit.objects mutex) (refused BadArgument objects) (if not (holds_mutex objects thread mutex) then refused NotHolder objects else (if holds (with_holder objects mutex None) thread then refused HoldsLock objects else replied Waits (with_waiter (with_holder objects mutex None) thread (Condition condition mutex)))) before
     (either thread (not (holds_mutex objects thread mutex)) (refused NotHolder objects) (if holds (with_holder objects mutex None) thread then refused HoldsLock objects else replied Waits (with_waiter (with_holder objects mutex None) thread (Condition condition mutex))) before
     (either thread (holds (with_holder objects mutex None) thread) (refused HoldsLock objects) (replied Waits (with_waiter (with_holder objects mutex None) thread (Condition condition mutex))) before waits))
 

@@ -3,7 +3,7 @@ use Rattle.std.proofs.Common.{◌≡◌, ℕ, zero, suc, ◌+◌, ◌<◌, Bool,
 use Rattle.std.specs.Prelude.{slice_index_or}
 use Rattle.std.specs.List.{list_any}
 use Rattle.std.proofs.lemmas.Bool.{and_from, or_left, or_right}
-use Rattle.abi.specs.declared.limits.TheConstants.{OBJECTS}
+use Rattle.abi.specs.Limits as limit
 use Rattle.condvar_barrier.specs.Objects.{all_free, holds, holds_mutex, is_held_by}
 use Rattle.condvar_barrier.specs.Rows.{take_back}
 use Rattle.ecalls.specs.Request.{call_of}
@@ -120,7 +120,7 @@ nobody_holds thread (suc count) = nobody_holds thread count
 
 kept_at_start : (setup : Setup) → IsKept setup []
 unfolding present first_state all_free holds are_parked
-kept_at_start setup = record { parked = refl; holder = λ running n held. let free = nobody_holds n OBJECTS in cc }
+kept_at_start setup = record { parked = refl; holder = λ running n held. let free = nobody_holds n limit.objects in cc }
 
 -- who holds a mutex is the thread whose turn it is
 holder_due : (setup : Setup) (before : History) (step : Step) → IsKept setup before → Follows setup before step → OnlyHolder step.turn.thread (present setup before).objects

@@ -6,7 +6,7 @@ use Rattle.abi.specs.declared.call.Call.{Call}
 use Rattle.abi.specs.declared.call.Call.TheVariants as call
 use Rattle.abi.specs.declared.code.Code.{Code}
 use Rattle.abi.specs.declared.code.Code.TheVariants.{Done as Success, NoSuchThread}
-use Rattle.abi.specs.declared.limits.TheConstants.{OBJECTS, BARRIER_COUNT, TRANSFER, OUTPUT}
+use Rattle.abi.specs.Limits as limit
 use Rattle.abi.specs.declared.reply.Reply.{Reply}
 use Rattle.abi.specs.declared.reply.Reply.TheVariants.{Completed, Waits, Ends}
 use Rattle.condvar_barrier.proofs.Leaving.{queued_thread}
@@ -16,7 +16,7 @@ use Rattle.condvar_barrier.specs.Rows as row
 use Rattle.condvar_barrier.specs.Rows.{Outcome, release_all, released_by}
 use Rattle.condvar_barrier.specs.declared.waiter.Waiter.{Waiter}
 use Rattle.condvar_barrier.specs.declared.woken.Woken.{Woken as WokenThread}
-use Rattle.guest_memory.specs.declared.layout.TheConstants.{PAGE_SIZE, HEAP_PAGES}
+use Rattle.guest_memory.specs.Layout as layout
 use Rattle.thread_table.specs.Status.{is_ready}
 use Rattle.thread_table.specs.Thread.{blank, started}
 use Rattle.thread_table.specs.Threads as table
@@ -141,34 +141,34 @@ module _ (state : State) (thread : ℕ) where
     ready_lock : (mutex : ℕ) → IsReadyOutcome (row.lock state.objects thread mutex)
     unfolding row.lock
     ready_lock mutex =
-        if_outcome (nat_le OBJECTS mutex) (λ is. ready_replied _ _ _)
+        if_outcome (nat_le limit.objects mutex) (λ is. ready_replied _ _ _)
         (λ is. if_outcome (objects.holds_mutex state.objects thread mutex) (λ is. ready_replied _ _ _) (λ is. ready_replied _ _ _))
 
     ready_unlock : (mutex : ℕ) → IsReadyOutcome (row.unlock state.objects thread mutex)
     unfolding row.unlock
     ready_unlock mutex =
-        if_outcome (nat_le OBJECTS mutex) (λ is. ready_replied _ _ _)
+        if_outcome (nat_le limit.objects mutex) (λ is. ready_replied _ _ _)
         (λ is. if_outcome (not (objects.holds_mutex state.objects thread mutex)) (λ is. ready_replied _ _ _) (λ is. ready_replied _ _ _))
 
     ready_wait : (condition mutex : ℕ) → IsReadyOutcome (row.wait state.objects thread condition mutex)
     unfolding row.wait with_waiter holds
     ready_wait condition mutex =
-        if_outcome (nat_le OBJECTS condition || nat_le OBJECTS mutex) (λ is. ready_replied _ _ _)
+        if_outcome (nat_le limit.objects condition || nat_le limit.objects mutex) (λ is. ready_replied _ _ _)
         (λ is. if_outcome (not (objects.holds_mutex state.objects thread mutex)) (λ is. ready_replied _ _ _)
         (λ is. if_outcome (holds (with_holder state.objects mutex None) thread) (λ is. ready_replied _ _ _) (λ free. ready_waits _ free)))
 
     ready_signal : (condition : ℕ) → IsReadyOutcome (row.signal state.objects condition)
     unfolding row.signal objects.queue
-    ready_signal condition = if_outcome (nat_le OBJECTS condition) (λ is. ready_replied _ _ _) (λ is. ready_wakes _ _ (first_not _ thread (not_queued state.objects.waiters condition thread idle)))
+    ready_signal condition = if_outcome (nat_le limit.objects condition) (λ is. ready_replied _ _ _) (λ is. ready_wakes _ _ (first_not _ thread (not_queued state.objects.waiters condition thread idle)))
 
     ready_broadcast : (condition : ℕ) → IsReadyOutcome (row.broadcast state.objects condition)
     unfolding row.broadcast objects.queue
-    ready_broadcast condition = if_outcome (nat_le OBJECTS condition) (λ is. ready_replied _ _ _) (λ is. ready_wakes _ _ (not_queued state.objects.waiters condition thread idle))
+    ready_broadcast condition = if_outcome (nat_le limit.objects condition) (λ is. ready_replied _ _ _) (λ is. ready_wakes _ _ (not_queued state.objects.waiters condition thread idle))
 
     ready_barrier : (number count : ℕ) → IsReadyOutcome (row.barrier state.objects thread number count)
     unfolding row.barrier with_waiter holds
     ready_barrier number count =
-        if_outcome (nat_le OBJECTS number || (count == 0) || nat_lt BARRIER_COUNT count) (λ is. ready_replied _ _ _)
+        if_outcome (nat_le limit.objects number || (count == 0) || nat_lt limit.barrier_count count) (λ is. ready_replied _ _ _)
         (λ is. if_outcome (holds state.objects thread) (λ is. ready_replied _ _ _)
         (λ free. if_outcome (objects.counts_differ state.objects number count) (λ is. ready_replied _ _ _)
         (λ is. if_outcome (nat_lt (length (objects.arrivals state.objects number) + 1) count) (λ is. ready_waits _ free) (λ is. ready_passes _ _))))
@@ -200,25 +200,25 @@ module _ (state : State) (thread : ℕ) where
     ready_write : (address count : ℕ) → IsReadyHolder thread (effects.write state address count)
     unfolding effects.write
     ready_write address count =
-        if_effect (nat_lt TRANSFER count) (ready_kept _ _ refl)
+        if_effect (nat_lt limit.transfer count) (ready_kept _ _ refl)
         (if_effect (not (is_permitted_range (λ perm. perm.read) state.memory address count)) (ready_kept _ _ refl)
-        (if_effect (nat_lt OUTPUT (length state.output + count)) (ready_kept _ _ refl) (ready_kept _ _ refl)))
+        (if_effect (nat_lt limit.output (length state.output + count)) (ready_kept _ _ refl) (ready_kept _ _ refl)))
 
     ready_read : (address count : ℕ) → IsReadyHolder thread (effects.read state address count)
     unfolding effects.read
     ready_read address count =
-        if_effect (nat_lt TRANSFER count) (ready_kept _ _ refl)
+        if_effect (nat_lt limit.transfer count) (ready_kept _ _ refl)
         (if_effect (not (is_permitted_range (λ perm. perm.write) state.memory address count)) (ready_kept _ _ refl) (ready_kept _ _ refl))
 
     ready_new_pages : (count : ℕ) → IsReadyHolder thread (effects.new_pages state count)
     unfolding effects.new_pages
     ready_new_pages count =
-        if_effect (not (is_page_count count)) (ready_kept _ _ refl) (if_effect (nat_lt HEAP_PAGES (state.heap_pages + count)) (ready_kept _ _ refl) (ready_kept _ _ refl))
+        if_effect (not (is_page_count count)) (ready_kept _ _ refl) (if_effect (nat_lt layout.heap_pages (state.heap_pages + count)) (ready_kept _ _ refl) (ready_kept _ _ refl))
 
     ready_release : (address count : ℕ) → IsReadyHolder thread (effects.release state address count)
     unfolding effects.release
     ready_release address count =
-        if_effect (not (is_page_count count) || not (address % PAGE_SIZE == 0)) (ready_kept _ _ refl)
+        if_effect (not (is_page_count count) || not (address % layout.page_size == 0)) (ready_kept _ _ refl)
         (if_effect (not (is_mapped_heap state address count)) (ready_kept _ _ refl) (ready_kept _ _ refl))
 
     -- each call

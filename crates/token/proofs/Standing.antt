@@ -1,8 +1,9 @@
 -- A run that stands after a history stands after the longer one once its next step is made.
-use Rattle.std.proofs.Common.{◌≡◌, ℕ, zero, suc, ◌+◌, ◌<◌, ◌≤◌, ◌^◌, Bool, true, false, not, ◌||◌, ◌==◌, nat_lt, if◌then◌else◌, Option, Some, None, is_some, List, [], ◌∷◌, ◌++◌, length, take, refl, ap, sym, ◌∙◌, subst, inl, inr, arith, length-append}
+use Rattle.std.proofs.Common.{◌≡◌, ℕ, zero, suc, ◌+◌, ◌<◌, ◌≤◌, Bool, true, false, not, ◌||◌, ◌==◌, nat_lt, if◌then◌else◌, Option, Some, None, is_some, List, [], ◌∷◌, ◌++◌, length, take, refl, ap, sym, ◌∙◌, subst, inl, inr, arith, length-append}
 use Rattle.std.specs.Prelude.{slice_index}
 use Rattle.std.proofs.lemmas.Bool.{and_left, and_right, eqb-false, ltb-true, ltb-false, not_from_true}
 use Rattle.std.proofs.lemmas.List.{take_more, length-take-le}
+use Rattle.abi.specs.Limits as limit
 use Rattle.thread_table.specs.Threads.{serial_list}
 use Rattle.thread_table.specs.declared.status.Status.{Status}
 use Rattle.thread_table.specs.declared.status.Status.TheVariants.{Ready, Woken, Blocked, Done}
@@ -39,7 +40,7 @@ pub record StandsIn (point : Point) (history : History) : Type 0 where
   pub phase : point.phase ≡ phase_of history
   pub within : point.given ≤ length point.list
   pub number : point.phase ≤ length point.turns
-  pub bound : point.setup.bound ≤ 2 ^ 40
+  pub bound : point.setup.bound ≤ limit.instructions
   pub fresh : point.fresh_from ≤ length point.state.output
 
 -- A run stands after a history, and what holds of each point holds of it.

@@ -1,5 +1,6 @@
 -- A run that begins stands after the history without a turn.
-use Rattle.std.proofs.Common.{◌≡◌, ℕ, ◌≤◌, ◌^◌, None, List, [], ◌∷◌, length, take, refl, ap, sym, ◌∙◌, subst, inl, arith}
+use Rattle.std.proofs.Common.{◌≡◌, ℕ, ◌≤◌, None, List, [], ◌∷◌, length, take, refl, ap, sym, ◌∙◌, subst, inl, arith}
+use Rattle.abi.specs.Limits as limit
 use Rattle.thread_table.specs.Threads.{numbers_where, serial_list}
 use Rattle.token.specs.Legal.{IsLegal}
 use Rattle.token.specs.History.{first_version, heads, is_quiet, keeps, last_outcome, list_of, outcome, phase_of, present, same_threads, turns_of, version, changes_of}
@@ -23,7 +24,7 @@ pub record Begins (point : Point) : Type 0 where
   pub state : point.state ≡ first_state point.setup
   pub turns : point.turns ≡ []
   pub changes : point.changes ≡ []
-  pub bound : point.setup.bound ≤ 2 ^ 40
+  pub bound : point.setup.bound ≤ limit.instructions
   pub fresh : point.fresh_from ≡ 0
 
 no_outcome_yet : (setup : Setup) → outcome setup [] ≡ None

@@ -1,6 +1,7 @@
 -- What the fields of a run say.
-use Rattle.std.specs.Prelude.{◌≡◌, ◌-◌, ◌<◌, ◌≤◌, ◌^◌, Option, Some, None, IsSome, length, vec_len, slice_index}
+use Rattle.std.specs.Prelude.{◌≡◌, ◌-◌, ◌<◌, ◌≤◌, Option, Some, None, IsSome, length, vec_len, slice_index}
 use Rattle.std.specs.Vec.{vec_capacity}
+use Rattle.abi.specs.Limits as limit
 use Rattle.guest_memory.specs.Memory.{Memory}
 use Rattle.paged_memory.specs.Snapshot.{cells_of}
 use Rattle.paged_memory.specs.declared.snapshot.Snapshot.{Snapshot}
@@ -53,7 +54,7 @@ pub record HasDue (point : Point) : Type 0 where
 pub record CanRun (point : Point) (end : SegmentEnd) : Type 0 where
   pub ready : (row_of point.state (thread_due (due_at point))).status ≡ Ready
   pub within : end.count ≤ point.setup.bound - (row_of (base_at point (due_at point)) (thread_due (due_at point))).executed
-  pub bound : point.setup.bound ≤ 2 ^ 40
+  pub bound : point.setup.bound ≤ limit.instructions
 
 -- Who is due may have its turn: a ready one with this end of its segment, and a woken one without.
 abbrev pub MayTurn : Point → Option SegmentEnd → Type 0

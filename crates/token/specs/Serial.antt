@@ -1,5 +1,6 @@
 -- What holds of a serial state: its turns are a legal history.
-use Rattle.std.specs.Prelude.{◌≡◌, ◌⊎◌, ℕ, suc, ◌+◌, ◌<◌, ◌≤◌, ◌^◌, false, Option, None, List, [], ◌∷◌, ◌++◌, length, drop, take}
+use Rattle.std.specs.Prelude.{◌≡◌, ◌⊎◌, ℕ, suc, ◌+◌, ◌<◌, ◌≤◌, false, Option, None, List, [], ◌∷◌, ◌++◌, length, drop, take}
+use Rattle.abi.specs.Limits as limit
 use Rattle.thread_table.specs.Threads.{serial_list}
 use Rattle.token.specs.Change.{Change}
 use Rattle.token.specs.History.{History, IsHeldByKeeper, turns_of, changes_of, present, version, first_version, heads, list_of, phase_of, keeper_of, keeps, outcome}
@@ -40,7 +41,7 @@ pub record Invariants (point : Point) : Type 0 where
   -- no turn finds a mutex held by another thread than its own
   pub holders : point.ended ≡ None → IsHeldByKeeper point.state.objects point.keeper
   pub number : point.phase ≤ length point.turns + 1
-  pub bound : point.setup.bound ≤ 2 ^ 40
+  pub bound : point.setup.bound ≤ limit.instructions
   pub fresh : point.fresh_from ≤ length point.state.output
 
 -- There is a legal history after which the run stands.

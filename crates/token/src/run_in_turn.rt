@@ -3,6 +3,7 @@
 
 ghost use Rattle.std.specs.Prelude.{◌≡◌, ◌+◌, ◌^◌, ◌<◌, ◌++◌, [], ◌∷◌, None, Some, length, vec_len, OnOk, OnErr, option_map};
 ghost use Rattle.std.specs.Vec.{vec_capacity};
+ghost use Rattle.abi.specs.Limits as limit;
 ghost use Rattle.token.specs.Point as point;
 
 use crate::due::Due;
@@ -18,7 +19,7 @@ use call_table::SharedState;
 use commit::changed_addresses;
 use paged_memory::Snapshot;
 use std::alloc::{AllocError, Global};
-use thread_table::{CAPACITY, Status, Thread};
+use thread_table::{Status, Thread};
 
 /// A run, also in the middle of a turn. There its state may be one turn ahead of the turns that are written down,
 /// so the fact that a `Serial` keeps of it doesn't hold: each method here says what it makes of the point where
@@ -66,7 +67,7 @@ impl RunInTurn {
     fn due(&self) -> Due
         requires { HasDue (point_of self.now) }
         ensures due { result ≡ point.due_at (point_of self.now) }
-        ensures given { self.now.keeper ≡ None → self.now.phase.given < CAPACITY }
+        ensures given { self.now.keeper ≡ None → self.now.phase.given < limit.threads }
     {
         if let Some(thread) = self.keeper {
             return Due::Keeper { thread };
@@ -218,7 +219,7 @@ impl RunInTurn {
     fn record(&mut self, turn: Turn, addresses: Vec<u32>, fresh_from: usize)
         requires room { HasRoom self.old }
         requires thread { turn.thread < length (state_of self.old.shared).threads }
-        requires given { self.old.keeper ≡ None → self.old.phase.given < CAPACITY }
+        requires given { self.old.keeper ≡ None → self.old.phase.given < limit.threads }
         ensures { point_of self.new ≡ point.recorded (point_of self.old) turn (record { phase = turn.phase; thread = turn.thread; addresses = addresses.items }) fresh_from }
     {
         if self.keeper.is_none() {

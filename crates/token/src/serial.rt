@@ -1,6 +1,7 @@
 #![tactic(auto, unfolding(crate::specs::RunInTurn::point_of))]
 
-ghost use Rattle.std.specs.Prelude.{◌≡◌, ◌≤◌, ◌^◌, ◌++◌, ◌<◌, [], ◌∷◌, None, Some, OnOk, OnErr, IfOk, IfSome, option_map};
+ghost use Rattle.std.specs.Prelude.{◌≡◌, ◌≤◌, ◌++◌, ◌<◌, [], ◌∷◌, None, Some, OnOk, OnErr, IfOk, IfSome, option_map};
+ghost use Rattle.abi.specs.Limits as limit;
 
 use crate::need::Need;
 use crate::outcome::RunOutcome;
@@ -53,9 +54,9 @@ impl Serial {
         bound: u64,
         quantum: Option<u64>,
     ) -> Result<Self, AllocError>
-        requires bound { bound ≤ 2 ^ 40 }
+        requires bound { bound ≤ limit.instructions }
         requires some { 0 < bound }
-        requires quantum { IfSome quantum (λ quantum. quantum ≤ 2 ^ 40) }
+        requires quantum { IfSome quantum (λ quantum. quantum ≤ limit.instructions) }
         requires some_quantum { IfSome quantum (λ quantum. 0 < quantum) }
         ensures setup { IfOk result (λ serial. (point_of serial).setup ≡ setup_of image.now input.now bound quantum) }
         ensures turns { IfOk result (λ serial. (point_of serial).turns ≡ []) }

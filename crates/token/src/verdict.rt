@@ -8,11 +8,9 @@ ghost use Rattle.token.specs.Point as point;
 
 use crate::outcome::RunOutcome;
 use crate::turn::TurnStop;
+use abi::CallKind;
 use call_table::SharedState;
 use thread_table::{Status, Thread, Threads};
-
-/// The number of the call exit.
-const EXIT: u32 = 1;
 
 /// The outcome of a turn that ends the run by itself: a trap or the call exit.
 pub(crate) fn outcome_of_stop(thread: u32, stop: &TurnStop) -> Option<RunOutcome>
@@ -21,10 +19,10 @@ pub(crate) fn outcome_of_stop(thread: u32, stop: &TurnStop) -> Option<RunOutcome
     match *stop {
         TurnStop::Trap { pc, trap } => Some(RunOutcome::Trap { thread, pc, trap }),
         TurnStop::Call {
-            number: EXIT,
+            number,
             arguments,
             ..
-        } => Some(RunOutcome::Exit(arguments[0])),
+        } if number == CallKind::Exit.number() => Some(RunOutcome::Exit(arguments[0])),
         TurnStop::Call { .. } | TurnStop::Quantum { .. } | TurnStop::Wake { .. } => None,
     }
 }

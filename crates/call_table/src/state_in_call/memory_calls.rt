@@ -2,6 +2,7 @@
 #![tactic(auto, unfolding(crate::specs::StateInCall::state_in))]
 
 ghost use Rattle.std.specs.Prelude.{◌≡◌, ◌+◌, ◌*◌, ◌^◌, ◌≤◌, IfOk, OnErr};
+ghost use Rattle.abi.specs.Limits as limit;
 ghost use Rattle.paged_memory.specs.Snapshot.{cells_of};
 ghost use Rattle.call_table.specs.State.{heap_top};
 ghost use Rattle.call_table.specs.Effects as effects;
@@ -60,7 +61,7 @@ impl StateInCall {
 
     /// Whether so many pages from an address on are the heap's and mapped.
     fn is_mapped_heap(&self, address: u32, count: u32) -> bool
-        requires { count ≤ 1024 }
+        requires { count ≤ limit.call_pages }
         ensures { result ≡ effects.is_mapped_heap (state_in self.now) address count }
     {
         if address < HEAP_START {

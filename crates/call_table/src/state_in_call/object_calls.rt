@@ -2,6 +2,7 @@
 #![tactic(auto)]
 
 ghost use Rattle.std.specs.Prelude.{◌≡◌, ◌<◌, false};
+ghost use Rattle.abi.specs.Limits as limit;
 ghost use Rattle.condvar_barrier.specs.Objects.{is_waiting};
 ghost use Rattle.condvar_barrier.specs.Rows as row;
 ghost use Rattle.call_table.specs.Effects.{by_objects};
@@ -14,7 +15,7 @@ use thread_table::Status;
 
 impl StateInCall {
     pub(super) fn lock(&mut self, thread: u32, mutex: u32) -> Reply
-        requires { thread < 256 }
+        requires { thread < limit.threads }
         ensures done { came_to result self.new ≡ by_objects (λ objects. row.lock objects thread mutex) (state_in self.old) }
         ensures input { self.new.input ≡ self.old.input }
     {
@@ -29,7 +30,7 @@ impl StateInCall {
     }
 
     pub(super) fn wait(&mut self, thread: u32, condition: u32, mutex: u32) -> Reply
-        requires number { thread < 256 }
+        requires number { thread < limit.threads }
         requires idle { is_waiting self.old.objects thread ≡ false }
         ensures done { came_to result self.new ≡ by_objects (λ objects. row.wait objects thread condition mutex) (state_in self.old) }
         ensures input { self.new.input ≡ self.old.input }
@@ -59,7 +60,7 @@ impl StateInCall {
     }
 
     pub(super) fn barrier(&mut self, thread: u32, number: u32, count: u32) -> Reply
-        requires number { thread < 256 }
+        requires number { thread < limit.threads }
         requires idle { is_waiting self.old.objects thread ≡ false }
         ensures done { came_to result self.new ≡ by_objects (λ objects. row.barrier objects thread number count) (state_in self.old) }
         ensures input { self.new.input ≡ self.old.input }

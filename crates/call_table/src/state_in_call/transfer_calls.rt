@@ -3,6 +3,8 @@
 
 ghost use Rattle.std.specs.Prelude.{◌≡◌, ◌+◌, ◌-◌, ◌%◌, ◌++◌, ◌^◌, ◌<◌, ◌≤◌, ℕ, Bool, IfOk, OnOk, OnErr, if◌then◌else◌, length, slice_index};
 ghost use Rattle.std.specs.Fn.{FnReturnsAt};
+ghost use Rattle.abi.specs.Limits as limit;
+ghost use Rattle.guest_memory.specs.Layout as layout;
 ghost use Rattle.guest_memory.specs.declared.perm.Perm.{Perm as Permission};
 ghost use Rattle.paged_memory.specs.Mapping.{is_among, with_bytes};
 ghost use Rattle.paged_memory.specs.Snapshot.{cells_of};
@@ -96,7 +98,7 @@ fn run_length(address: u32, count: u32) -> u32
     requires { 0 < count }
     ensures some { 0 < result }
     ensures within { result ≤ count }
-    ensures inside { address % 4096 + result ≤ 4096 }
+    ensures inside { address % layout.page_size + result ≤ layout.page_size }
 {
     count.min(PAGE_SIZE - address % PAGE_SIZE)
 }
@@ -134,7 +136,7 @@ fn append_run(
     address: u32,
     count: u32,
 ) -> Result<(), AllocError>
-    requires { address % 4096 + count ≤ 4096 }
+    requires { address % layout.page_size + count ≤ layout.page_size }
     ensures done { OnOk result (output.new.items ≡ output.old.items ++ effects.bytes_of (cells_of memory.now) address count) }
     ensures kept { OnErr result (output.new.items ≡ output.old.items) }
 {
@@ -148,7 +150,7 @@ fn append_run(
 /// Stores bytes from an address on, where it is mapped.
 fn fill(memory: &mut Snapshot, address: u32, bytes: &[u8]) -> Result<(), AllocError>
     requires room { address + length bytes.now ≤ 2 ^ 32 }
-    requires count { length bytes.now ≤ 65536 }
+    requires count { length bytes.now ≤ limit.transfer }
     ensures { OnOk result (cells_of memory.new ≡ with_bytes address bytes.now (cells_of memory.old)) }
 {
     let count = bytes.len() as u32;
@@ -164,7 +166,7 @@ fn fill(memory: &mut Snapshot, address: u32, bytes: &[u8]) -> Result<(), AllocEr
 
 /// Stores bytes of one page, where it is mapped.
 fn fill_run(memory: &mut Snapshot, address: u32, bytes: &[u8]) -> Result<(), AllocError>
-    requires { address % 4096 + length bytes.now ≤ 4096 }
+    requires { address % layout.page_size + length bytes.now ≤ layout.page_size }
     ensures { OnOk result (cells_of memory.new ≡ with_bytes address bytes.now (cells_of memory.old)) }
 {
     let number = address / PAGE_SIZE;
@@ -180,8 +182,8 @@ fn fill_run(memory: &mut Snapshot, address: u32, bytes: &[u8]) -> Result<(), All
 
 /// Replaces the bytes of a page from a place on.
 fn overwrite(page: &mut [u8; PAGE_SIZE as usize], start: usize, bytes: &[u8])
-    requires { start + length bytes.now ≤ 4096 }
-    ensures { (i : ℕ) → i < 4096 → slice_index page.new i ≡ (if is_among start (length bytes.now) i then slice_index bytes.now (i - start) else slice_index page.old i) }
+    requires { start + length bytes.now ≤ layout.page_size }
+    ensures { (i : ℕ) → i < layout.page_size → slice_index page.new i ≡ (if is_among start (length bytes.now) i then slice_index bytes.now (i - start) else slice_index page.old i) }
 {
     page[start..start + bytes.len()].copy_from_slice(bytes);
 }
