@@ -1,6 +1,6 @@
 //! Compares the files of the samples with the guest programs, or writes them anew.
 //!
-//! With no words it compares the files in the folder that it runs in, and names each that differs. `samples write FOLDER`
+//! With no arguments it compares the files in the folder that it runs in, and names each that differs. `samples write FOLDER`
 //! writes them to a folder.
 #![tactic(auto)]
 
@@ -12,26 +12,27 @@ use std::rt::Files;
 use std::{env, fs};
 
 fn main(rt: HostRuntime) -> Result<()> {
-    let words: Vec<String> = env::args(&rt)?.collect(rt.alloc())?;
+    let arguments: Vec<String> = env::args(&rt)?.collect(rt.alloc())?;
     let files = sample_files(rt.alloc())?;
-    match words.as_slice() {
+    match arguments.as_slice() {
         [] | [_] => compare(&rt, &files),
         [_, action, folder] if action.as_str() == "write" => write(&rt, &files, folder.as_str()),
         _ => Err(anyhow!("usage: samples, or samples write FOLDER")),
     }
 }
 
-/// Compares the files, and prints how many are as they must be.
+/// Compares the files, and names each that differs.
 fn compare<R: AllocGlobal + Files + Print>(rt: &R, files: &[SampleFile]) -> Result<()> {
-    let mut same: u32 = 0;
+    let mut all_same = true;
     for file in files {
-        if is_same(rt, file)? {
-            same = same.saturating_add(1);
-        } else {
+        if !is_same(rt, file)? {
+            all_same = false;
             println!(rt; "{} differs", file.name)?;
         }
     }
-    println!(rt; "{same} of {} files are as they must be", files.len())?;
+    if all_same {
+        println!(rt; "each file is as it must be")?;
+    }
     Ok(())
 }
 
