@@ -1,4 +1,5 @@
-/* Barriers. Who waits at one waits for one condition of the machine, so the last wakes all in one turn. */
+/* Barriers. Who waits at one waits for one condition of the machine, so the last wakes all in one turn. They make the turns of
+ * their waking in the next phase and go on in the one after it; so does the last, or its work would take a phase of its own. */
 #include "monitor.h"
 
 int pthread_barrier_init(pthread_barrier_t *barrier, const pthread_barrierattr_t *attributes, unsigned count)
@@ -19,17 +20,20 @@ int pthread_barrier_destroy(pthread_barrier_t *barrier)
 
 int pthread_barrier_wait(pthread_barrier_t *barrier)
 {
-    int code = 0;
+    bool is_last, wakes_others;
     monitor_enter();
-    if (++barrier->arrived == barrier->count) {
+    is_last = ++barrier->arrived == barrier->count;
+    wakes_others = is_last && barrier->count > 1;
+    if (is_last) {
         barrier->arrived = 0;
         monitor_wake_all(&barrier->waiters);
-        code = PTHREAD_BARRIER_SERIAL_THREAD;
     } else {
         monitor_sleep_in_crowd(&barrier->waiters, barrier->crowd);
     }
     monitor_leave();
-    return code;
+    if (wakes_others && !own.inside)
+        dthreads_sync();
+    return is_last ? PTHREAD_BARRIER_SERIAL_THREAD : 0;
 }
 
 int pthread_barrierattr_init(pthread_barrierattr_t *attributes)

@@ -21,6 +21,8 @@ enum {
     CROWD_CONDITIONS = 8,
     /* Operations in the monitor after which a thread lets others have their turns. */
     LONGEST_STAY = 512,
+    /* Threads that begin together at most. */
+    BATCH = 64,
     /* Bytes of a thread's name, with the zero at its end. */
     NAME_SIZE = 16
 };
@@ -65,6 +67,8 @@ struct dthreads_thread {
     void *(*start)(void *);
     void *argument;
     void *result;
+    /* How many threads had been created with it. */
+    uint32_t created;
     struct stack *stack;
     /* The stack as its attributes have it: its lowest address and its bytes. */
     char *stack_base;
@@ -98,6 +102,8 @@ struct monitor {
     uint32_t awake;
     /* Threads of the machine so far. */
     uint32_t made;
+    /* Calls of pthread_create that made a thread. */
+    uint32_t created;
     /* There are threads that the library didn't make. */
     uint32_t others;
     /* Who waits for each condition of the machine. */

@@ -335,15 +335,28 @@ char *fgets(char *text, int size, FILE *stream)
     return length > 0 ? text : NULL;
 }
 
+/* What is left in the buffer of the input, up to so many bytes. */
+static size_t copy_input(char *bytes, size_t wanted)
+{
+    size_t left = input.length - input.place;
+    size_t count = left < wanted ? left : wanted;
+    memcpy(bytes, input.bytes + input.place, count);
+    input.place += (uint32_t)count;
+    return count;
+}
+
 size_t fread(void *bytes, size_t size, size_t count, FILE *stream)
 {
+    char *place = bytes;
     size_t length = 0;
     monitor_enter();
     while (length < size * count) {
         int character = fgetc(stream);
         if (character == EOF)
             break;
-        ((unsigned char *)bytes)[length++] = (unsigned char)character;
+        place[length++] = (char)character;
+        if (stream == stdin)
+            length += copy_input(place + length, size * count - length);
     }
     monitor_leave();
     return size ? length / size : 0;

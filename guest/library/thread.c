@@ -144,6 +144,7 @@ static int thread_make(pthread_t *name, const pthread_attr_t *attributes, void *
     thread_fill(thread, start, argument);
     thread->detached = attributes->detach_state == PTHREAD_CREATE_DETACHED;
     *name = name_of(thread);
+    thread->created = ++monitor.created;
     monitor_hold();
     monitor.living++;
     if (is_new) {
@@ -170,10 +171,28 @@ int pthread_create(pthread_t *name, const pthread_attr_t *attributes, void *(*st
     return code;
 }
 
+/* Whether as many threads were created after this one as may begin together with it. */
+static bool is_batch_full(const struct dthreads_thread *thread)
+{
+    return (monitor.created - 1) / BATCH != (thread->created - 1) / BATCH;
+}
+
+/* Waits until a phase has passed in which no thread was created. A phase lasts until all its threads have called, so threads
+ * that are created one after the other would run one after the other if each began at once. */
+static void begin_together(const struct dthreads_thread *thread)
+{
+    uint32_t seen;
+    do {
+        seen = monitor.created;
+        dthreads_sync();
+    } while (monitor.created != seen && !is_batch_full(thread));
+}
+
 void dthreads_thread_run(struct dthreads_thread *thread)
 {
     tls_fill(thread->block);
     own.thread = thread;
+    begin_together(thread);
     pthread_exit(thread->start(thread->argument));
 }
 

@@ -26,17 +26,18 @@ static void *multiply(void *argument)
     return NULL;
 }
 
-/* The product of a matrix and a vector of ones, by both ways. */
+/* How many rows of the product have another sum than the factors say. */
 static int differences(void)
 {
+    static int sums[SIZE];
     int wrong = 0;
+    for (int row = 0; row < SIZE; row++)
+        for (int i = 0; i < SIZE; i++)
+            sums[row] += right[row][i];
     for (int row = 0; row < SIZE; row++) {
         int by_product = 0, by_factors = 0;
         for (int i = 0; i < SIZE; i++) {
-            int sum = 0;
-            for (int column = 0; column < SIZE; column++)
-                sum += right[i][column];
-            by_factors += left[row][i] * sum;
+            by_factors += left[row][i] * sums[i];
             by_product += product[row][i];
         }
         wrong += by_product != by_factors;

@@ -16,10 +16,11 @@ static void *add(void *argument)
 
 int main(void)
 {
-    pthread_t thread;
-    pthread_create(&thread, NULL, add, NULL);
-    add(NULL);
-    pthread_join(thread, NULL);
+    pthread_t threads[2];
+    for (int i = 0; i < 2; i++)
+        pthread_create(&threads[i], NULL, add, NULL);
+    for (int i = 0; i < 2; i++)
+        pthread_join(threads[i], NULL);
     printf("counter %d of %d\n", counter, 2 * ADDITIONS);
     return counter != 2 * ADDITIONS;
 }

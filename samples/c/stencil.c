@@ -9,6 +9,10 @@
 #ifndef STEPS
 #define STEPS 20
 #endif
+/* Whether the result is worked out again by one thread. */
+#ifndef CHECK
+#define CHECK 1
+#endif
 enum { THREADS = 4, HOT = 1000000 };
 
 static int plates[2][SIZE][SIZE];
@@ -66,7 +70,7 @@ int main(void)
     }
     for (int i = 0; i < THREADS; i++)
         pthread_join(threads[i], NULL);
-    int wrong = differences();
+    int wrong = CHECK ? differences() : 0;
     printf("below the edge %d, %d differences\n", plates[STEPS % 2][1][SIZE / 2], wrong);
     return wrong != 0;
 }

@@ -6,6 +6,10 @@
 #ifndef INPUT
 #define INPUT 65536
 #endif
+/* Whether the result is worked out again by one thread. */
+#ifndef CHECK
+#define CHECK 1
+#endif
 enum { THREADS = 4, KEYS = 4 };
 
 static const char *const keys[KEYS] = {"thread", "memory", "token", "nowhere"};
@@ -65,12 +69,12 @@ int main(void)
     }
     for (int i = 0; i < THREADS; i++)
         pthread_join(threads[i], NULL);
-    match(checked, 0, length);
+    match(checked, 0, CHECK ? length : 0);
     for (int key = 0; key < KEYS; key++) {
         int sum = 0;
         for (int i = 0; i < THREADS; i++)
             sum += found[i][key];
-        wrong += sum != checked[key];
+        wrong += CHECK && sum != checked[key];
         printf("%s: %d\n", keys[key], sum);
     }
     return wrong;

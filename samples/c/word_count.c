@@ -8,6 +8,10 @@
 #ifndef INPUT
 #define INPUT 65536
 #endif
+/* Whether the result is worked out again by one thread. */
+#ifndef CHECK
+#define CHECK 1
+#endif
 enum { THREADS = 4, ROOTS = 128, LONGEST = 23, SHOWN = 5 };
 
 struct word {
@@ -112,8 +116,8 @@ int main(void)
     }
     for (int i = 0; i < THREADS; i++)
         pthread_join(threads[i], NULL);
-    count_words(checked, 0, length);
-    int wrong = sum_of(common) - sum_of(checked);
+    count_words(checked, 0, CHECK ? length : 0);
+    int wrong = CHECK ? sum_of(common) - sum_of(checked) : 0;
     printf("%d words\n", sum_of(common));
     for (int i = 0; i < SHOWN; i++) {
         struct word *word = most_frequent();
