@@ -317,6 +317,25 @@ int ungetc(int character, FILE *stream)
     return is_free ? character : EOF;
 }
 
+/* What is left in the buffer of the input, up to so many bytes. */
+static size_t copy_input(char *bytes, size_t wanted)
+{
+    size_t left = input.length - input.place;
+    size_t count = left < wanted ? left : wanted;
+    memcpy(bytes, input.bytes + input.place, count);
+    input.place += (uint32_t)count;
+    return count;
+}
+
+/* The same, up to the end of a line. */
+static size_t copy_line(char *text, size_t wanted)
+{
+    const char *start = input.bytes + input.place;
+    size_t left = input.length - input.place;
+    const char *end = memchr(start, '\n', left < wanted ? left : wanted);
+    return copy_input(text, end ? (size_t)(end - start) : wanted);
+}
+
 char *fgets(char *text, int size, FILE *stream)
 {
     int length = 0;
@@ -328,21 +347,13 @@ char *fgets(char *text, int size, FILE *stream)
         text[length++] = (char)character;
         if (character == '\n')
             break;
+        if (stream == stdin)
+            length += (int)copy_line(text + length, (size_t)(size - 1 - length));
     }
     monitor_leave();
     if (size > 0)
         text[length] = 0;
     return length > 0 ? text : NULL;
-}
-
-/* What is left in the buffer of the input, up to so many bytes. */
-static size_t copy_input(char *bytes, size_t wanted)
-{
-    size_t left = input.length - input.place;
-    size_t count = left < wanted ? left : wanted;
-    memcpy(bytes, input.bytes + input.place, count);
-    input.place += (uint32_t)count;
-    return count;
 }
 
 size_t fread(void *bytes, size_t size, size_t count, FILE *stream)
