@@ -142,6 +142,37 @@ fn list_often(alloc: Global, patch: &Patch, count: u64) -> Result<usize> {
     Ok(done)
 }
 
+/// What making the patch of a view takes, and how many bytes the patches had.
+fn timed_compares<R: Clock>(rt: &R, alloc: Global, view: &View, count: u64) -> Result<(u128, u64)> {
+    let start = Instant::now(rt)?;
+    let compared = compare_often(alloc, view, count)?;
+    Ok((each(rt, &start, count)?, compared))
+}
+
+/// What the commit of a patch takes, and how many bytes were committed.
+fn timed_applies<R: Clock>(
+    rt: &R,
+    snapshot: &Snapshot,
+    patch: &Patch,
+    count: u64,
+) -> Result<(u128, u64)> {
+    let start = Instant::now(rt)?;
+    let applied = apply_often(snapshot, patch, count)?;
+    Ok((each(rt, &start, count)?, applied))
+}
+
+/// What the list of a patch's addresses takes, and how many they were.
+fn timed_lists<R: Clock>(
+    rt: &R,
+    alloc: Global,
+    patch: &Patch,
+    count: u64,
+) -> Result<(u128, usize)> {
+    let start = Instant::now(rt)?;
+    let listed = list_often(alloc, patch, count)?;
+    Ok((each(rt, &start, count)?, listed))
+}
+
 /// Prints what the patch of 16 changed pages, its commit and the list of its addresses take, where few and
 /// where many pages are mapped, and where the changed pages lie side by side and far apart.
 pub fn measure_commits<R: Clock + Print>(
@@ -153,20 +184,27 @@ pub fn measure_commits<R: Clock + Print>(
     for (pages, stride) in [(100, 1), (100, 6), (16_000, 1), (16_000, 6), (16_000, 1000)] {
         let mut snapshot = Snapshot::of_image(alloc, image)?;
         snapshot.map_zero(HEAP_START / PAGE_SIZE, pages, Perm::READ_WRITE)?;
-        let view = changed_view(&snapshot, stride)?;
-        let patch = Patch::of(alloc, &view)?;
-        let start = Instant::now(rt)?;
-        let compared = compare_often(alloc, &view, count)?;
-        let of = each(rt, &start, count)?;
-        let start = Instant::now(rt)?;
-        let applied = apply_often(&snapshot, &patch, count)?;
-        let commit = each(rt, &start, count)?;
-        let start = Instant::now(rt)?;
-        let listed = list_often(alloc, &patch, count)?;
-        let list = each(rt, &start, count)?;
-        println!(rt;
-            "{pages} pages mapped, a changed page in {stride}: Patch::of {of} ps, apply {commit} ps, changed_addresses {list} ps ({compared} {applied} {listed})"
-        )?;
+        print!(rt; "{pages} pages mapped, a changed page in {stride}: ")?;
+        measure_commit(rt, alloc, &snapshot, stride, count)?;
     }
+    Ok(())
+}
+
+/// Prints what they take for one snapshot.
+fn measure_commit<R: Clock + Print>(
+    rt: &R,
+    alloc: Global,
+    snapshot: &Snapshot,
+    stride: u32,
+    count: u64,
+) -> Result<()> {
+    let view = changed_view(snapshot, stride)?;
+    let patch = Patch::of(alloc, &view)?;
+    let (of, compared) = timed_compares(rt, alloc, &view, count)?;
+    let (commit, applied) = timed_applies(rt, snapshot, &patch, count)?;
+    let (list, listed) = timed_lists(rt, alloc, &patch, count)?;
+    println!(rt;
+        "Patch::of {of} ps, apply {commit} ps, changed_addresses {list} ps ({compared} {applied} {listed})"
+    )?;
     Ok(())
 }

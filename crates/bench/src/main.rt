@@ -1,10 +1,9 @@
 //! Measures how many guest instructions a second a hart executes on a whole memory, on a snapshot and on
 //! a view of one, and what single accesses and the opening of a view take.
 //!
-//! `bench FILE INSTRUCTIONS` runs thread 0 of a file up to its first stop or that many instructions, on a
-//! whole memory, on a snapshot and then on a view. With a third word it measures parts, each so many times: `accesses` to a
+//! `bench FILE COUNT` runs thread 0 of a file up to its first stop or that many instructions, on a whole
+//! memory, on a snapshot and then on a view. With a part it measures that, so many times: `accesses` to a
 //! whole memory and to a view, `opens` of views, `merges` of pages, `commits` of patches, and `turns` of a run.
-//! With no words it prints nothing.
 #![tactic(auto)]
 
 mod accesses;
@@ -14,49 +13,121 @@ mod turns;
 
 use accesses::{measure_accesses, measure_opens};
 use anyhow::{Context, Result, anyhow};
+use clap::{Arg, ArgMatches, Command, Error, value_parser};
 use commits::{measure_commits, measure_merges};
 use elf32_reader::{Image, read};
 use guest_memory::GuestMemory;
 use guest_memory::layout::STACK_POINTER;
 use hart::{Hart, run_to_stop};
 use paged_memory::{Snapshot, WholeMemory};
-use std::alloc::Global;
-use std::rt::{Clock, Env};
+use std::alloc::{AllocError, Global};
+use std::process::ExitCode;
+use std::rt::{Clock, Files};
 use std::time::{Duration, Instant};
 use std::{env, fs};
 use turns::measure_turns;
 use twins::View;
 
-fn main(rt: HostRuntime) -> Result<()> {
-    let words: Vec<String> = env::args(&rt)?.collect(rt.alloc())?;
-    if words.len() < 3 {
-        return Ok(());
+/// The parts that are measured by themselves.
+static PARTS: [&str; 5] = ["accesses", "opens", "merges", "commits", "turns"];
+
+fn main(rt: HostRuntime) -> Result<ExitCode> {
+    let arguments: Vec<String> = env::args(&rt)?.collect(rt.alloc())?;
+    let matches = command_line(rt.alloc())?.try_get_matches_from(arguments.as_slice());
+    answer(&rt, rt.alloc(), matches)
+}
+
+/// What the program takes.
+fn command_line<'a>(alloc: Global) -> Result<Command<'a>, AllocError> {
+    Command::new(alloc, "bench")
+        .bin_name("bench")?
+        .about("Measures how fast guests run")
+        .arg(file(alloc))?
+        .arg(count(alloc))?
+        .arg(part(alloc))
+}
+
+fn file<'a>(alloc: Global) -> Arg<'a> {
+    Arg::new(alloc, "FILE")
+        .required(true)
+        .help("The program, an ELF file")
+}
+
+fn count<'a>(alloc: Global) -> Arg<'a> {
+    Arg::new(alloc, "COUNT")
+        .required(true)
+        .value_parser(value_parser!(u64))
+        .help("How many instructions are executed, or how often a part is done")
+}
+
+fn part<'a>(alloc: Global) -> Arg<'a> {
+    Arg::new(alloc, "PART")
+        .value_parser(PARTS.as_slice())
+        .help("What is measured in place of a segment")
+}
+
+/// Measures what the arguments ask for, or says what is wrong with them.
+fn answer<R: AllocGlobal + Clock + Eprint + Files + Print>(
+    rt: &R,
+    alloc: Global,
+    matches: Result<ArgMatches<'_>, Error>,
+) -> Result<ExitCode> {
+    match matches {
+        Ok(matches) => {
+            measure_asked(rt, alloc, &matches)?;
+            Ok(ExitCode::SUCCESS)
+        }
+        Err(error) => {
+            error.print(rt)?;
+            Ok(ExitCode::from(error.exit_code() as u8))
+        }
     }
-    let bound = words[2].as_str().parse::<u64>()?;
-    let file = fs::read(&rt, words[1].as_str()).context(words[1].as_str())?;
-    let image = read(rt.alloc(), &file).map_err(|fault| anyhow!("elf refused: {fault}"))?;
-    match words.get(3).map(|word| word.as_str()) {
-        None => measure(&rt, rt.alloc(), &image, bound),
-        Some("accesses") => measure_accesses(&rt, rt.alloc(), &image, bound),
-        Some("opens") => measure_opens(&rt, rt.alloc(), &image, bound),
-        Some("merges") => measure_merges(&rt, bound),
-        Some("commits") => measure_commits(&rt, rt.alloc(), &image, bound),
-        Some("turns") => measure_turns(&rt, rt.alloc(), &image, bound),
-        Some(word) => Err(anyhow!("{word}: none of accesses, opens, merges, commits and turns")),
+}
+
+/// Measures what the arguments ask for.
+fn measure_asked<R: AllocGlobal + Clock + Files + Print>(
+    rt: &R,
+    alloc: Global,
+    matches: &ArgMatches<'_>,
+) -> Result<()> {
+    let image = image_of(rt, alloc, matches.get_str("FILE").context("no file")?)?;
+    let count = matches.get_one("COUNT").context("no count")?;
+    match matches.get_str("PART") {
+        Some("accesses") => measure_accesses(rt, alloc, &image, count),
+        Some("opens") => measure_opens(rt, alloc, &image, count),
+        Some("merges") => measure_merges(rt, count),
+        Some("commits") => measure_commits(rt, alloc, &image, count),
+        Some("turns") => measure_turns(rt, alloc, &image, count),
+        _ => measure(rt, alloc, &image, count),
     }
+}
+
+/// The image of a file.
+fn image_of<R: AllocGlobal + Files>(rt: &R, alloc: Global, path: &str) -> Result<Image> {
+    let file = fs::read(rt, path).context(path)?;
+    read(alloc, &file).map_err(|fault| anyhow!("elf refused: {fault}"))
 }
 
 /// Runs an image on a whole memory, on a snapshot and on a view, and prints how many instructions a second were executed.
 fn measure<R: Clock + Print>(rt: &R, alloc: Global, image: &Image, bound: u64) -> Result<()> {
     let mut whole = WholeMemory::of_image(alloc, image)?;
-    let (count, time) = timed(rt, image, &mut whole, bound)?;
-    report(rt, "whole memory", count, time)?;
+    measure_on(rt, "whole memory", image, &mut whole, bound)?;
     let mut snapshot = Snapshot::of_image(alloc, image)?;
-    let (count, time) = timed(rt, image, &mut snapshot, bound)?;
-    report(rt, "snapshot", count, time)?;
+    measure_on(rt, "snapshot", image, &mut snapshot, bound)?;
     let mut view = View::open(Snapshot::of_image(alloc, image)?);
-    let (count, time) = timed(rt, image, &mut view, bound)?;
-    report(rt, "view", count, time)
+    measure_on(rt, "view", image, &mut view, bound)
+}
+
+/// Runs an image on a memory, and prints how many instructions a second were executed.
+fn measure_on<R: Clock + Print, M: GuestMemory>(
+    rt: &R,
+    name: &str,
+    image: &Image,
+    memory: &mut M,
+    bound: u64,
+) -> Result<()> {
+    let (count, time) = timed(rt, image, memory, bound)?;
+    report(rt, name, count, time)
 }
 
 /// Prints how many instructions a second were executed.

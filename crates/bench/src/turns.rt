@@ -128,17 +128,27 @@ fn do_segments(serial: &Serial, count: u64) -> Result<()> {
     Ok(())
 }
 
+/// What a turn takes with its segment.
+fn turn_time<R: Clock>(rt: &R, serial: &mut Serial, count: u64) -> Result<u128> {
+    let start = Instant::now(rt)?;
+    do_turns(serial, count)?;
+    each(rt, &start, count)
+}
+
+/// What a segment takes.
+fn segment_time<R: Clock>(rt: &R, serial: &Serial, count: u64) -> Result<u128> {
+    let start = Instant::now(rt)?;
+    do_segments(serial, count)?;
+    each(rt, &start, count)
+}
+
 /// What a turn takes with its segment, and the segment alone, the least of some rounds.
 fn least_times<R: Clock>(rt: &R, serial: &mut Serial, count: u64) -> Result<(u128, u128)> {
     let mut turn = u128::MAX;
     let mut segment = u128::MAX;
     for _ in 0..ROUNDS {
-        let start = Instant::now(rt)?;
-        do_turns(serial, count)?;
-        turn = turn.min(each(rt, &start, count)?);
-        let start = Instant::now(rt)?;
-        do_segments(serial, count)?;
-        segment = segment.min(each(rt, &start, count)?);
+        turn = turn.min(turn_time(rt, serial, count)?);
+        segment = segment.min(segment_time(rt, serial, count)?);
     }
     Ok((turn, segment))
 }
@@ -157,12 +167,24 @@ pub fn measure_turns<R: Clock + Print>(
         do_turns(&mut serial, load.turns_before)?;
         let threads = serial.threads().len();
         let (turn, segment) = least_times(rt, &mut serial, count)?;
-        let rest = turn.saturating_sub(segment);
-        let rate = 1_000_000_000_000 / turn.max(1);
-        println!(rt;
-            "{} pages mapped, {threads} threads, {} pages changed, after {} turns: {turn} ps with the segment, {segment} ps the segment, {rest} ps the rest, {rate} turns a second",
-            load.pages, load.changed_pages, load.turns_before
-        )?;
+        print_times(rt, load, threads, turn, segment)?;
     }
+    Ok(())
+}
+
+/// Prints what a turn takes with its segment, and the segment alone.
+fn print_times<R: Print>(
+    rt: &R,
+    load: Load,
+    threads: usize,
+    turn: u128,
+    segment: u128,
+) -> Result<()> {
+    let rest = turn.saturating_sub(segment);
+    let rate = 1_000_000_000_000 / turn.max(1);
+    println!(rt;
+        "{} pages mapped, {threads} threads, {} pages changed, after {} turns: {turn} ps with the segment, {segment} ps the segment, {rest} ps the rest, {rate} turns a second",
+        load.pages, load.changed_pages, load.turns_before
+    )?;
     Ok(())
 }
