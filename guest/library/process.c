@@ -1,12 +1,14 @@
 /* The run's beginning and end, and what little there is of a process. */
+#include <signal.h>
 #include <stdio.h>
 #include <stdlib.h>
 #include <unistd.h>
 #include "monitor.h"
 
 enum {
-    /* The status of a program that a signal 6 ended. */
-    ABORTED = 134,
+    /* The status of a program that a signal ended is its number and this. */
+    BY_SIGNAL = 128,
+    PROCESS = 1,
     PROCESSORS = 4
 };
 
@@ -61,13 +63,27 @@ void exit(int status)
 void abort(void)
 {
     output_flush();
-    _exit(ABORTED);
+    _exit(BY_SIGNAL + SIGABRT);
 }
 
 static int refuse(int code)
 {
     errno = code;
     return -1;
+}
+
+pid_t getpid(void)
+{
+    return PROCESS;
+}
+
+/* A signal that has no handler ends the run; raise calls this. */
+int kill(pid_t process, int signal)
+{
+    if (process != PROCESS)
+        return refuse(ESRCH);
+    output_flush();
+    _exit(BY_SIGNAL + signal);
 }
 
 ssize_t write(int file, const void *bytes, size_t length)

@@ -1,0 +1,2 @@
+#include <stdio.h>
+int main(void) { return fopen("name", "r") == NULL; }
