@@ -18,32 +18,49 @@ pub fn parse<'a, S: AsStr>(alloc: Global, arguments: &'a [S]) -> Result<Request<
 
 /// The commands of the program, and what each takes.
 fn command_line<'a>(alloc: Global) -> Result<Command<'a>, AllocError> {
-    let run = Command::new(alloc, "run")
-        .about("Run a program, with standard input as its input")
-        .arg(file(alloc))?
-        .arg(workers(alloc).default_value("4"))?
-        .arg(bound(alloc))?
-        .arg(quantum(alloc))?
-        .arg(output(alloc, "trace").help("Write a line for each turn to this file"))?
-        .arg(output(alloc, "report").help("Write the sharing of pages to this file"))?;
-    let disasm = Command::new(alloc, "disasm")
-        .about("Print the instructions of a program")
-        .arg(file(alloc))?;
-    let replay = Command::new(alloc, "replay")
-        .about("Apply a schedule to a program and print the trace (not yet)")
-        .arg(file(alloc))?
-        .arg(schedule(alloc))?
-        .arg(workers(alloc).required(true))?
-        .arg(bound(alloc))?
-        .arg(quantum(alloc))?;
     Command::new(alloc, "dthreads")
         .bin_name("dthreads")?
         .about("Runs multithreaded RV32IM programs with the same result each time")
         .subcommand_required(true)
         .disable_help_subcommand(true)
-        .subcommand(run)?
-        .subcommand(disasm)?
-        .subcommand(replay)
+        .subcommand(run_command(alloc)?)?
+        .subcommand(disasm_command(alloc)?)?
+        .subcommand(replay_command(alloc)?)
+}
+
+fn run_command<'a>(alloc: Global) -> Result<Command<'a>, AllocError> {
+    let command = Command::new(alloc, "run")
+        .about("Run a program, with standard input as its input")
+        .arg(file(alloc))?
+        .arg(workers(alloc).default_value("4"))?;
+    with_records(limited(command, alloc)?, alloc)
+}
+
+fn disasm_command<'a>(alloc: Global) -> Result<Command<'a>, AllocError> {
+    Command::new(alloc, "disasm")
+        .about("Print the instructions of a program")
+        .arg(file(alloc))
+}
+
+fn replay_command<'a>(alloc: Global) -> Result<Command<'a>, AllocError> {
+    let command = Command::new(alloc, "replay")
+        .about("Apply a schedule to a program and print the trace (not yet)")
+        .arg(file(alloc))?
+        .arg(schedule(alloc))?
+        .arg(workers(alloc).required(true))?;
+    limited(command, alloc)
+}
+
+/// Adds how many instructions are executed.
+fn limited<'a>(command: Command<'a>, alloc: Global) -> Result<Command<'a>, AllocError> {
+    command.arg(bound(alloc))?.arg(quantum(alloc))
+}
+
+/// Adds the files that a run is recorded in.
+fn with_records<'a>(command: Command<'a>, alloc: Global) -> Result<Command<'a>, AllocError> {
+    command
+        .arg(output(alloc, "trace").help("Write a line for each turn to this file"))?
+        .arg(output(alloc, "report").help("Write the sharing of pages to this file"))
 }
 
 fn file<'a>(alloc: Global) -> Arg<'a> {
