@@ -16,7 +16,7 @@ enum {
     LEAST_GROWTH = 16,
     /* Bytes that a thread takes or gives back at a time. */
     BATCH_BYTES = 4096,
-    /* A freed block of so many pages goes back to the machine, as long as less than half of the heap was given. */
+    /* A freed block of so many pages goes back to the machine, as long as less than a quarter of the heap was given. */
     RELEASED_PAGES = 64,
     /* What a page belongs to, beside the small sizes 1 to SIZES. */
     LARGE = 255
@@ -166,7 +166,7 @@ static char *pages_take(uint32_t pages)
 
 static void pages_give(char *address, uint32_t pages)
 {
-    if (pages < RELEASED_PAGES || given >= DTHREADS_HEAP_PAGES / 2) {
+    if (pages < RELEASED_PAGES || given >= DTHREADS_HEAP_PAGES / 4) {
         run_insert(address, pages);
         return;
     }

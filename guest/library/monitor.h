@@ -164,6 +164,14 @@ void *heap_pages(uint32_t pages);
 
 void keys_destroy_values(void);
 void output_flush(void);
+/* The living or ended thread of a name, or NULL. */
+struct dthreads_thread *thread_of(pthread_t name);
+
+/* Where a thread's thread-local block lies below `top`; its stack begins below it. */
+char *block_below(char *top);
 void tls_fill(char *block);
+/* Gives a thread the stack that its attributes name; false where there is no memory. */
+bool stack_attach(struct dthreads_thread *thread, const pthread_attr_t *attributes);
+void stack_give(struct stack *stack);
 
 #endif

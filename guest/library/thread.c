@@ -6,65 +6,11 @@
 /* The end of the first thread's stack. */
 #define FIRST_STACK_TOP UINT32_C(0x80000000)
 
-struct stack {
-    struct stack *next;
-    uint32_t pages;
-};
-
-extern char __tls_template[], __tls_first[];
-extern char __tls_data_size[], __tls_size[], __tls_align[];
+/* The first thread's thread-local block. */
+extern char __tls_first[];
 
 void dthreads_thread_entry(void);
-void dthreads_plain_entry(void);
 void dthreads_thread_park(struct dthreads_thread *, uint32_t, uint32_t *) __attribute__((noreturn));
-
-void tls_fill(char *block)
-{
-    size_t data = (size_t)__tls_data_size;
-    memcpy(block, __tls_template, data);
-    memset(block + data, 0, (size_t)__tls_size - data);
-}
-
-/* The place of a thread-local block below `top`; the stack begins below it. */
-static char *block_below(char *top)
-{
-    uintptr_t align = (uintptr_t)__tls_align;
-    return (char *)(((uintptr_t)top - (uintptr_t)__tls_size) & ~(align - 1));
-}
-
-static uint32_t stack_pages(size_t size)
-{
-    size_t all = size + (size_t)__tls_size + (size_t)__tls_align + sizeof(struct stack);
-    return (uint32_t)((all + DTHREADS_PAGE - 1) / DTHREADS_PAGE);
-}
-
-/* A stack that was used before, or new pages of which the lowest is taken away as a guard. */
-static struct stack *stack_take(size_t size)
-{
-    uint32_t pages = stack_pages(size);
-    for (struct stack **place = &monitor.stacks; *place; place = &(*place)->next) {
-        struct stack *stack = *place;
-        if (stack->pages >= pages) {
-            *place = stack->next;
-            return stack;
-        }
-    }
-    char *base = heap_pages(pages + 1);
-    if (!base)
-        return NULL;
-    dthreads_release(base, 1);
-    struct stack *stack = (struct stack *)(base + (size_t)(pages + 1) * DTHREADS_PAGE) - 1;
-    stack->pages = pages;
-    return stack;
-}
-
-static void stack_give(struct stack *stack)
-{
-    if (stack) {
-        stack->next = monitor.stacks;
-        monitor.stacks = stack;
-    }
-}
 
 static pthread_t name_of(const struct dthreads_thread *thread)
 {
@@ -72,7 +18,7 @@ static pthread_t name_of(const struct dthreads_thread *thread)
 }
 
 /* The living or ended thread of a name, or NULL. */
-static struct dthreads_thread *thread_of(pthread_t name)
+struct dthreads_thread *thread_of(pthread_t name)
 {
     struct dthreads_thread *thread = &threads[name % DTHREADS_THREADS];
     if (thread->generation != name >> 8 || (thread->life != LIVING && thread->life != ENDED))
@@ -86,26 +32,6 @@ static struct dthreads_thread *parked_thread(void)
         if (threads[i].life == PARKED)
             return &threads[i];
     return NULL;
-}
-
-static bool stack_attach(struct dthreads_thread *thread, const pthread_attr_t *attributes)
-{
-    char *top;
-    thread->stack_size = attributes->stack_size;
-    if (attributes->stack_address) {
-        thread->stack = NULL;
-        thread->stack_base = attributes->stack_address;
-        top = thread->stack_base + attributes->stack_size;
-    } else {
-        thread->stack = stack_take(attributes->stack_size);
-        if (!thread->stack)
-            return false;
-        top = (char *)thread->stack;
-        thread->stack_base = (char *)(thread->stack + 1) - (size_t)thread->stack->pages * DTHREADS_PAGE;
-    }
-    thread->block = block_below(top);
-    thread->stack_top = (uint32_t)(uintptr_t)thread->block & ~UINT32_C(15);
-    return true;
 }
 
 static void thread_fill(struct dthreads_thread *thread, void *(*start)(void *), void *argument)
@@ -372,94 +298,4 @@ void thread_begin(void)
     thread->stack_size = DTHREADS_FIRST_STACK;
     thread->stack_base = (char *)(uintptr_t)(FIRST_STACK_TOP - DTHREADS_FIRST_STACK);
     own.thread = thread;
-}
-
-/* Cancellation. */
-
-void cancel_here(enum wake wake)
-{
-    if (wake == CANCELLED)
-        pthread_exit(PTHREAD_CANCELED);
-}
-
-int pthread_cancel(pthread_t name)
-{
-    monitor_enter();
-    struct dthreads_thread *thread = thread_of(name);
-    int code = thread ? 0 : ESRCH;
-    if (code == 0 && thread->life == LIVING) {
-        thread->cancelled = true;
-        if (thread->asleep && thread->may_be_cancelled)
-            monitor_wake(thread, CANCELLED);
-    }
-    monitor_leave();
-    return code;
-}
-
-int pthread_setcancelstate(int state, int *old)
-{
-    if (state != PTHREAD_CANCEL_ENABLE && state != PTHREAD_CANCEL_DISABLE)
-        return EINVAL;
-    if (old)
-        *old = own.cancel_disabled ? PTHREAD_CANCEL_DISABLE : PTHREAD_CANCEL_ENABLE;
-    own.cancel_disabled = state == PTHREAD_CANCEL_DISABLE;
-    return 0;
-}
-
-int pthread_setcanceltype(int type, int *old)
-{
-    if (old)
-        *old = PTHREAD_CANCEL_DEFERRED;
-    if (type == PTHREAD_CANCEL_ASYNCHRONOUS)
-        return ENOTSUP;
-    return type == PTHREAD_CANCEL_DEFERRED ? 0 : EINVAL;
-}
-
-void pthread_testcancel(void)
-{
-    if (own.cancel_disabled || own.ending)
-        return;
-    monitor_enter();
-    bool is_cancelled = self()->cancelled;
-    monitor_leave();
-    if (is_cancelled)
-        pthread_exit(PTHREAD_CANCELED);
-}
-
-void dthreads_cleanup_push(struct dthreads_cleanup *cleanup)
-{
-    cleanup->outer = own.cleanup;
-    own.cleanup = cleanup;
-}
-
-void dthreads_cleanup_pop(struct dthreads_cleanup *cleanup, int execute)
-{
-    own.cleanup = cleanup->outer;
-    if (execute)
-        cleanup->routine(cleanup->argument);
-}
-
-/* Threads of dthreads.h. */
-
-struct plain {
-    void (*entry)(void *);
-    void *argument;
-    char *block;
-};
-
-uint32_t dthreads_create(void (*entry)(void *), void *argument, void *stack_top, uint32_t *number)
-{
-    struct plain *plain = (struct plain *)((uintptr_t)stack_top & ~(uintptr_t)15) - 1;
-    char *block = block_below((char *)plain);
-    monitor.others++;
-    tls_fill(block);
-    *plain = (struct plain){entry, argument, block};
-    return dthreads_call(DTHREADS_CREATE, (uint32_t)(uintptr_t)dthreads_plain_entry, (uint32_t)(uintptr_t)plain,
-                         (uint32_t)(uintptr_t)block & ~UINT32_C(15), number);
-}
-
-void dthreads_plain_run(struct plain *plain)
-{
-    plain->entry(plain->argument);
-    dthreads_thread_exit(0);
 }
