@@ -13,6 +13,7 @@
 #include <pthread.h>
 #include <dthreads.h>
 #include "offsets.h"
+#include "names.h"
 
 enum {
     /* Conditions that sleepers share by their number. */
@@ -28,6 +29,8 @@ enum {
 };
 
 #define NEVER UINT64_MAX
+/* Of nanoseconds. */
+#define SECOND UINT64_C(1000000000)
 
 /* Why a sleep ended. */
 enum wake {
@@ -148,6 +151,8 @@ void monitor_one_less(void);
 /* A thread that has ended gets something to run. */
 void monitor_rouse(struct dthreads_thread *thread);
 
+/* The clock, which the reading moves on. */
+uint64_t read_clock(void);
 /* Deadlines as the clock counts them, from times of a clock of time.h; false for times that are none. */
 bool deadline_of(clockid_t clock, const struct timespec *time, uint64_t *deadline);
 
@@ -164,6 +169,7 @@ void *heap_pages(uint32_t pages);
 
 void keys_destroy_values(void);
 void output_flush(void);
+void thread_begin(void);
 /* The living or ended thread of a name, or NULL. */
 struct dthreads_thread *thread_of(pthread_t name);
 

@@ -1,37 +1,13 @@
-/* The clock: each operation moves it on, and where all threads wait it jumps to the next deadline. */
+/* Functions on the clock. */
 #include <sys/time.h>
 #include <sys/times.h>
 #include <unistd.h>
 #include "monitor.h"
 
-#define SECOND UINT64_C(1000000000)
-
-static bool is_day_clock(clockid_t clock)
-{
-    return clock == CLOCK_REALTIME;
-}
-
 static bool is_clock(clockid_t clock)
 {
     return clock == CLOCK_REALTIME || clock == CLOCK_MONOTONIC || clock == CLOCK_PROCESS_CPUTIME_ID
         || clock == CLOCK_THREAD_CPUTIME_ID;
-}
-
-bool deadline_of(clockid_t clock, const struct timespec *time, uint64_t *deadline)
-{
-    if (time->tv_nsec < 0 || time->tv_nsec >= (long)SECOND || (clock != CLOCK_REALTIME && clock != CLOCK_MONOTONIC))
-        return false;
-    int64_t seconds = time->tv_sec - (is_day_clock(clock) ? DTHREADS_EPOCH : 0);
-    *deadline = seconds < 0 ? 0 : (uint64_t)seconds * SECOND + (uint64_t)time->tv_nsec;
-    return true;
-}
-
-static uint64_t read_clock(void)
-{
-    monitor_enter();
-    uint64_t now = monitor.clock;
-    monitor_leave();
-    return now;
 }
 
 static struct timespec timespec_of(uint64_t nanoseconds)
@@ -46,7 +22,7 @@ int clock_gettime(clockid_t clock, struct timespec *time)
         return -1;
     }
     *time = timespec_of(read_clock());
-    if (is_day_clock(clock))
+    if (clock == CLOCK_REALTIME)
         time->tv_sec += DTHREADS_EPOCH;
     return 0;
 }

@@ -1,0 +1,94 @@
+/* What can't be had. */
+#include "monitor.h"
+
+int pthread_atfork(void (*prepare)(void), void (*parent)(void), void (*child)(void))
+{
+    (void)prepare;
+    (void)parent;
+    (void)child;
+    return ENOSYS;
+}
+
+int pthread_kill(pthread_t thread, int signal)
+{
+    (void)thread;
+    (void)signal;
+    return ENOSYS;
+}
+
+int pthread_getschedparam(pthread_t thread, int *policy, struct sched_param *parameters)
+{
+    (void)thread;
+    *policy = SCHED_OTHER;
+    parameters->sched_priority = 0;
+    return 0;
+}
+
+int pthread_setschedparam(pthread_t thread, int policy, const struct sched_param *parameters)
+{
+    (void)thread;
+    return policy == SCHED_OTHER && parameters->sched_priority == 0 ? 0 : ENOTSUP;
+}
+
+int pthread_setschedprio(pthread_t thread, int priority)
+{
+    (void)thread;
+    return priority == 0 ? 0 : ENOTSUP;
+}
+
+int pthread_getconcurrency(void)
+{
+    return 0;
+}
+
+int pthread_setconcurrency(int level)
+{
+    return level == 0 ? 0 : ENOTSUP;
+}
+
+int pthread_getcpuclockid(pthread_t thread, clockid_t *clock)
+{
+    (void)thread;
+    (void)clock;
+    return ENOSYS;
+}
+
+int pthread_mutex_consistent(pthread_mutex_t *mutex)
+{
+    (void)mutex;
+    return EINVAL;
+}
+
+int pthread_mutex_getprioceiling(const pthread_mutex_t *mutex, int *ceiling)
+{
+    (void)mutex;
+    (void)ceiling;
+    return ENOTSUP;
+}
+
+int pthread_mutex_setprioceiling(pthread_mutex_t *mutex, int ceiling, int *old)
+{
+    (void)mutex;
+    (void)ceiling;
+    (void)old;
+    return ENOTSUP;
+}
+
+int pthread_mutexattr_getprioceiling(const pthread_mutexattr_t *attributes, int *ceiling)
+{
+    (void)attributes;
+    (void)ceiling;
+    return ENOTSUP;
+}
+
+int pthread_mutexattr_setprioceiling(pthread_mutexattr_t *attributes, int ceiling)
+{
+    (void)attributes;
+    (void)ceiling;
+    return ENOTSUP;
+}
+
+int pthread_yield(void)
+{
+    return sched_yield();
+}
