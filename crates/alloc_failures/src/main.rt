@@ -26,26 +26,28 @@ use std::io;
 
 fn main(rt: HostRuntime) -> io::Result<()> {
     for (name, case) in CASES {
-        match perform(rt.alloc(), case) {
-            Ok(answer) => println!(rt; "{name}: {answer}")?,
-            Err(failed) => println!(rt; "{name}: {failed}")?,
-        }
+        print_answer(&rt, name, perform(rt.alloc(), case))?;
     }
     match quiet_after_set_up(rt.alloc()) {
-        Ok(quiet) => print_quiet(&rt, quiet),
+        Ok(mut quiet) => print_quiet(&rt, &mut quiet),
         Err(failed) => println!(rt; "{failed}"),
     }
 }
 
 /// Prints what the calls come to that take no memory. From here on no memory is asked for.
-fn print_quiet<R: Print>(rt: &R, mut quiet: Quiet) -> io::Result<()> {
+fn print_quiet<R: Print>(rt: &R, quiet: &mut Quiet) -> io::Result<()> {
     for (name, case) in QUIET_CASES {
-        match quiet.perform(case) {
-            Ok(answer) => println!(rt; "{name}: {answer}")?,
-            Err(failed) => println!(rt; "{name}: {failed}")?,
-        }
+        print_answer(rt, name, quiet.perform(case))?;
     }
     Ok(())
+}
+
+/// Prints what a case came to.
+fn print_answer<R: Print>(rt: &R, name: &str, answer: Result<Answer, Failed>) -> io::Result<()> {
+    match answer {
+        Ok(answer) => println!(rt; "{name}: {answer}"),
+        Err(failed) => println!(rt; "{name}: {failed}"),
+    }
 }
 
 /// What the calls work on that take no memory. Where memory had run out, it is made once more.

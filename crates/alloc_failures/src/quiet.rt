@@ -52,20 +52,9 @@ impl Quiet {
     pub fn set_up(alloc: Global) -> Result<Self, Failed> {
         let snapshot = snapshot_with_heap(alloc)?;
         let spare = Some(snapshot.try_clone()?);
-        let mut view = View::open(snapshot);
-        for address in [DATA, STACK_POINTER] {
-            if view.store8(address, 1).is_err() {
-                return Err(Failed::SetUp(AllocError));
-            }
-        }
+        let view = view_with_bytes(snapshot)?;
         let patch = Patch::of(alloc, &view)?;
-        let image = image_of(alloc, &ECHO)?;
-        let mut serial = Serial::open(alloc, &image, b"ab", BOUND, None)?;
-        for _ in 0..2 {
-            if let Next::Turn(end) = next_turn(&serial)? {
-                serial.turn(end.as_ref())?;
-            }
-        }
+        let serial = run_of_echo(alloc)?;
         Ok(Quiet {
             view,
             spare,
@@ -174,6 +163,29 @@ impl Quiet {
             digest: mixed(digest, u64::from(waits)),
         }
     }
+}
+
+/// A view of a snapshot, with a byte stored to a page of data and to one of the stack.
+fn view_with_bytes(snapshot: Snapshot) -> Result<View, Failed> {
+    let mut view = View::open(snapshot);
+    for address in [DATA, STACK_POINTER] {
+        if view.store8(address, 1).is_err() {
+            return Err(Failed::SetUp(AllocError));
+        }
+    }
+    Ok(view)
+}
+
+/// A run of `echo` that has done two turns.
+fn run_of_echo(alloc: Global) -> Result<Serial, Failed> {
+    let image = image_of(alloc, &ECHO)?;
+    let mut serial = Serial::open(alloc, &image, b"ab", BOUND, None)?;
+    for _ in 0..2 {
+        if let Next::Turn(end) = next_turn(&serial)? {
+            serial.turn(end.as_ref())?;
+        }
+    }
+    Ok(serial)
 }
 
 /// Pages that differ in four bytes, counted and merged.

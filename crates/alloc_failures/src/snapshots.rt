@@ -94,19 +94,37 @@ pub fn store(alloc: Global) -> Result<Answer, Failed> {
     let mut snapshot = snapshot_with_heap(alloc)?;
     let clone = snapshot.try_clone()?;
     let before = Picture::of(alloc, &snapshot)?;
+    store_word(alloc, &mut snapshot, &before)?;
+    store_half(alloc, &mut snapshot)?;
+    store_byte(alloc, &mut snapshot)?;
+    answer_beside(alloc, &snapshot, &clone, &before)
+}
+
+/// A store of a word to a snapshot that is as in a picture.
+fn store_word(alloc: Global, snapshot: &mut Snapshot, before: &Picture) -> Result<(), Failed> {
     again!(
         snapshot.store32(DATA, 0x0403_0201),
-        before.is_of(alloc, &snapshot)?
+        before.is_of(alloc, snapshot)?
     );
-    let stored = Picture::of(alloc, &snapshot)?;
+    Ok(())
+}
+
+/// A store of two bytes.
+fn store_half(alloc: Global, snapshot: &mut Snapshot) -> Result<(), Failed> {
+    let before = Picture::of(alloc, snapshot)?;
     again!(
         snapshot.store16(FIRST_PAGE * PAGE_SIZE + 2, 0x0605),
-        stored.is_of(alloc, &snapshot)?
+        before.is_of(alloc, snapshot)?
     );
-    let stored = Picture::of(alloc, &snapshot)?;
+    Ok(())
+}
+
+/// A store of a byte.
+fn store_byte(alloc: Global, snapshot: &mut Snapshot) -> Result<(), Failed> {
+    let before = Picture::of(alloc, snapshot)?;
     again!(
         snapshot.store8((FIRST_PAGE + 30) * PAGE_SIZE + 5, 7),
-        stored.is_of(alloc, &snapshot)?
+        before.is_of(alloc, snapshot)?
     );
-    answer_beside(alloc, &snapshot, &clone, &before)
+    Ok(())
 }

@@ -13,22 +13,40 @@ use twins::View;
 /// A view with three pages stored to, one store refused where one is.
 pub fn view_with_stores(alloc: Global) -> Result<View, Failed> {
     let mut view = View::open(snapshot_with_heap(alloc)?);
-    let before = Picture::of(alloc, &view)?;
+    store_word(alloc, &mut view)?;
+    store_half(alloc, &mut view)?;
+    store_byte(alloc, &mut view)?;
+    Ok(view)
+}
+
+/// A first store of a word.
+fn store_word(alloc: Global, view: &mut View) -> Result<(), Failed> {
+    let before = Picture::of(alloc, view)?;
     again!(
         view.store32(DATA + 8, 0x0403_0201),
-        before.is_of(alloc, &view)? && view.private_pages().is_empty()
+        before.is_of(alloc, view)? && view.private_pages().is_empty()
     );
-    let before = Picture::of(alloc, &view)?;
+    Ok(())
+}
+
+/// A second page's first store, of two bytes.
+fn store_half(alloc: Global, view: &mut View) -> Result<(), Failed> {
+    let before = Picture::of(alloc, view)?;
     again!(
         view.store16(FIRST_PAGE * PAGE_SIZE + 2, 0x0605),
-        before.is_of(alloc, &view)? && view.private_pages().len() == 1
+        before.is_of(alloc, view)? && view.private_pages().len() == 1
     );
-    let before = Picture::of(alloc, &view)?;
+    Ok(())
+}
+
+/// A third page's first store, of a byte.
+fn store_byte(alloc: Global, view: &mut View) -> Result<(), Failed> {
+    let before = Picture::of(alloc, view)?;
     again!(
         view.store8((FIRST_PAGE + 30) * PAGE_SIZE + 5, 7),
-        before.is_of(alloc, &view)? && view.private_pages().len() == 2
+        before.is_of(alloc, view)? && view.private_pages().len() == 2
     );
-    Ok(view)
+    Ok(())
 }
 
 /// First stores of each width. The base has to be as it was.
