@@ -81,8 +81,7 @@ __attribute__((noreturn)) static inline void dthreads_thread_exit(uint32_t value
 uint32_t dthreads_create(void (*entry)(void *), void *argument, void *stack_top, uint32_t *number);
 
 /* Waits until thread `number` has ended; `value` gets what it ended with. DTHREADS_NO_SUCH_THREAD for an unknown number and
- * for the caller's own, DTHREADS_HOLDS_A_LOCK where the caller would wait and holds a mutex. The value of a wait that ended
- * is in x11 of the joining thread when it goes on. */
+ * for the caller's own, DTHREADS_HOLDS_A_LOCK where the caller would wait and holds a mutex. */
 static inline uint32_t dthreads_join(uint32_t number, uint32_t *value)
 {
     return dthreads_call(DTHREADS_JOIN, number, 0, 0, value);

@@ -275,11 +275,25 @@ static int get_character(FILE *stream)
     return character;
 }
 
+/* Threads share the run's input; the streams of sscanf and its kin are a thread's own. */
+
+static void input_begin(const FILE *stream)
+{
+    if (stream == stdin)
+        monitor_enter();
+}
+
+static void input_end(const FILE *stream)
+{
+    if (stream == stdin)
+        monitor_leave();
+}
+
 int fgetc(FILE *stream)
 {
     if (!(stream->flags & __SRD))
         return EOF;
-    monitor_enter();
+    input_begin(stream);
     int character;
     if (stream->unget) {
         character = (unsigned char)stream->unget;
@@ -289,7 +303,7 @@ int fgetc(FILE *stream)
     }
     if (character < 0)
         stream->flags |= character == _FDEV_EOF ? __SEOF : __SERR;
-    monitor_leave();
+    input_end(stream);
     return character < 0 ? EOF : character;
 }
 
@@ -307,13 +321,13 @@ int ungetc(int character, FILE *stream)
 {
     if (character == EOF)
         return EOF;
-    monitor_enter();
+    input_begin(stream);
     bool is_free = !stream->unget;
     if (is_free) {
         stream->unget = (__ungetc_t)((unsigned char)character | 0x100);
         stream->flags &= (uint8_t)~__SEOF;
     }
-    monitor_leave();
+    input_end(stream);
     return is_free ? character : EOF;
 }
 
@@ -339,7 +353,7 @@ static size_t copy_line(char *text, size_t wanted)
 char *fgets(char *text, int size, FILE *stream)
 {
     int length = 0;
-    monitor_enter();
+    input_begin(stream);
     while (length < size - 1) {
         int character = fgetc(stream);
         if (character == EOF)
@@ -350,7 +364,7 @@ char *fgets(char *text, int size, FILE *stream)
         if (stream == stdin)
             length += (int)copy_line(text + length, (size_t)(size - 1 - length));
     }
-    monitor_leave();
+    input_end(stream);
     if (size > 0)
         text[length] = 0;
     return length > 0 ? text : NULL;
@@ -360,7 +374,7 @@ size_t fread(void *bytes, size_t size, size_t count, FILE *stream)
 {
     char *place = bytes;
     size_t length = 0;
-    monitor_enter();
+    input_begin(stream);
     while (length < size * count) {
         int character = fgetc(stream);
         if (character == EOF)
@@ -369,15 +383,15 @@ size_t fread(void *bytes, size_t size, size_t count, FILE *stream)
         if (stream == stdin)
             length += copy_input(place + length, size * count - length);
     }
-    monitor_leave();
+    input_end(stream);
     return size ? length / size : 0;
 }
 
 int __wrap_vfscanf(FILE *stream, const char *format, va_list arguments)
 {
-    monitor_enter();
+    input_begin(stream);
     int count = dthreads_vfscanf(stream, format, arguments);
-    monitor_leave();
+    input_end(stream);
     return count;
 }
 
