@@ -1,4 +1,4 @@
-ghost use Rattle.std.specs.Prelude.{◌≡◌, ℕ, ◌+◌, ◌<◌, ◌≤◌, [], ◌++◌, ◌∷◌, All, map, length, IfOk, IfSome, IfNone};
+ghost use Rattle.std.specs.Prelude.{◌≡◌, ℕ, ◌+◌, ◌<◌, ◌≤◌, [], ◌++◌, ◌∷◌, All, map, length, IfOk, IfSome, IfNone, OnSome};
 ghost use Rattle.std.specs.List.{range_with_len};
 ghost use Rattle.claim_table.specs.Logs.{tally, IsSame};
 ghost use Rattle.claim_table.specs.Seat.{done};
@@ -20,6 +20,7 @@ const LEAST: usize = 1;
 
 /// The numbers of some jobs, drawn each once by those who have seats. It lies in the frame of whoever joins the
 /// threads, or in an `Arc`; they share it by reference.
+#[derive(Drop)]
 pub struct Draws {
     table: Table<(), View, Size, Fair, Global>,
     size: Size,
@@ -40,7 +41,7 @@ impl Model for Draws {
 impl Draws {
     ghost use Rattle.claim_table.specs.Logs.{new_log, tally, times, with_noted};
     ghost use Rattle.claim_table.specs.Draws.{AreDraws, IsDrawnOut};
-    ghost use Rattle.std.specs.Prelude.{◌≡◌, ℕ, ◌+◌, ◌<◌, ◌≤◌, [], ◌++◌, ◌∷◌, All, map, length, IfOk, IfSome, IfNone};
+    ghost use Rattle.std.specs.Prelude.{◌≡◌, ℕ, ◌+◌, ◌<◌, ◌≤◌, [], ◌++◌, ◌∷◌, All, map, length, IfOk, IfSome, IfNone, OnSome};
     ghost use Rattle.std.specs.List.{range_with_len};
     ghost use Rattle.claim_table.specs.Seat.{SeatState, done, drew, saw};
 
@@ -67,6 +68,7 @@ impl Draws {
         ensures log { seat.new ≡ record seat.old { log = drew seat.old.log result } }
         ensures below { IfSome result (λ number. (number < self.now.size.jobs) × (seat.old.log.ended ≡ 0)) }
         ensures drawn { IfSome result (λ number. 0 < times number seat.new.log.drawn) }
+        ensures room { OnSome result (length seat.new.log.drawn ≤ self.now.size.jobs) }
     {
         if seat.ended {
             return None;
