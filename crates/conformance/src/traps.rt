@@ -144,13 +144,24 @@ fn assert_traps(
     Ok(())
 }
 
+/// Asserts that each of some instructions traps with this cause.
+fn assert_all_trap(
+    rt: &(impl Abort + Wait),
+    alloc: Global,
+    cause: Cause,
+    rows: &[(u32, u32, u32)],
+) -> Result<(), Fail> {
+    for (word, x6, value) in rows {
+        let value = *value;
+        assert_traps(rt, alloc, Trap { cause, value }, *word, *x6)?;
+    }
+    Ok(())
+}
+
 #[test]
 fn instructions_trap(rt: HostRuntime) -> Result<(), Fail> {
     for (cause, rows) in by_cause() {
-        for (word, x6, value) in rows {
-            let value = *value;
-            assert_traps(&rt, rt.alloc(), Trap { cause, value }, *word, *x6)?;
-        }
+        assert_all_trap(&rt, rt.alloc(), cause, rows)?;
     }
     Ok(())
 }

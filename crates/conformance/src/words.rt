@@ -4,7 +4,7 @@ use decoder::*;
 use disassembler::*;
 use elf32_reader::{Image, Segment, read};
 use guest_memory::Perm;
-use guest_programs::{MEASURED, Program, runs};
+use guest_programs::{MEASURED, Program, Run, runs};
 use std::alloc::{AllocError, Global};
 use std::process::Abort;
 use std::test::Fail;
@@ -234,12 +234,18 @@ fn assert_listing(rt: &impl Abort, alloc: Global, program: &Program) -> Result<(
     Ok(())
 }
 
+/// Asserts that of the programs of some runs.
+fn assert_listings(rt: &impl Abort, alloc: Global, runs: &[Run]) -> Result<(), Fail> {
+    for run in runs {
+        assert_listing(rt, alloc, &run.program)?;
+    }
+    Ok(())
+}
+
 #[test]
 fn programs_have_their_listings(rt: HostRuntime) -> Result<(), Fail> {
     for table in runs() {
-        for run in table {
-            assert_listing(&rt, rt.alloc(), &run.program)?;
-        }
+        assert_listings(&rt, rt.alloc(), table)?;
     }
     for program in &MEASURED {
         assert_listing(&rt, rt.alloc(), program)?;
