@@ -213,6 +213,7 @@ fn lends_and_replaces_a_page(rt: HostRuntime) -> Result<(), Fail> {
     bytes[4095] = 5;
     let page = Arc::new(rt.alloc(), Page::new(READ, bytes))?;
     assert_cells(&rt, &memory, &CELLS);
+    assert!(rt; memory.page(0x21).is_some());
     memory.replace(0x21, page)?;
     assert_cells(&rt, &memory, &REPLACED);
     assert_cells(&rt, &before, &CELLS);
