@@ -37,7 +37,7 @@ pub const CASES: [(&str, Case); 16] = [
     ("Patch::of", Case::PatchOf),
     ("changed_addresses", Case::Addresses),
     ("apply", Case::Apply),
-    ("Serial::open", Case::Open),
+    ("Start::open", Case::Open),
     ("turns of quotients", Case::Quotients),
     ("turns of race", Case::Race),
     ("turns of signal", Case::Signal),

@@ -86,7 +86,9 @@ impl From<RunFault> for Failure<'_> {
             RunFault::Elf(fault) => Failure::ElfRefused(fault),
             RunFault::BadConfig => Failure::OutsideRange,
             RunFault::InputTooLarge => Failure::InputTooLarge,
-            RunFault::WriteFailed => Failure::CannotWrite(Place::StandardOutput),
+            RunFault::WriteFailed | RunFault::RecordFailed => {
+                Failure::CannotWrite(Place::StandardOutput)
+            }
         }
     }
 }

@@ -15,7 +15,7 @@ use std::alloc::{AllocError, Global};
 use std::process::Abort;
 use std::sync::Wait;
 use std::test::Fail;
-use token::{Next, RunOutcome, Serial, Turn, TurnStop, next_turn};
+use token::{Kept, Next, RunOutcome, Serial, Start, Turn, TurnFault, TurnStop, next_turn};
 use tracer::{line, trace_text};
 
 /// More turns than a run has.
@@ -32,7 +32,7 @@ struct Case<'a> {
 /// A run's end.
 #[derive(Drop)]
 struct Ran {
-    serial: Serial,
+    serial: Serial<Kept>,
     outcome: RunOutcome,
     /// What the turns sent, one after another.
     sent: Vec<u8>,
@@ -58,7 +58,7 @@ fn quantum_of(run: &Run) -> Option<u64>
 }
 
 /// Does the next turn, or answers how the run ended.
-fn take_turn(serial: &mut Serial) -> Result<Option<RunOutcome>, AllocError> {
+fn take_turn(serial: &mut Serial<Kept>) -> Result<Option<RunOutcome>, TurnFault> {
     match next_turn(serial)? {
         Next::Turn(end) => {
             serial.turn(end.as_ref())?;
@@ -71,7 +71,8 @@ fn take_turn(serial: &mut Serial) -> Result<Option<RunOutcome>, AllocError> {
 /// Runs a file turn by turn to its end.
 fn run_serial(alloc: Global, file: &[u8], run: &Run) -> Result<Ran, Fail> {
     let image = read(alloc, file)?;
-    let mut serial = Serial::open(alloc, &image, run.input, limit(run.bound), quantum_of(run))?;
+    let start = Start::open(alloc, &image, run.input, limit(run.bound), quantum_of(run))?;
+    let mut serial = start.recorded_by(Kept::new(alloc));
     let mut sent = Vec::new(alloc);
     for _ in 0..TURNS {
         if let Some(outcome) = take_turn(&mut serial)? {
@@ -128,7 +129,7 @@ fn assert_versions(rt: &impl Abort, turns: &[Turn], name: &str) {
 fn assert_changes(
     rt: &impl Abort,
     alloc: Global,
-    serial: &Serial,
+    serial: &Serial<Kept>,
     wanted: &[u32],
     name: &str,
 ) -> Result<(), AllocError> {

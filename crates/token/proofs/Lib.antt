@@ -1,3 +1,4 @@
+pub mod Begins
 pub mod Committing
 pub mod Complete
 pub mod Dues
@@ -19,7 +20,6 @@ pub mod SameThreads
 pub mod SegmentEnds
 pub mod SerialList
 pub mod Standing
-pub mod Start
 pub mod Statuses
 pub mod TurnThere
 pub mod Versions

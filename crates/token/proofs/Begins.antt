@@ -3,7 +3,7 @@ use Rattle.std.proofs.Common.{◌≡◌, ℕ, ◌≤◌, None, List, [], ◌∷�
 use Rattle.abi.specs.Limits as limit
 use Rattle.thread_table.specs.Threads.{numbers_where, serial_list}
 use Rattle.token.specs.Legal.{IsLegal}
-use Rattle.token.specs.History.{first_version, heads, is_quiet, keeps, last_outcome, list_of, outcome, phase_of, present, same_threads, turns_of, version, changes_of}
+use Rattle.token.specs.History.{first_version, heads, is_quiet, keeps, last_outcome, list_of, outcome, phase_of, present, same_threads, version}
 use Rattle.token.specs.Point.{Point}
 use Rattle.token.specs.Serial.{Invariants, StandsAfter}
 use Rattle.guest_memory.specs.Memory.{Memory}
@@ -22,8 +22,7 @@ pub record Begins (point : Point) : Type 0 where
   pub keeper : point.keeper ≡ None
   pub ended : point.ended ≡ None
   pub state : point.state ≡ first_state point.setup
-  pub turns : point.turns ≡ []
-  pub changes : point.changes ≡ []
+  pub done : point.done ≡ 0
   pub bound : point.setup.bound ≤ limit.instructions
   pub fresh : point.fresh_from ≡ 0
 
@@ -43,7 +42,7 @@ no_heads given list is = subst (λ n. [] ≡ take n list) (sym is) (none list)
     none (n ∷ list) = refl
 
 pub stands_at_start : (point : Point) → Begins point → StandsAfter point [] × Invariants point
-unfolding IsLegal turns_of changes_of present first_version version heads keeps phase_of
+unfolding IsLegal present first_version version heads keeps phase_of
 stands_at_start point begins =
     let given = begins.given in
     let phase = begins.phase in
@@ -51,8 +50,7 @@ stands_at_start point begins =
     let long : length point.list ≡ 1 = ap length begins.list ∙ ap (λ threads. length (serial_list threads)) begins.base_threads ∙ one_thread point.setup in (
       record {
         legal = tt;
-        turns = sym begins.turns;
-        changes = sym begins.changes;
+        done = sym begins.done;
         state = sym begins.state;
         first = sym begins.first;
         base = sym begins.base;
