@@ -169,6 +169,27 @@ impl Serial {
         self.run.phase.list.as_slice()
     }
 
+    /// The threads at the start of the present phase.
+    pub fn base_threads(&self) -> &Threads
+        ensures { result.now ≡ (point_of self.now).base_threads }
+    {
+        &self.run.phase.threads
+    }
+
+    /// How many instructions each thread may execute.
+    pub fn bound(&self) -> u64
+        ensures { result ≡ (point_of self.now).setup.bound }
+    {
+        self.run.bound
+    }
+
+    /// After how many instructions a segment ends at the latest, where there is a quantum.
+    pub fn quantum(&self) -> Option<u64>
+        ensures { result ≡ (point_of self.now).setup.quantum }
+    {
+        self.run.quantum
+    }
+
     /// Does the next turn, with the end of the segment that it needs, or with none at a wake. Nothing changes
     /// when memory runs out.
     pub fn turn(&mut self, end: Option<&SegmentEnd>) -> Result<(), AllocError>
