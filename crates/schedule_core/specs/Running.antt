@@ -1,0 +1,48 @@
+-- What holds of a segment that is executed an instruction at a time.
+use Rattle.std.specs.Prelude.{◌≡◌, ℕ, ◌<◌, ◌≤◌, ◌^◌, ◌==◌, if◌then◌else◌, Option, Some, None, is_some}
+use Rattle.guest_memory.specs.Memory.{Memory}
+use Rattle.paged_memory.specs.Snapshot as snapshots
+use Rattle.twins.specs.View as views
+use Rattle.hart.specs.Segment.{after, stop_after, bound_trap, is_used_up}
+use Rattle.hart.specs.HartState.{HartState}
+use Rattle.hart.specs.declared.stop.Stop.{Stop}
+use Rattle.hart.specs.declared.stop.Stop.TheVariants.{Trap, Ecall, Quantum}
+use Rattle.schedule.specs.Verdict.{Verdict, verdict_after}
+use Rattle.schedule.specs.declared.advance.Advance.{Advance}
+use Rattle.token.specs.declared.need.Work.{Work}
+use Rattle.schedule_core.specs.declared.running.Running.{Running}
+
+-- the memory that it began with
+abbrev pub memory_of : Running → Memory
+memory_of run = snapshots.cells_of (views.base_of run.view)
+
+-- how far it has come
+abbrev pub advance_of : Running → Advance
+advance_of run = record { steps = run.steps; stopped = is_some run.stop }
+
+-- what it comes to after its steps so far
+abbrev pub verdict_of : Running → Verdict
+verdict_of run = verdict_after run.work.hart (memory_of run) run.work.left run.work.quantum run.steps
+
+-- the stop by the bound or the quantum after so many steps of a segment
+unfoldable pub limit_at : Work → ℕ → Option Stop
+limit_at work steps = if steps == work.left then Some (Trap bound_trap) else (if is_used_up work.quantum steps then Some Quantum else None)
+
+-- where it is said to have stopped, this is its stop
+abbrev pub IsItsStop : Option Stop → Option Stop → Type 0
+IsItsStop None found = Unit {0}
+IsItsStop (Some stop) found = found ≡ Some stop
+
+-- A piece of work on a memory has come to this hart and these cells after its steps, none of which was a stop, and where it is said to have
+-- stopped, that is its stop after them.
+pub record HasCome (work : Work) (memory : Memory) (hart : HartState) (cells : Memory) (steps : ℕ) (stop : Option Stop) : Type 0 where
+  pub reached : after steps work.hart memory ≡ Some (hart, cells)
+  pub running : (k : ℕ) → k < steps → stop_after work.hart memory work.left work.quantum k ≡ None
+  pub stops : IsItsStop stop (stop_after work.hart memory work.left work.quantum steps)
+  pub within : steps ≤ work.left
+  pub bounded : work.left < 2 ^ 64
+  pub call : stop ≡ Some Ecall → steps < work.left
+
+-- A segment stands where its work has come to.
+abbrev pub IsRunning : Running → Type 0
+IsRunning run = HasCome run.work (memory_of run) run.hart (views.cells_of run.view) run.steps run.stop

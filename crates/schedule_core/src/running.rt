@@ -1,0 +1,145 @@
+use commit::Patch;
+use hart::{Cause, Hart, Stepped, Stop, Trap, step};
+use paged_memory::Snapshot;
+use schedule::{Advance, ends_run};
+use std::alloc::AllocError;
+use token::{SegmentEnd, Work};
+use twins::View;
+
+/// A segment that is executed an instruction at a time, on a view of the memory that it began with.
+#[derive(Drop)]
+pub struct Running {
+    pub(crate) work: Work,
+    pub(crate) hart: Hart,
+    pub(crate) view: View,
+    /// How many instructions it has executed that went on.
+    pub(crate) steps: u64,
+    /// Why it stopped after them.
+    pub(crate) stop: Option<Stop>,
+}
+
+impl Running {
+    ghost use Rattle.std.specs.Prelude.{◌≡◌, ◌&&◌, None, Some, IfOk, OnOk, OnErr, is_some};
+    ghost use Rattle.paged_memory.specs.Snapshot.{cells_of};
+    ghost use Rattle.schedule.specs.Phase.{advanced, begun, is_end};
+    ghost use Rattle.hart.specs.Segment.{counted};
+    ghost use Rattle.token.specs.Point.{IsEndOf};
+    ghost use Rattle.schedule_core.specs.Running.{IsRunning, memory_of, advance_of, verdict_of, limit_at};
+
+    /// A segment that has executed nothing, on a memory that it takes over.
+    pub(crate) fn begin(work: Work, base: Snapshot) -> Self
+        ensures running { IsRunning result }
+        ensures work { result.work ≡ work }
+        ensures memory { memory_of result ≡ cells_of base }
+        ensures advance { advance_of result ≡ begun }
+    {
+        Running {
+            work,
+            hart: work.hart,
+            view: View::open(base),
+            steps: 0,
+            stop: None,
+        }
+    }
+
+    /// Whether it has stopped.
+    pub(crate) fn has_stopped(&self) -> bool
+        ensures { result ≡ is_some self.now.stop }
+    {
+        self.stop.is_some()
+    }
+
+    /// How far it has come.
+    pub(crate) fn advance(&self) -> Advance
+        ensures { result ≡ advance_of self.now }
+    {
+        Advance {
+            steps: self.steps,
+            stopped: self.stop.is_some(),
+        }
+    }
+
+    /// Whether it has stopped and ends the run.
+    pub(crate) fn ends_run(&self) -> bool
+        requires { IsRunning self.now }
+        ensures { result ≡ (is_some self.now.stop && is_end (verdict_of self.now)) }
+    {
+        match self.stop {
+            Some(stop) => ends_run(&self.hart, stop),
+            None => false,
+        }
+    }
+
+    /// Executes an instruction, or finds why the segment stops. When memory runs out nothing has changed.
+    pub(crate) fn go_on(&mut self) -> Result<(), AllocError>
+        requires running { IsRunning self.old }
+        requires goes { self.old.stop ≡ None }
+        ensures running { IsRunning self.new }
+        ensures work { self.new.work ≡ self.old.work }
+        ensures memory { memory_of self.new ≡ memory_of self.old }
+        ensures ok { OnOk result (advance_of self.new ≡ advanced (verdict_of self.old) (advance_of self.old)) }
+        ensures err { OnErr result (advance_of self.new ≡ advance_of self.old) }
+    {
+        if let Some(stop) = self.limit() {
+            self.stop = Some(stop);
+            return Ok(());
+        }
+        match step(&mut self.hart, &mut self.view) {
+            Stepped::Next => {
+                self.steps += 1;
+                Ok(())
+            }
+            Stepped::Ecall => {
+                self.stop = Some(Stop::Ecall);
+                Ok(())
+            }
+            Stepped::Trap(trap) => {
+                self.stop = Some(Stop::Trap(trap));
+                Ok(())
+            }
+            Stepped::OutOfMemory(error) => Err(error),
+        }
+    }
+
+    /// The stop by the bound or by the quantum, where one of them is reached.
+    #[tactic(auto, unfolding(crate::specs::Running::limit_at))]
+    fn limit(&self) -> Option<Stop>
+        ensures { result ≡ limit_at self.now.work self.now.steps }
+    {
+        if self.steps == self.work.left {
+            let cause = Cause::BoundReached;
+            return Some(Stop::Trap(Trap { cause, value: 0 }));
+        }
+        match self.work.quantum {
+            Some(quantum) if self.steps == quantum => Some(Stop::Quantum),
+            _ => None,
+        }
+    }
+
+    /// The end of the segment, which has stopped, with what it changed of its memory.
+    pub(crate) fn end(&self, stop: Stop) -> Result<SegmentEnd, AllocError>
+        requires running { IsRunning self.now }
+        requires stopped { self.now.stop ≡ Some stop }
+        ensures { IfOk result (λ end. IsEndOf (memory_of self.now) self.now.work end) }
+    {
+        let patch = Patch::of(self.view.base().allocator(), &self.view)?;
+        Ok(SegmentEnd {
+            hart: self.hart,
+            stop,
+            count: self.count(stop),
+            patch,
+        })
+    }
+
+    /// How many instructions it has executed, an ecall that stopped it included.
+    fn count(&self, stop: Stop) -> u64
+        requires running { IsRunning self.now }
+        requires stopped { self.now.stop ≡ Some stop }
+        ensures { result ≡ counted stop self.now.steps }
+    {
+        match stop {
+            Stop::Ecall => self.steps + 1,
+            _ => self.steps,
+        }
+    }
+}
