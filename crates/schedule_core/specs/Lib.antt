@@ -1,1 +1,6 @@
+pub mod Faults
+pub mod Histories
+pub mod Jobs
 pub mod Running
+pub mod Stage
+pub mod Tally

@@ -1,0 +1,31 @@
+use Rattle.std.proofs.Common.{◌≡◌, ◌∙◌, Some, None, true, false, refl, ap, sym, subst, arith, get_or, length, ◌<◌, ◌≤◌, ℕ}
+use Rattle.std.specs.Prelude.{slice_get, slice_index}
+use Rattle.schedule.specs.Phase.{is_draw}
+use Rattle.schedule.specs.declared.event.Event.TheVariants.{Draw, Step, Note, Skip, Post}
+use Rattle.schedule_core.proofs.Desk.{there_at, held_at, must_work, must_be_idle, not_stopped, must_have_stopped, allowed_to, no_draw, enabled_at, counts_draw, counts_step, counts_kept, counts_note, counts_skip, counts_post, seat_changes, seat_draws, slot_changes, few_drawn}
+use Rattle.schedule_core.specs.Jobs.{verdicts_of}
+use Rattle.schedule_core.specs.Stage.{counts_of, start_in}
+use Rattle.schedule_core.specs.declared.seat.Seat.TheVariants.{Idle, Ended, Working}
+use Rattle.schedule_core.specs.declared.slot.Slot.TheVariants.{Posted, Skipped}
+use Rattle.schedule_core.proofs.stage.Stage.allows.Goals as goal
+
+pub returns-in-Idle-Draw : goal.returns-in-Idle-Draw
+returns-in-Idle-Draw c =
+    sym (enabled_at (verdicts_of (start_in c.args.self.now)) c.args.self.now.drawn c.args.self.now.least c.args.self.now.seats.items c.args.self.now.slots.items c.args.worker Idle c.args.event c.requires.its
+    (there_at c.args.self.now.seats.items c.args.worker c.index.result.now Idle c.requires.there c.index.ensures c.in-Idle-Draw.is-0) ∙ ap is_draw c.in-Idle-Draw.is-1)
+
+pub returns-in-Working-default : goal.returns-in-Working-default
+returns-in-Working-default c =
+    c.allows.ensures
+    ∙ allowed_to (start_in c.args.self.now) c.args.self.now.drawn c.args.self.now.least c.args.self.now.seats.items c.args.self.now.slots.items c.args.worker c.in-Working-default.held c.args.event c.requires.sound.desk c.requires.its
+    (there_at c.args.self.now.seats.items c.args.worker c.index.result.now (Working c.in-Working-default.held) c.requires.there c.index.ensures c.in-Working-default.is-0)
+
+pub returns-in_default : goal.returns-in_default
+returns-in_default c =
+    sym (enabled_at (verdicts_of (start_in c.args.self.now)) c.args.self.now.drawn c.args.self.now.least c.args.self.now.seats.items c.args.self.now.slots.items c.args.worker Idle c.args.event c.requires.its
+    (there_at c.args.self.now.seats.items c.args.worker c.index.result.now Idle c.requires.there c.index.ensures c.in_default.is-0) ∙ no_draw c.args.event c.in_default.not-Draw-1)
+
+pub returns-in_default-2 : goal.returns-in_default-2
+returns-in_default-2 c =
+    sym (enabled_at (verdicts_of (start_in c.args.self.now)) c.args.self.now.drawn c.args.self.now.least c.args.self.now.seats.items c.args.self.now.slots.items c.args.worker Ended c.args.event c.requires.its
+    (there_at c.args.self.now.seats.items c.args.worker c.index.result.now Ended c.requires.there c.index.ensures c.in_default.is-0))

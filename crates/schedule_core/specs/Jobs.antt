@@ -1,0 +1,49 @@
+-- The jobs of a phase.
+use Rattle.std.specs.Prelude.{ℕ, ◌-◌, ◌==◌, Option, List, position, slice_get, slice_index, unwrap_or}
+use Rattle.guest_memory.specs.Memory.{Memory}
+use Rattle.schedule.specs.Phase.{Verdicts}
+use Rattle.schedule.specs.Verdict.{Verdict, verdict_after}
+use Rattle.thread_table.specs.Thread.{blank}
+use Rattle.thread_table.specs.Threads.{ready_list}
+use Rattle.thread_table.specs.declared.thread.Thread.{Thread}
+use Rattle.token.specs.Point.{Point}
+use Rattle.token.specs.Setup.{Setup}
+use Rattle.token.specs.declared.need.Work.{Work}
+
+-- what a phase begins with: what the run was given, and the memory and the threads of the phase's first version
+pub record Start : Type 0 where
+  pub setup : Setup
+  pub memory : Memory
+  pub threads : List Thread
+
+-- what the present phase began with
+abbrev pub start_of : Point → Start
+start_of point = record { setup = point.setup; memory = point.base; threads = point.base_threads }
+
+-- the threads of the phase's jobs: job j is that of the j-th ready thread
+unfoldable pub jobs_of : Start → List ℕ
+jobs_of start = ready_list start.threads
+
+abbrev pub row_at : Start → ℕ → Thread
+row_at start thread = unwrap_or (slice_get start.threads thread) blank
+
+-- the segment of a thread in this phase
+unfoldable pub work_of : Start → ℕ → Work
+work_of start thread =
+    record { thread = thread; hart = (row_at start thread).hart; left = start.setup.bound - (row_at start thread).executed; quantum = start.setup.quantum }
+
+-- the segment of a job
+unfoldable pub work_at : Start → ℕ → Work
+work_at start job = work_of start (slice_index (jobs_of start) job)
+
+-- what a piece of work on a memory comes to after so many steps
+abbrev pub verdict_by : Memory → Work → ℕ → Verdict
+verdict_by memory work steps = verdict_after work.hart memory work.left work.quantum steps
+
+-- what each job comes to after so many steps
+unfoldable pub verdicts_of : Start → Verdicts
+verdicts_of start job steps = verdict_by start.memory (work_at start job) steps
+
+-- the job of a thread
+unfoldable pub job_of : Start → ℕ → Option ℕ
+job_of start thread = position (λ number. number == thread) (jobs_of start)

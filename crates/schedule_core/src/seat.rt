@@ -1,0 +1,46 @@
+use crate::running::Running;
+use schedule::Event;
+
+/// The job that a worker has.
+#[derive(Drop)]
+pub struct Held {
+    /// The job's number in its phase.
+    pub(crate) job: u32,
+    /// It was made known that it has ended the run.
+    pub(crate) noted: bool,
+    pub(crate) running: Running,
+}
+
+impl Held {
+    ghost use Rattle.std.specs.Prelude.{◌≡◌};
+    ghost use Rattle.schedule.specs.Phase.{is_enabled_with};
+    ghost use Rattle.schedule_core.specs.Running.{IsRunning, verdict_of};
+    ghost use Rattle.schedule_core.specs.Stage.{task_of};
+
+    /// Whether an event of the worker is enabled, where `least` is the least job that was made known to have
+    /// ended the run.
+    pub(crate) fn allows(&self, least: u32, event: Event) -> bool
+        requires { IsRunning self.now.running }
+        ensures { result ≡ is_enabled_with (λ job steps. verdict_of self.now.running) least (task_of self.now) event }
+    {
+        let stopped = self.running.has_stopped();
+        match event {
+            Event::Step(_) => !stopped,
+            Event::Note(_) => self.running.ends_run() && !self.noted,
+            Event::Skip(_) => !stopped && least < self.job,
+            Event::Post(_) => stopped,
+            _ => false,
+        }
+    }
+}
+
+/// A worker's place.
+#[derive(Drop)]
+pub enum Seat {
+    /// It has no job, and may draw one.
+    Idle,
+    /// It has found no job left in this phase.
+    Ended,
+    /// It has a job.
+    Working(Held),
+}

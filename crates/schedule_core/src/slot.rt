@@ -1,0 +1,12 @@
+use token::SegmentEnd;
+
+/// What has become of a job, with its result.
+#[derive(Drop)]
+pub enum Slot {
+    /// Nothing yet.
+    Open,
+    /// Its result was posted.
+    Posted(SegmentEnd),
+    /// It was skipped.
+    Skipped,
+}

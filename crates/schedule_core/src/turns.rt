@@ -1,0 +1,250 @@
+ghost use Rattle.std.specs.Prelude.{◌≡◌, ◌≤◌, [], replicate, vec_len};
+ghost use Rattle.std.specs.Vec.{vec_capacity};
+
+use crate::event_fault::EventFault;
+use crate::running::Running;
+use crate::seat::Seat;
+use crate::slot::Slot;
+use crate::stage::Stage;
+use std::alloc::AllocError;
+use token::{Need, Work};
+
+impl Stage {
+    ghost use Rattle.std.specs.Prelude.{◌≡◌, ◌≤◌, ◌==◌, if◌then◌else◌, true, false, is_some, length, slice_get, vec_len, None, Some, IfSome, OnOk, OnErr};
+    ghost use Rattle.std.specs.Vec.{vec_capacity};
+    ghost use Rattle.schedule.specs.Phase.{advanced, begun, opened};
+    ghost use Rattle.schedule.specs.declared.event.Event.TheVariants as event;
+    ghost use Rattle.token.specs.Point.{need_at};
+    ghost use Rattle.token.specs.declared.need.Need.TheVariants as need;
+    ghost use Rattle.schedule_core.specs.Faults.{IsAnswerTo};
+    ghost use Rattle.schedule_core.specs.Jobs.{job_of, jobs_of, verdict_by};
+    ghost use Rattle.schedule_core.specs.Stage.{IsDesk, IsSound, Same, counts_of, keeper_advance, point_at, start_in, tally_of};
+    ghost use Rattle.schedule_core.specs.Tally.{Happens, is_posted, is_posted_at, is_turn_enabled, refusal_if, refusal_of};
+
+    /// The keeper's segment goes on by an instruction, or stops.
+    pub(crate) fn hold(&mut self) -> Result<(), EventFault>
+        requires sound { IsSound self.old }
+        requires goes { (point_at self.old).ended ≡ None }
+        ensures sound { IsSound self.new }
+        ensures refused { IsAnswerTo (refusal_of (point_at self.old) (tally_of self.old) event.Hold) result }
+        ensures happens { OnOk result (Happens (point_at self.old) (tally_of self.old) event.Hold (point_at self.new) (tally_of self.new)) }
+        ensures unchanged { OnErr result (Same self.old self.new) }
+    {
+        let Need::Keeper(work) = self.serial.need() else {
+            return Err(EventFault::NotEnabled);
+        };
+        match &mut self.keeper {
+            Some(running) => {
+                if running.has_stopped() {
+                    return Err(EventFault::NotEnabled);
+                }
+                running.go_on()?;
+                Ok(())
+            }
+            None => {
+                self.begin_keeper(work)?;
+                Ok(())
+            }
+        }
+    }
+
+    /// The keeper's segment begins and goes on by an instruction, or stops at once.
+    fn begin_keeper(&mut self, work: Work) -> Result<(), AllocError>
+        requires sound { IsSound self.old }
+        requires none { self.old.keeper ≡ None }
+        requires need { need_at (point_at self.old) ≡ need.Keeper work }
+        ensures sound { IsSound self.new }
+        ensures serial { self.new.serial ≡ self.old.serial }
+        ensures counts { counts_of self.new ≡ counts_of self.old }
+        ensures ok { OnOk result (keeper_advance self.new.keeper ≡ advanced (verdict_by (point_at self.old).state.memory work 0) begun) }
+        ensures err { OnErr result (self.new.keeper ≡ None) }
+    {
+        let mut running = Running::begin(work, self.serial.now().try_clone()?);
+        running.go_on()?;
+        self.keeper = Some(running);
+        Ok(())
+    }
+
+    /// Does the next turn.
+    pub(crate) fn turn(&mut self) -> Result<(), EventFault>
+        requires sound { IsSound self.old }
+        requires goes { (point_at self.old).ended ≡ None }
+        ensures sound { IsSound self.new }
+        ensures refused { IsAnswerTo (refusal_of (point_at self.old) (tally_of self.old) event.Turn) result }
+        ensures happens { OnOk result (Happens (point_at self.old) (tally_of self.old) event.Turn (point_at self.new) (tally_of self.new)) }
+        ensures unchanged { OnErr result (Same self.old self.new) }
+    {
+        match self.serial.need() {
+            Need::Segment(work) => self.segment_turn(work),
+            Need::Keeper(work) => self.keeper_turn(work),
+            Need::Wake { thread } => {
+                self.wake_turn(thread)?;
+                Ok(())
+            }
+            Need::Ended(_) => Err(EventFault::NotEnabled),
+        }
+    }
+
+    /// The turn of a thread whose job's result was posted.
+    fn segment_turn(&mut self, work: Work) -> Result<(), EventFault>
+        requires sound { IsSound self.old }
+        requires need { need_at (point_at self.old) ≡ need.Segment work }
+        ensures sound { IsSound self.new }
+        ensures answer { IsAnswerTo (refusal_if false true (is_turn_enabled (start_in self.old) (need.Segment work) (tally_of self.old))) result }
+        ensures ok { OnOk result (Happens (point_at self.old) (tally_of self.old) event.Turn (point_at self.new) (tally_of self.new)) }
+        ensures err { OnErr result (Same self.old self.new) }
+    {
+        let Some(job) = self.posted_job(work.thread) else {
+            return Err(EventFault::NotEnabled);
+        };
+        self.posted_turn(work, job)?;
+        Ok(())
+    }
+
+    /// The job of a thread, where its result was posted.
+    fn posted_job(&self, thread: u32) -> Option<usize>
+        ensures posted { is_some result ≡ is_posted_at (counts_of self.now).fates (job_of (start_in self.now) thread) }
+        ensures job { IfSome result (λ job. (job_of (start_in self.now) thread ≡ Some job) × (is_posted (slice_get (counts_of self.now).fates job) ≡ true)) }
+    {
+        let job = self.job_of(thread)?;
+        match self.slots.get(job) {
+            Some(Slot::Posted(_)) => Some(job),
+            _ => None,
+        }
+    }
+
+    /// The job of a thread.
+    #[tactic(auto, unfolding(crate::specs::Jobs::job_of, crate::specs::Jobs::jobs_of))]
+    fn job_of(&self, thread: u32) -> Option<usize>
+        ensures { result ≡ job_of (start_in self.now) thread }
+    {
+        let jobs = self.serial.base_threads().ready_list();
+        jobs.as_slice().iter().position(|number| *number == thread)
+    }
+
+    /// The turn of a thread with the posted result of its job.
+    fn posted_turn(&mut self, work: Work, job: usize) -> Result<(), AllocError>
+        requires sound { IsSound self.old }
+        requires need { need_at (point_at self.old) ≡ need.Segment work }
+        requires job { job_of (start_in self.old) work.thread ≡ Some job }
+        requires posted { is_posted (slice_get (counts_of self.old).fates job) ≡ true }
+        ensures sound { IsSound self.new }
+        ensures ok { OnOk result (Happens (point_at self.old) (tally_of self.old) event.Turn (point_at self.new) (tally_of self.new)) }
+        ensures err { OnErr result (Same self.old self.new) }
+    {
+        let phase = self.serial.phase();
+        match &self.slots[job] {
+            Slot::Posted(end) => {
+                self.serial.turn(Some(end))?;
+                self.settle(phase);
+                Ok(())
+            }
+            _ => Ok(()),
+        }
+    }
+
+    /// The turn of the keeper, whose segment has stopped.
+    fn keeper_turn(&mut self, work: Work) -> Result<(), EventFault>
+        requires sound { IsSound self.old }
+        requires need { need_at (point_at self.old) ≡ need.Keeper work }
+        ensures sound { IsSound self.new }
+        ensures answer { IsAnswerTo (refusal_if false true (is_turn_enabled (start_in self.old) (need.Keeper work) (tally_of self.old))) result }
+        ensures ok { OnOk result (Happens (point_at self.old) (tally_of self.old) event.Turn (point_at self.new) (tally_of self.new)) }
+        ensures err { OnErr result (Same self.old self.new) }
+    {
+        let Some(running) = &self.keeper else {
+            return Err(EventFault::NotEnabled);
+        };
+        let Some(stop) = running.stop else {
+            return Err(EventFault::NotEnabled);
+        };
+        let end = running.end(stop)?;
+        let phase = self.serial.phase();
+        self.serial.turn(Some(&end))?;
+        self.settle(phase);
+        Ok(())
+    }
+
+    /// The turn of a woken thread.
+    fn wake_turn(&mut self, thread: u32) -> Result<(), AllocError>
+        requires sound { IsSound self.old }
+        requires need { need_at (point_at self.old) ≡ need.Wake thread }
+        ensures sound { IsSound self.new }
+        ensures ok { OnOk result (Happens (point_at self.old) (tally_of self.old) event.Turn (point_at self.new) (tally_of self.new)) }
+        ensures err { OnErr result (Same self.old self.new) }
+    {
+        let phase = self.serial.phase();
+        self.serial.turn(None)?;
+        self.settle(phase);
+        Ok(())
+    }
+
+    /// After a turn: no keeper's segment has begun, and where a further phase has begun its workers are idle and
+    /// its jobs open.
+    fn settle(&mut self, phase: u64)
+        requires desk { (point_at self.old).phase ≡ phase → IsDesk (start_in self.old) self.old.drawn self.old.seats.items self.old.slots.items }
+        requires slots { 256 ≤ vec_capacity self.old.slots }
+        requires seats { vec_len self.old.seats ≤ vec_capacity self.old.seats }
+        requires few { length self.old.seats.items ≤ 64 }
+        ensures sound { IsSound self.new }
+        ensures serial { self.new.serial ≡ self.old.serial }
+        ensures keeper { self.new.keeper ≡ None }
+        ensures counts { counts_of self.new ≡ (if (point_at self.old).phase == phase then counts_of self.old else opened (length (jobs_of (start_in self.old))) (length self.old.seats.items)) }
+    {
+        self.keeper = None;
+        if self.serial.phase() != phase {
+            self.open_phase();
+        }
+    }
+
+    /// Opens the present phase: its workers are idle, and its jobs open.
+    pub(crate) fn open_phase(&mut self)
+        requires slots { 256 ≤ vec_capacity self.old.slots }
+        requires seats { vec_len self.old.seats ≤ vec_capacity self.old.seats }
+        requires few { length self.old.seats.items ≤ 64 }
+        requires keeper { self.old.keeper ≡ None }
+        ensures sound { IsSound self.new }
+        ensures serial { self.new.serial ≡ self.old.serial }
+        ensures keeper { self.new.keeper ≡ None }
+        ensures counts { counts_of self.new ≡ opened (length (jobs_of (start_in self.old))) (length self.old.seats.items) }
+    {
+        let jobs = self.serial.base_threads().ready_list().len();
+        let workers = self.seats.len();
+        self.drawn = 0;
+        self.least = jobs as u32;
+        self.slots.clear();
+        add_open(&mut self.slots, jobs);
+        self.seats.clear();
+        add_idle(&mut self.seats, workers);
+    }
+}
+
+/// Adds so many open jobs.
+#[tactic(auto, using(std::proofs::lemmas::List::replicate_more))]
+pub(crate) fn add_open(slots: &mut Vec<Slot>, count: usize)
+    requires none { slots.old.items ≡ [] }
+    requires empty { vec_len slots.old ≡ 0 }
+    requires room { count ≤ vec_capacity slots.old }
+    ensures items { slots.new.items ≡ replicate count Slot.Open }
+    ensures len { vec_len slots.new ≡ count }
+    ensures capacity { vec_capacity slots.new ≡ vec_capacity slots.old }
+{
+    for _ in 0..count {
+        slots.push_reserved(Slot::Open);
+    }
+}
+
+/// Adds so many idle workers.
+#[tactic(auto, using(std::proofs::lemmas::List::replicate_more))]
+pub(crate) fn add_idle(seats: &mut Vec<Seat>, count: usize)
+    requires none { seats.old.items ≡ [] }
+    requires empty { vec_len seats.old ≡ 0 }
+    requires room { count ≤ vec_capacity seats.old }
+    ensures items { seats.new.items ≡ replicate count Seat.Idle }
+    ensures len { vec_len seats.new ≡ count }
+    ensures capacity { vec_capacity seats.new ≡ vec_capacity seats.old }
+{
+    for _ in 0..count {
+        seats.push_reserved(Seat::Idle);
+    }
+}

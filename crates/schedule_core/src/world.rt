@@ -1,0 +1,138 @@
+use crate::event_fault::EventFault;
+use crate::seat::Seat;
+use crate::stage::Stage;
+use crate::turns::add_idle;
+use elf32_reader::Image;
+use hart::Hart;
+use paged_memory::Snapshot;
+use schedule::Event;
+use std::alloc::{AllocError, Global};
+use std::marker::Model;
+use thread_table::CAPACITY;
+use token::{Need, RunOutcome, Serial, Turn, one_history};
+use twins::View;
+
+/// A run that goes by written events: workers draw jobs, step them, skip or post them, and turns are taken
+/// when their results are there. Whatever the events are, its turns are those of the one legal history.
+#[derive(Drop)]
+pub struct World {
+    stage: Stage,
+}
+
+impl Model for World {
+    ghost use Rattle.schedule_core.specs.declared.stage.Stage.{Stage as Stored};
+
+    ghost Value = { Stored };
+
+    ghost use Rattle.schedule_core.specs.Stage.{IsSound};
+
+    ghost view = { λ w. w.stage };
+
+    ghost invariant = { λ w. IsSound w.stage };
+}
+
+impl World {
+    ghost use Rattle.std.specs.Prelude.{◌≡◌, ◌≤◌, ◌<◌, ◌^◌, [], length, IfOk, IfSome, OnOk, OnErr, option_map, slice_get};
+    ghost use Rattle.paged_memory.specs.Snapshot.{cells_of};
+    ghost use Rattle.twins.specs.View as views;
+    ghost use Rattle.schedule.specs.Phase.{begun, opened};
+    ghost use Rattle.token.specs.Setup.{setup_of};
+    ghost use Rattle.schedule_core.specs.Faults.{IsAnswerTo};
+    ghost use Rattle.schedule_core.specs.Histories.{IsTheHistory, IsOutcome};
+    ghost use Rattle.schedule_core.specs.Jobs.{jobs_of};
+    ghost use Rattle.schedule_core.specs.Stage.{Same, counts_of, point_at, private_of, start_in, tally_of};
+    ghost use Rattle.schedule_core.specs.Tally.{Happens, refusal_of};
+
+    /// A run of a program with this input, in which each thread may execute `bound` instructions and a segment
+    /// ends after `quantum` instructions at the latest, for so many workers. Nothing has happened: no turn is
+    /// done, and the first phase is open.
+    pub fn open(
+        alloc: Global,
+        image: &Image,
+        input: &[u8],
+        bound: u64,
+        quantum: Option<u64>,
+        workers: u32,
+    ) -> Result<Self, AllocError>
+        requires bound { bound ≤ 2 ^ 40 }
+        requires some { 0 < bound }
+        requires quantum { IfSome quantum (λ quantum. quantum ≤ 2 ^ 40) }
+        requires some_quantum { IfSome quantum (λ quantum. 0 < quantum) }
+        requires few { workers ≤ 64 }
+        requires some_workers { 0 < workers }
+        ensures setup { IfOk result (λ world. (point_at world).setup ≡ setup_of image.now input.now bound quantum) }
+        ensures turns { IfOk result (λ world. (point_at world).turns ≡ []) }
+        ensures tally { IfOk result (λ world. tally_of world ≡ record { turns = 0; counts = opened (length (jobs_of (start_in world))) workers; keeper = begun }) }
+    {
+        let serial = Serial::open(alloc, image, input, bound, quantum)?;
+        let mut seats = Vec::new(alloc);
+        seats.reserve(workers as usize)?;
+        add_idle(&mut seats, workers as usize);
+        let mut slots = Vec::new(alloc);
+        slots.reserve(CAPACITY)?;
+        let mut stage = Stage {
+            serial,
+            drawn: 0,
+            least: 0,
+            seats,
+            slots,
+            keeper: None,
+        };
+        stage.open_phase();
+        Ok(World { stage })
+    }
+
+    /// Makes an event happen. The run's end is looked at first, then whether the worker is there, then whether
+    /// the event is enabled. A refused event changes nothing, nor does one for which memory runs out.
+    pub fn apply(&mut self, event: Event) -> Result<(), EventFault>
+        ensures refused { IsAnswerTo (refusal_of (point_at self.old) (tally_of self.old) event) result }
+        ensures happens { OnOk result (Happens (point_at self.old) (tally_of self.old) event (point_at self.new) (tally_of self.new)) }
+        ensures unchanged { OnErr result (Same self.old self.new) }
+    {
+        self.stage.apply(event)
+    }
+
+    /// The turns that were done, the first one first. They are those of a legal history, and of it and each
+    /// legal history of the same run one is a prefix of the other.
+    pub fn turns(&self) -> &[Turn]
+        ensures turns { result.now ≡ (point_at self.now).turns }
+        ensures history { IsTheHistory (point_at self.now) }
+    {
+        one_history();
+        self.stage.serial.turns()
+    }
+
+    /// How the run ended, none while a turn may follow.
+    pub fn outcome(&self) -> Option<RunOutcome>
+        ensures ended { result ≡ (point_at self.now).ended }
+        ensures outcome { IsOutcome (point_at self.now) result }
+    {
+        one_history();
+        let _turns = self.stage.serial.turns();
+        match self.stage.serial.need() {
+            Need::Ended(outcome) => Some(outcome),
+            _ => None,
+        }
+    }
+
+    /// The present shared memory: that of the history's last version.
+    pub fn now(&self) -> &Snapshot
+        ensures memory { cells_of result.now ≡ (point_at self.now).state.memory }
+        ensures history { IsTheHistory (point_at self.now) }
+    {
+        let _turns = self.turns();
+        self.stage.serial.now()
+    }
+
+    /// The hart and the memory of a worker's job, none where it has no job: they are as many times the next
+    /// instruction from the job's start on the phase's first memory as the job has made steps, whatever turns
+    /// were done since.
+    pub fn private(&self, worker: u32) -> Option<(&Hart, &View)>
+        ensures { option_map (λ lent. (lent.0.now, views.cells_of lent.1.now)) result ≡ private_of (start_in self.now) (slice_get (counts_of self.now).workers worker) }
+    {
+        match self.stage.seats.get(worker as usize) {
+            Some(Seat::Working(held)) => Some((&held.running.hart, &held.running.view)),
+            _ => None,
+        }
+    }
+}
