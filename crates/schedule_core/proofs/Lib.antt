@@ -1,3 +1,4 @@
 pub mod Coming
 pub mod Desk
 pub mod Turning
+pub mod Events

@@ -32,7 +32,7 @@ impl Model for World {
 }
 
 impl World {
-    ghost use Rattle.std.specs.Prelude.{◌≡◌, ◌≤◌, ◌<◌, ◌^◌, [], length, IfOk, IfSome, OnOk, OnErr, option_map, slice_get};
+    ghost use Rattle.std.specs.Prelude.{◌≡◌, ◌≤◌, ◌<◌, ◌^◌, [], length, IfOk, IfErr, IfSome, OnOk, OnErr, option_map, slice_get};
     ghost use Rattle.paged_memory.specs.Snapshot.{cells_of};
     ghost use Rattle.twins.specs.View as views;
     ghost use Rattle.schedule.specs.Phase.{begun, opened};
@@ -41,7 +41,7 @@ impl World {
     ghost use Rattle.schedule_core.specs.Histories.{IsTheHistory, IsOutcome};
     ghost use Rattle.schedule_core.specs.Jobs.{jobs_of};
     ghost use Rattle.schedule_core.specs.Stage.{Same, counts_of, point_at, private_of, start_in, tally_of};
-    ghost use Rattle.schedule_core.specs.Tally.{Happens, refusal_of};
+    ghost use Rattle.schedule_core.specs.Tally.{Happens, HappenInTurn, IsRefusedAt, refusal_of};
 
     /// A run of a program with this input, in which each thread may execute `bound` instructions and a segment
     /// ends after `quantum` instructions at the latest, for so many workers. Nothing has happened: no turn is
@@ -90,6 +90,20 @@ impl World {
         ensures unchanged { OnErr result (Same self.old self.new) }
     {
         self.stage.apply(event)
+    }
+
+    /// Makes events happen in turn, up to the first that is refused, of which it answers the place and the
+    /// fault. Those before it have happened.
+    pub fn apply_all(&mut self, events: &[Event]) -> Result<(), (usize, EventFault)>
+        ensures all { OnOk result (HappenInTurn (point_at self.old) (tally_of self.old) events.now (point_at self.new) (tally_of self.new)) }
+        ensures refused { IfErr result (λ refused. IsRefusedAt (point_at self.old) (tally_of self.old) events.now refused.0 refused.1 (point_at self.new) (tally_of self.new)) }
+    {
+        for (place, event) in events.iter().enumerate() {
+            if let Err(fault) = self.apply(*event) {
+                return Err((place, fault));
+            }
+        }
+        Ok(())
     }
 
     /// The turns that were done, the first one first. They are those of a legal history, and of it and each
