@@ -1,6 +1,7 @@
 pub mod Arithmetic
 pub mod Cause
 pub mod HartState
+pub mod Kept
 pub mod Next
 pub mod Steps
 pub mod Segment
