@@ -1,6 +1,6 @@
 use crate::answer::Answer;
 use crate::failed::Failed;
-use crate::{commits, runs, snapshots, views};
+use crate::{commits, recorders, runs, snapshots, views};
 use guest_programs::{ECHO, QUOTIENTS, RACE, RELEASE_RACE, SIGNAL};
 use std::alloc::Global;
 
@@ -23,10 +23,11 @@ pub enum Case {
     Signal,
     Echo,
     ReleaseRace,
+    RecordedRace,
 }
 
 /// The cases with their names, in the order in which they are performed.
-pub const CASES: [(&str, Case); 16] = [
+pub const CASES: [(&str, Case); 17] = [
     ("Snapshot::of_image", Case::OfImage),
     ("Snapshot::try_clone", Case::TryClone),
     ("Snapshot::map_zero", Case::MapZero),
@@ -37,12 +38,13 @@ pub const CASES: [(&str, Case); 16] = [
     ("Patch::of", Case::PatchOf),
     ("changed_addresses", Case::Addresses),
     ("apply", Case::Apply),
-    ("Serial::open", Case::Open),
+    ("Start::open", Case::Open),
     ("turns of quotients", Case::Quotients),
     ("turns of race", Case::Race),
     ("turns of signal", Case::Signal),
     ("turns of echo", Case::Echo),
     ("turns of release-race", Case::ReleaseRace),
+    ("turns of race, recorded", Case::RecordedRace),
 ];
 
 impl Case {
@@ -65,6 +67,7 @@ impl Case {
             Case::Signal => runs::turns(alloc, &SIGNAL, b""),
             Case::Echo => runs::turns(alloc, &ECHO, b"ab"),
             Case::ReleaseRace => runs::turns(alloc, &RELEASE_RACE, b""),
+            Case::RecordedRace => recorders::recorded(alloc, &RACE, b""),
         }
     }
 }

@@ -1,5 +1,6 @@
 use std::alloc::AllocError;
 use thiserror::Error;
+use token::TurnFault;
 
 /// Why a case has no answer.
 #[derive(Debug, Drop, Error)]
@@ -16,4 +17,11 @@ pub enum Failed {
     /// A call that takes no memory was refused, or answered otherwise than it should.
     #[error("it has another answer")]
     Other,
+}
+
+impl From<TurnFault> for Failed {
+    /// A turn was refused.
+    fn from(_fault: TurnFault) -> Self {
+        Failed::SetUp(AllocError)
+    }
 }

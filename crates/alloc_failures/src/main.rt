@@ -11,6 +11,7 @@ mod failed;
 mod picture;
 mod programs;
 mod quiet;
+mod recorders;
 mod retry;
 mod runs;
 mod snapshots;

@@ -11,7 +11,7 @@ use guest_programs::{DATA, ECHO};
 use hart::{Hart, Stepped, Stop, run_to_stop, step};
 use paged_memory::Snapshot;
 use std::alloc::{AllocError, Global};
-use token::{Need, Next, Serial, next_turn};
+use token::{Kept, Need, Next, Serial, Start, next_turn};
 use twins::View;
 
 /// What the calls work on.
@@ -23,7 +23,7 @@ pub struct Quiet {
     spare: Option<Snapshot>,
     patch: Patch,
     /// A run of `echo` that has read its input.
-    serial: Serial,
+    serial: Serial<Kept>,
 }
 
 /// A group of calls that take no memory.
@@ -177,9 +177,10 @@ fn view_with_bytes(snapshot: Snapshot) -> Result<View, Failed> {
 }
 
 /// A run of `echo` that has done two turns.
-fn run_of_echo(alloc: Global) -> Result<Serial, Failed> {
+fn run_of_echo(alloc: Global) -> Result<Serial<Kept>, Failed> {
     let image = image_of(alloc, &ECHO)?;
-    let mut serial = Serial::open(alloc, &image, b"ab", BOUND, None)?;
+    let start = Start::open(alloc, &image, b"ab", BOUND, None)?;
+    let mut serial = start.recorded_by(Kept::new(alloc));
     for _ in 0..2 {
         if let Next::Turn(end) = next_turn(&serial)? {
             serial.turn(end.as_ref())?;

@@ -9,10 +9,10 @@ use crate::retry::again;
 use crate::standing::Standing;
 use guest_programs::Program;
 use std::alloc::Global;
-use token::{Next, RunOutcome, SegmentEnd, Serial, next_turn};
+use token::{Kept, Next, RunOutcome, SegmentEnd, Serial, Start, next_turn};
 
 /// More turns than any of the programs has.
-const MOST_TURNS: u32 = 20;
+pub const MOST_TURNS: u32 = 20;
 
 /// How many instructions a thread may execute.
 pub const BOUND: u64 = 1 << 40;
@@ -20,7 +20,8 @@ pub const BOUND: u64 = 1 << 40;
 /// A run opened.
 pub fn open(alloc: Global, program: &Program, input: &[u8]) -> Result<Answer, Failed> {
     let image = image_of(alloc, program)?;
-    let serial = again!(Serial::open(alloc, &image, input, BOUND, None), true);
+    let start = again!(Start::open(alloc, &image, input, BOUND, None), true);
+    let serial = start.recorded_by(Kept::new(alloc));
     let standing = Standing::of(alloc, &serial)?;
     Ok(Answer {
         count: standing.now().mapped(),
@@ -32,7 +33,8 @@ pub fn open(alloc: Global, program: &Program, input: &[u8]) -> Result<Answer, Fa
 /// A run from its start to its end.
 pub fn turns(alloc: Global, program: &Program, input: &[u8]) -> Result<Answer, Failed> {
     let image = image_of(alloc, program)?;
-    let mut serial = Serial::open(alloc, &image, input, BOUND, None)?;
+    let start = Start::open(alloc, &image, input, BOUND, None)?;
+    let mut serial = start.recorded_by(Kept::new(alloc));
     for _ in 0..MOST_TURNS {
         if let Some(outcome) = one_turn(alloc, &mut serial)? {
             return answer_of(alloc, &serial, outcome);
@@ -42,7 +44,7 @@ pub fn turns(alloc: Global, program: &Program, input: &[u8]) -> Result<Answer, F
 }
 
 /// Does the next turn, or answers how the run ended.
-fn one_turn(alloc: Global, serial: &mut Serial) -> Result<Option<RunOutcome>, Failed> {
+fn one_turn(alloc: Global, serial: &mut Serial<Kept>) -> Result<Option<RunOutcome>, Failed> {
     let before = Standing::of(alloc, serial)?;
     let next = again!(next_turn(serial), before.is_of(alloc, serial)?);
     match next {
@@ -57,7 +59,7 @@ fn one_turn(alloc: Global, serial: &mut Serial) -> Result<Option<RunOutcome>, Fa
 /// Does a turn.
 fn take(
     alloc: Global,
-    serial: &mut Serial,
+    serial: &mut Serial<Kept>,
     end: Option<&SegmentEnd>,
     before: &Standing,
 ) -> Result<(), Failed>
@@ -68,7 +70,7 @@ fn take(
 }
 
 /// What a run came to.
-fn answer_of(alloc: Global, serial: &Serial, outcome: RunOutcome) -> Result<Answer, Failed> {
+fn answer_of(alloc: Global, serial: &Serial<Kept>, outcome: RunOutcome) -> Result<Answer, Failed> {
     let standing = Standing::of(alloc, serial)?;
     let RunOutcome::Exit(status) = outcome else {
         return Err(Failed::Other);

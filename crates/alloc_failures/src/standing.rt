@@ -1,7 +1,7 @@
 use crate::picture::Picture;
 use std::alloc::{AllocError, Global};
 use thread_table::{Thread, Threads};
-use token::{Need, Serial, Turn, TurnChange};
+use token::{Kept, Need, Serial, Turn, TurnChange};
 
 /// A copy of all that a run lends.
 #[derive(Drop)]
@@ -20,7 +20,7 @@ pub struct Standing {
 
 impl Standing {
     /// The copy of a run.
-    pub fn of(alloc: Global, serial: &Serial) -> Result<Self, AllocError> {
+    pub fn of(alloc: Global, serial: &Serial<Kept>) -> Result<Self, AllocError> {
         Ok(Standing {
             need: serial.need(),
             phase: serial.phase(),
@@ -36,7 +36,7 @@ impl Standing {
     }
 
     /// Whether a run lends the same.
-    pub fn is_of(&self, alloc: Global, serial: &Serial) -> Result<bool, AllocError> {
+    pub fn is_of(&self, alloc: Global, serial: &Serial<Kept>) -> Result<bool, AllocError> {
         let memory = self.base.is_of(alloc, serial.base())? && self.now.is_of(alloc, serial.now())?;
         let changes = flattened(alloc, serial.changes())?;
         let threads = copied(alloc, serial.threads())?;

@@ -1,10 +1,13 @@
-//! Measures how many guest instructions a second a hart executes on a whole memory, on a snapshot and on
-//! a view of one, and what single accesses and the opening of a view take.
+//! Measures how many guest instructions a second a hart executes on a whole memory and on a view, and what
+//! single accesses and the opening of a view take.
 //!
 //! `bench FILE COUNT` runs thread 0 of a file up to its first stop or that many instructions, on a whole
-//! memory, on a snapshot and then on a view. With a part it measures that, so many times: `accesses` to a
-//! whole memory and to a view, `opens` of views, `merges` of pages, `commits` of patches, and `turns` of a run.
+//! memory and on a view, first without decoded code and then over it. With a part it measures that, so many
+//! times: `accesses` to a whole memory and to a view, `opens` of views, `merges` of pages, `commits` of
+//! patches, and `turns` of a run.
 #![tactic(auto)]
+
+ghost use Rattle.code.specs.Code.{HasCode};
 
 mod accesses;
 mod commits;
@@ -14,11 +17,12 @@ mod turns;
 use accesses::{measure_accesses, measure_opens};
 use anyhow::{Context, Result, anyhow};
 use clap::{Arg, ArgMatches, Command, Error, value_parser};
+use code::CodeSlice;
 use commits::{measure_commits, measure_merges};
 use elf32_reader::{Image, read};
 use guest_memory::GuestMemory;
 use guest_memory::layout::STACK_POINTER;
-use hart::{Hart, run_to_stop};
+use hart::{Hart, run_coded};
 use paged_memory::{Snapshot, WholeMemory};
 use std::alloc::{AllocError, Global};
 use std::process::ExitCode;
@@ -111,22 +115,46 @@ fn image_of<R: AllocGlobal + Files>(rt: &R, alloc: Global, path: &str) -> Result
 /// Runs an image on a whole memory, on a snapshot and on a view, and prints how many instructions a second were executed.
 fn measure<R: Clock + Print>(rt: &R, alloc: Global, image: &Image, bound: u64) -> Result<()> {
     let mut whole = WholeMemory::of_image(alloc, image)?;
-    measure_on(rt, "whole memory", image, &mut whole, bound)?;
-    let mut snapshot = Snapshot::of_image(alloc, image)?;
-    measure_on(rt, "snapshot", image, &mut snapshot, bound)?;
+    measure_on(
+        rt,
+        "whole memory",
+        CodeSlice::none(),
+        image,
+        &mut whole,
+        bound,
+    )?;
     let mut view = View::open(Snapshot::of_image(alloc, image)?);
-    measure_on(rt, "view", image, &mut view, bound)
+    measure_on(rt, "view", CodeSlice::none(), image, &mut view, bound)?;
+    measure_decoded(rt, alloc, image, bound)
+}
+
+/// The same over the image's decoded code, on a whole memory and on a view.
+fn measure_decoded<R: Clock + Print>(
+    rt: &R,
+    alloc: Global,
+    image: &Image,
+    bound: u64,
+) -> Result<()> {
+    let base = Snapshot::of_image(alloc, image)?;
+    let code = base.code();
+    let mut whole = WholeMemory::of_image(alloc, image)?;
+    measure_on(rt, "whole memory, decoded", code, image, &mut whole, bound)?;
+    let mut view = View::open(base.try_clone()?);
+    measure_on(rt, "view, decoded", code, image, &mut view, bound)
 }
 
 /// Runs an image on a memory, and prints how many instructions a second were executed.
 fn measure_on<R: Clock + Print, M: GuestMemory>(
     rt: &R,
     name: &str,
+    code: CodeSlice<'_>,
     image: &Image,
     memory: &mut M,
     bound: u64,
-) -> Result<()> {
-    let (count, time) = timed(rt, image, memory, bound)?;
+) -> Result<()>
+    requires { HasCode code.start code.entries.now (M.cells memory.old) }
+{
+    let (count, time) = timed(rt, code, image, memory, bound)?;
     report(rt, name, count, time)
 }
 
@@ -143,12 +171,15 @@ fn report<R: Print>(rt: &R, memory: &str, count: u64, time: Duration) -> Result<
 /// How many instructions of an image were executed on a memory, and in what time.
 fn timed<R: Clock, M: GuestMemory>(
     rt: &R,
+    code: CodeSlice<'_>,
     image: &Image,
     memory: &mut M,
     bound: u64,
-) -> Result<(u64, Duration)> {
+) -> Result<(u64, Duration)>
+    requires { HasCode code.start code.entries.now (M.cells memory.old) }
+{
     let mut hart = Hart::new(image.entry(), STACK_POINTER, 0, 0);
     let start = Instant::now(rt)?;
-    let (_, count) = run_to_stop(&mut hart, memory, bound, None)?;
+    let (_, count) = run_coded(code, &mut hart, memory, bound, None)?;
     Ok((count, start.elapsed(rt)?))
 }

@@ -5,7 +5,7 @@ use elf32_reader::Image;
 use std::alloc::Global;
 use std::rt::Clock;
 use std::time::Instant;
-use token::{Next, Serial, next_turn};
+use token::{Next, NoRecord, Serial, Start, next_turn};
 
 /// How often each is measured. The least time is printed.
 const ROUNDS: u32 = 5;
@@ -29,7 +29,7 @@ struct Load {
 }
 
 /// What is measured: each load differs from the first one in one number.
-const LOADS: [Load; 8] = [
+const LOADS: [Load; 11] = [
     Load {
         pages: 100,
         threads: 1,
@@ -74,6 +74,24 @@ const LOADS: [Load; 8] = [
     },
     Load {
         pages: 100,
+        threads: 1,
+        changed_pages: 1,
+        turns_before: 1000,
+    },
+    Load {
+        pages: 16_000,
+        threads: 4,
+        changed_pages: 1,
+        turns_before: 1000,
+    },
+    Load {
+        pages: 1000,
+        threads: 4,
+        changed_pages: 64,
+        turns_before: 1000,
+    },
+    Load {
+        pages: 100,
         threads: 256,
         changed_pages: 0,
         turns_before: 40_000,
@@ -96,10 +114,12 @@ fn input_of(alloc: Global, load: Load) -> Result<Vec<u8>> {
 }
 
 /// Does the next turn, and answers whether there was one.
-fn one_turn(serial: &mut Serial) -> Result<bool> {
+fn one_turn(serial: &mut Serial<NoRecord>) -> Result<bool> {
     match next_turn(serial)? {
         Next::Turn(end) => {
-            serial.turn(end.as_ref())?;
+            if serial.turn(end.as_ref()).is_err() {
+                return Err(anyhow!("memory was refused"));
+            }
             Ok(true)
         }
         Next::Ended(_) => Ok(false),
@@ -108,7 +128,7 @@ fn one_turn(serial: &mut Serial) -> Result<bool> {
 
 /// Does so many turns.
 #[inline(never)]
-fn do_turns(serial: &mut Serial, count: u64) -> Result<()> {
+fn do_turns(serial: &mut Serial<NoRecord>, count: u64) -> Result<()> {
     for _ in 0..count {
         if !one_turn(serial)? {
             return Err(anyhow!("the run has ended"));
@@ -119,7 +139,7 @@ fn do_turns(serial: &mut Serial, count: u64) -> Result<()> {
 
 /// Executes the next segment over and over, and does no turn.
 #[inline(never)]
-fn do_segments(serial: &Serial, count: u64) -> Result<()> {
+fn do_segments(serial: &Serial<NoRecord>, count: u64) -> Result<()> {
     for _ in 0..count {
         if let Next::Ended(_) = next_turn(serial)? {
             return Err(anyhow!("the run has ended"));
@@ -129,21 +149,25 @@ fn do_segments(serial: &Serial, count: u64) -> Result<()> {
 }
 
 /// What a turn takes with its segment.
-fn turn_time<R: Clock>(rt: &R, serial: &mut Serial, count: u64) -> Result<u128> {
+fn turn_time<R: Clock>(rt: &R, serial: &mut Serial<NoRecord>, count: u64) -> Result<u128> {
     let start = Instant::now(rt)?;
     do_turns(serial, count)?;
     each(rt, &start, count)
 }
 
 /// What a segment takes.
-fn segment_time<R: Clock>(rt: &R, serial: &Serial, count: u64) -> Result<u128> {
+fn segment_time<R: Clock>(rt: &R, serial: &Serial<NoRecord>, count: u64) -> Result<u128> {
     let start = Instant::now(rt)?;
     do_segments(serial, count)?;
     each(rt, &start, count)
 }
 
 /// What a turn takes with its segment, and the segment alone, the least of some rounds.
-fn least_times<R: Clock>(rt: &R, serial: &mut Serial, count: u64) -> Result<(u128, u128)> {
+fn least_times<R: Clock>(
+    rt: &R,
+    serial: &mut Serial<NoRecord>,
+    count: u64,
+) -> Result<(u128, u128)> {
     let mut turn = u128::MAX;
     let mut segment = u128::MAX;
     for _ in 0..ROUNDS {
@@ -163,7 +187,8 @@ pub fn measure_turns<R: Clock + Print>(
 ) -> Result<()> {
     for load in LOADS {
         let input = input_of(alloc, load)?;
-        let mut serial = Serial::open(alloc, image, &input, BOUND, None)?;
+        let start = Start::open(alloc, image, &input, BOUND, None)?;
+        let mut serial = start.recorded_by(NoRecord);
         do_turns(&mut serial, load.turns_before)?;
         let threads = serial.threads().len();
         let (turn, segment) = least_times(rt, &mut serial, count)?;

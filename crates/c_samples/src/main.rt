@@ -11,6 +11,7 @@ use std::alloc::Global;
 use std::fs;
 use std::rt::Files;
 use std::sync::Wait;
+use std::thread::Threads;
 
 /// The numbers of workers that each sample is run with.
 const WORKERS: [u32; 3] = [1, 2, 4];
@@ -32,7 +33,7 @@ fn main(rt: HostRuntime) -> Result<()> {
 }
 
 /// Whether all runs of a sample have its output and its status.
-fn is_as_wanted<R: AllocGlobal + Files + Wait>(
+fn is_as_wanted<R: AllocGlobal + Files + Threads + Wait + Sync>(
     rt: &R,
     alloc: Global,
     sample: &Sample<'_>,
@@ -53,7 +54,7 @@ fn is_as_wanted<R: AllocGlobal + Files + Wait>(
 }
 
 /// The report of one run.
-fn report<R: Wait>(
+fn report<R: Threads + Wait + Sync>(
     rt: &R,
     alloc: Global,
     file: &[u8],

@@ -1,11 +1,15 @@
 -- A commit changes a thread's row alone of the threads, and can be taken back.
-use Rattle.std.proofs.Common.{◌≡◌, ℕ, zero, suc, ◌<◌, Option, Some, None, List, [], ◌∷◌, length, slice_get, slice_set, unwrap_or, refl, ap, sym, ◌∙◌, arith, length-set}
+use Rattle.std.proofs.Common.{◌≡◌, ℕ, zero, suc, ◌<◌, true, Option, Some, None, List, [], ◌∷◌, length, slice_get, slice_set, unwrap_or, refl, ap, sym, ◌∙◌, arith, length-set, subst}
 use Rattle.guest_memory.specs.Memory.{Memory}
 use Rattle.hart.specs.HartState.{HartState}
+use Rattle.ecalls.specs.Request.{call_of}
+use Rattle.thread_table.specs.Status.{is_ready}
 use Rattle.thread_table.specs.Thread.{blank}
 use Rattle.thread_table.specs.declared.thread.Thread.{Thread}
 use Rattle.call_table.specs.State.{State, row_of, with_thread, with_thread_by}
+use Rattle.call_table.specs.Called.{called, commit_then_call}
 use Rattle.call_table.specs.CommitAndWake.{committed_bytes}
+use Rattle.call_table.specs.Effects.{effect}
 use Rattle.call_table.proofs.Parked.{slice_get-itself}
 
 pub length-with_thread : (threads : List Thread) (n : ℕ) (made : Thread → Thread) → length (with_thread threads n made) ≡ length threads
@@ -61,3 +65,27 @@ taken_back state thread bytes hart executed memory row is same =
     let first : record state { memory = memory; threads = slice_set (with_thread state.threads thread made) thread row } ≡ record state { memory = state.memory; threads = slice_set (with_thread state.threads thread made) thread row } =
     ap (λ (cells : Memory). record state { memory = cells; threads = slice_set (with_thread state.threads thread made) thread row }) same in
     first ∙ ap (λ (rows : List Thread). record state { threads = rows }) threads
+
+-- the thread is there after the commit, and ready
+pub there_after : (after state : State) (thread : ℕ) (bytes : ℕ → Option ℕ) (hart : HartState) (executed : ℕ) → thread < length state.threads
+    → after ≡ committed_bytes state thread bytes hart executed → thread < length after.threads
+there_after after state thread bytes hart executed below is =
+    subst (λ (after : State). thread < length after.threads) (sym is) (subst (λ n. thread < n) (sym (committed_len state thread bytes hart executed)) below)
+
+pub ready_after : (after state : State) (thread : ℕ) (bytes : ℕ → Option ℕ) (hart : HartState) (executed : ℕ) → thread < length state.threads
+    → is_ready (row_of state thread).status ≡ true → after ≡ committed_bytes state thread bytes hart executed → is_ready (row_of after thread).status ≡ true
+ready_after after state thread bytes hart executed below ready is =
+    ap (λ (after : State). is_ready (row_of after thread).status) is ∙ ap (λ row. is_ready row.status) (committed_row state thread bytes hart executed below) ∙ ready
+
+-- what the call comes to, from the state after the commit
+pub committed_effect : (after : State) (state : State) (thread : ℕ) (bytes : ℕ → Option ℕ) (hart : HartState) (executed : ℕ) → thread < length state.threads
+    → after ≡ committed_bytes state thread bytes hart executed → called after thread ≡ commit_then_call state thread bytes hart executed
+committed_effect after state thread bytes hart executed below is =
+    ap (λ (after : State). called after thread) is
+    ∙ ap (λ (row : Thread). effect (committed_bytes state thread bytes hart executed) thread (call_of row.hart)) (committed_row state thread bytes hart executed below)
+
+-- the hart of a thread after its commit
+pub committed_hart : (after state : State) (thread : ℕ) (bytes : ℕ → Option ℕ) (hart : HartState) (executed : ℕ) → thread < length state.threads
+    → after ≡ committed_bytes state thread bytes hart executed → (row_of after thread).hart ≡ hart
+committed_hart after state thread bytes hart executed below is =
+    ap (λ (after : State). (row_of after thread).hart) is ∙ ap (λ (row : Thread). row.hart) (committed_row state thread bytes hart executed below)

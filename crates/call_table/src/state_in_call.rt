@@ -43,12 +43,14 @@ pub(crate) struct StateInCall {
 }
 
 impl StateInCall {
-    ghost use Rattle.std.specs.Prelude.{◌≡◌, ◌<◌, true, false, IfOk, OnOk, OnErr, length};
+    ghost use Rattle.std.specs.Prelude.{◌≡◌, ◌<◌, true, false, IfOk, IsOk, OnOk, OnErr, length};
+    ghost use Rattle.ecalls.specs.Request.{call_of};
     ghost use Rattle.condvar_barrier.specs.Objects.{is_waiting};
     ghost use Rattle.thread_table.specs.Status.{is_ready};
     ghost use Rattle.thread_table.specs.declared.status.Status.TheVariants.{Woken};
     ghost use Rattle.call_table.specs.Effects.{effect, settled};
     ghost use Rattle.call_table.specs.Called.{called};
+    ghost use Rattle.call_table.specs.Room.{HasRoom};
     ghost use Rattle.call_table.specs.Waiting.{are_parked};
     ghost use Rattle.call_table.specs.CommitAndWake.{after_wake};
     ghost use Rattle.call_table.specs.State.{row_of};
@@ -64,6 +66,7 @@ impl StateInCall {
         ensures reply { IfOk result (λ reply. reply ≡ (called (state_in self.old) thread).reply) }
         ensures settled { OnOk result (state_in self.new ≡ settled thread (called (state_in self.old) thread)) }
         ensures kept { OnErr result (state_in self.new ≡ state_in self.old) }
+        ensures succeeds { HasRoom self.old.output (call_of (row_of (state_in self.old) thread).hart) → IsOk result }
         ensures parked { are_parked self.new.threads self.new.objects.waiters ≡ true }
         ensures input { self.new.input ≡ self.old.input }
     {
@@ -83,6 +86,7 @@ impl StateInCall {
         requires idle { is_waiting self.old.objects thread ≡ false }
         ensures done { IfOk result (λ reply. came_to reply self.new ≡ effect (state_in self.old) thread call) }
         ensures kept { OnErr result (state_in self.new ≡ state_in self.old) }
+        ensures succeeds { HasRoom self.old.output call → IsOk result }
         ensures input { self.new.input ≡ self.old.input }
     {
         match call {

@@ -2,6 +2,13 @@
 use Rattle.std.specs.Prelude.{◌≡◌, ℕ, ◌+◌, ◌<◌, Bool, ◌==◌, if◌then◌else◌, List, [], ◌∷◌, ◌++◌, length}
 use Rattle.claim_table.specs.declared.log.Log.{Log}
 
+-- the most jobs of a phase, and the most seats
+abbrev pub most_jobs : ℕ
+most_jobs = 256
+
+abbrev pub most_seats : ℕ
+most_seats = 64
+
 abbrev pub one_if : Bool → ℕ
 one_if test = if test then 1 else 0
 

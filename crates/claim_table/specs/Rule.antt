@@ -6,7 +6,7 @@ use Rattle.atomic_table.specs.Table.{State}
 use Rattle.claim_table.specs.declared.log.Log.{Log}
 use Rattle.claim_table.specs.declared.size.Size.{Size}
 use Rattle.claim_table.specs.declared.view.View.{View}
-use Rattle.claim_table.specs.Logs.{total, tally, new_log}
+use Rattle.claim_table.specs.Logs.{most_jobs, most_seats, total, tally, new_log}
 use Rattle.claim_table.specs.Draws.{AreDraws}
 
 abbrev pub logs : List View → List Log
@@ -27,5 +27,5 @@ pub record IsKept {S : Type 0} (size : Size) (state : State S View) : Type 0 whe
   pub draws : AreDraws size.jobs word0 word1 (tally (logs state.views))
   pub room : (tally (logs state.views)).entries ≤ size.jobs
   pub whole : total (λ log. log.seats) (logs state.views) ≡ size.seats
-  pub fits : (size.jobs ≤ 256) × (size.seats ≤ 64)
+  pub fits : (size.jobs ≤ most_jobs) × (size.seats ≤ most_seats)
   pub parts : (place : ℕ) (view : View) → get_elem? state.views place ≡ some view → IsPart size view

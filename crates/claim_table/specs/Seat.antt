@@ -6,8 +6,7 @@ use Rattle.atomic_table.specs.Table.{Me}
 use Rattle.claim_table.specs.declared.log.Log.{Log}
 use Rattle.claim_table.specs.declared.size.Size.{Size}
 use Rattle.claim_table.specs.declared.view.View.{View}
-use Rattle.claim_table.specs.declared.marks.TheConstants.{JOBS}
-use Rattle.claim_table.specs.Logs.{with_drawn, with_end, with_seen, new_log, times, one_if, NotesDrawn}
+use Rattle.claim_table.specs.Logs.{most_jobs, with_drawn, with_end, with_seen, new_log, times, one_if, NotesDrawn}
 
 -- which row of words it is, and its size
 pub record Row : Type 0 where
@@ -35,7 +34,7 @@ saw log None = log
 
 -- the numbers of a list, ascending and each once
 unfoldable pub ascending : List ℕ → List ℕ
-ascending numbers = filter (λ number. nat_lt 0 (times number numbers)) (range_with_len 0 JOBS)
+ascending numbers = filter (λ number. nat_lt 0 (times number numbers)) (range_with_len 0 most_jobs)
 
 -- the numbers below a bound that are marked, ascending
 unfoldable pub members : ℕ → List Bool → List ℕ
@@ -53,7 +52,7 @@ done log = record { drawn = log.drawn; noted = ascending log.noted; seen = ascen
 
 -- the marks say which numbers stand in a list
 abbrev pub AreMarks : List Bool → List ℕ → Type 0
-AreMarks marks numbers = (number : ℕ) → number < JOBS → slice_index_or marks number false ≡ nat_lt 0 (times number numbers)
+AreMarks marks numbers = (number : ℕ) → number < most_jobs → slice_index_or marks number false ≡ nat_lt 0 (times number numbers)
 
 -- what a seat keeps of what it knows
 pub record IsSeat {S : Type 0} (me : Me S View) (drawn : List ℕ) (noted : List Bool) (seen : List Bool) (ended : Bool) : Type 0 where
@@ -65,4 +64,4 @@ pub record IsSeat {S : Type 0} (me : Me S View) (drawn : List ℕ) (noted : List
   pub ended_is : me.0.log.ended ≡ one_if ended
   pub notes_drawn : NotesDrawn me.0.log
   pub below : (number : ℕ) → 0 < times number me.0.log.drawn → number < me.0.size.jobs
-  pub room : (length noted ≡ JOBS) × (length seen ≡ JOBS)
+  pub room : (length noted ≡ most_jobs) × (length seen ≡ most_jobs)

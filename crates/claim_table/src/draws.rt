@@ -29,17 +29,18 @@ pub struct Draws {
 
 impl Model for Draws {
     ghost use Rattle.std.specs.Prelude.{◌≡◌, ◌<◌, ◌≤◌};
+    ghost use Rattle.claim_table.specs.Logs.{most_jobs};
     ghost use Rattle.claim_table.specs.Seat.{Row};
 
     ghost Value = { Row };
 
     ghost view = { λ d. record { table = d.table.shared.table_id; size = d.size } };
 
-    ghost invariant = { λ d. (d.table.shared.key ≡ d.size) × (d.table.shared.table_id.words ≡ 2) × (d.table.shared.table_id.slots ≡ 0) × (d.size.jobs ≤ 256) × (0 < d.size.seats) };
+    ghost invariant = { λ d. (d.table.shared.key ≡ d.size) × (d.table.shared.table_id.words ≡ 2) × (d.table.shared.table_id.slots ≡ 0) × (d.size.jobs ≤ most_jobs) × (0 < d.size.seats) };
 }
 
 impl Draws {
-    ghost use Rattle.claim_table.specs.Logs.{new_log, tally, times, with_noted};
+    ghost use Rattle.claim_table.specs.Logs.{most_jobs, most_seats, new_log, tally, times, with_noted};
     ghost use Rattle.claim_table.specs.Draws.{AreDraws, IsDrawnOut};
     ghost use Rattle.std.specs.Prelude.{◌≡◌, ℕ, ◌+◌, ◌<◌, ◌≤◌, [], ◌++◌, ◌∷◌, All, map, length, IfOk, IfSome, IfNone, OnSome};
     ghost use Rattle.std.specs.List.{range_with_len};
@@ -47,7 +48,7 @@ impl Draws {
 
     /// As many seats as asked for, numbered from 0, none of which has done anything.
     pub fn new(alloc: Global, jobs: u32, seats: u32) -> Result<(Draws, Vec<DrawSeat>), AllocError>
-        requires { (jobs ≤ 256) × (0 < seats) × (seats ≤ 64) }
+        requires { (jobs ≤ most_jobs) × (0 < seats) × (seats ≤ most_seats) }
         ensures size { IfOk result (λ made. made.0.size ≡ record { jobs = jobs; seats = seats }) }
         ensures seats { IfOk result (λ made. made.1.items ≡ map (λ number. record { row = made.0; number = number; log = new_log 1 }) (range_with_len 0 seats)) }
     {

@@ -1,6 +1,5 @@
-pub mod Content
+pub mod Destination
 pub mod Failure
 pub mod Records
 pub mod Serves
 pub mod Status
-pub mod Taken

@@ -1,41 +1,53 @@
 -- What the program answers to a request and what it leaves, told by the files' content and the standard streams as far as these are
 -- known.
-use Rattle.std.specs.Prelude.{◌≡◌, ◌⊎◌, ℕ, ◌+◌, Option, None, Some, Result, Ok, Err, List, IfSome, IsNone, take}
+use Rattle.std.specs.Prelude.{◌≡◌, ◌⊎◌, ℕ, ◌+◌, Option, None, Some, Result, Ok, Err, List, ◌++◌, IfSome, take}
 use Rattle.std.specs.Io.KnownBytes.{Appends}
 use Rattle.disassembler.specs.Listings.{listing_of}
 use Rattle.elf32_reader.specs.Segments.{image_of}
 use Rattle.elf32_reader.specs.Refusals.{first_refusal}
 use Rattle.elf32_reader.specs.Format.{file_limit}
-use Rattle.runtime.specs.Run.{Answers, IsAccepted, IsRunnable}
+use Rattle.files.specs.Content.{Content}
+use Rattle.runtime.specs.Reports.{IsComplete}
+use Rattle.runtime.specs.Run.{IsAccepted, IsRunnable, Refuses, setup_from}
+use Rattle.runtime.specs.Sending.{SendsPrefix}
 use Rattle.runtime.specs.declared.config.Config.{Config}
 use Rattle.runtime.specs.Limits as limit
-use Rattle.runtime.specs.declared.report.Report.{Report}
 use Rattle.runtime.specs.declared.run_fault.RunFault.TheVariants as run
+use Rattle.token.specs.History.{History, changes_of, outcome, present, turns_of}
+use Rattle.token.specs.RunInTurn.{point_of}
+use Rattle.token.specs.Setup.{Setup}
 use Rattle.token.specs.declared.outcome.RunOutcome.{RunOutcome}
-use Rattle.command.specs.Content.{Content}
-use Rattle.command.specs.Records.{AreUnwritten, AreWritten, IsAt}
+use Rattle.token.specs.declared.run_in_turn.RunInTurn.{RunInTurn}
+use Rattle.command.specs.Records.{AreFiled, AreTextsOf, AreUnwritten, CanPrintAll, IsUnwritten, KeepsButParts, NamesNone, Texts, printed}
 use Rattle.command.specs.declared.failure.Failure.{Failure}
-use Rattle.command.specs.declared.failure.Failure.TheVariants.{NotText, OutsideRange, NotYet, ElfRefused, InputTooLarge, CannotRead, CannotWrite, OutOfMemory}
-use Rattle.command.specs.declared.place.Place.TheVariants.{StandardInput, StandardOutput}
+use Rattle.command.specs.declared.failure.Failure.TheVariants.{NotText, OneFile, OutsideRange, NotYet, ElfRefused, InputTooLarge, CannotRead, CannotWrite, OutOfMemory}
+use Rattle.command.specs.declared.place.Place.{Place}
+use Rattle.command.specs.declared.place.Place.TheVariants.{Path, StandardInput, StandardOutput}
 use Rattle.command.specs.declared.records.Records.{Records}
 use Rattle.command.specs.declared.request.Request.{Request}
 use Rattle.command.specs.declared.request.Request.TheVariants.{Run, Disasm, Replay}
+
+-- whether a place is the file at a path
+abbrev pub IsAt : List ℕ → Place → Type 0
+IsAt path (Path other) = other.now ≡ path
+IsAt path StandardInput = ⊥
+IsAt path StandardOutput = ⊥
 
 -- bytes that were read up to a limit, of all that there are where these are known
 abbrev pub AreRead : ℕ → Option (List ℕ) → List ℕ → Type 0
 AreRead limit known bytes = IfSome known (λ all. bytes ≡ take (limit + 1) all)
 
--- Why the run of a file's bytes and an input gives no report. Standard output can fail where nothing refuses the run, and memory can run
--- out once the configuration and the input are in order.
+-- Why no run of a file's bytes and an input begins. Memory can run out once the configuration and the input are in order.
 abbrev pub IsRefused : List ℕ → List ℕ → Config → Failure → Type 0
-IsRefused elf input config OutsideRange = Answers elf input config (Err run.BadConfig)
-IsRefused elf input config InputTooLarge = Answers elf input config (Err run.InputTooLarge)
-IsRefused elf input config (ElfRefused fault) = Answers elf input config (Err (run.Elf fault))
-IsRefused elf input config (CannotWrite place) = (place ≡ StandardOutput) × IsAccepted elf input config
+IsRefused elf input config OutsideRange = Refuses elf input config run.BadConfig
+IsRefused elf input config InputTooLarge = Refuses elf input config run.InputTooLarge
+IsRefused elf input config (ElfRefused fault) = Refuses elf input config (run.Elf fault)
 IsRefused elf input config OutOfMemory = IsRunnable input config
+IsRefused elf input config (CannotWrite place) = ⊥
 IsRefused elf input config (CannotRead place) = ⊥
 IsRefused elf input config NotYet = ⊥
 IsRefused elf input config NotText = ⊥
+IsRefused elf input config (OneFile one other) = ⊥
 
 -- the bytes of a file or of the input could not be read
 abbrev pub IsUnread : List ℕ → Failure → Type 0
@@ -46,6 +58,7 @@ IsUnread path InputTooLarge = ⊥
 IsUnread path (ElfRefused fault) = ⊥
 IsUnread path NotYet = ⊥
 IsUnread path NotText = ⊥
+IsUnread path (OneFile one other) = ⊥
 IsUnread path (CannotWrite place) = ⊥
 
 -- bytes of the file and of the input were read, and such is their run
@@ -53,12 +66,11 @@ abbrev pub AreRun : Option (List ℕ) → Option (List ℕ) → (List ℕ → Li
 AreRun content input Is =
     (elf : List ℕ) × (given : List ℕ) × AreRead file_limit content elf × AreRead limit.input input given × Is elf given
 
--- The run of the bytes of the file and of the input gives this report, and all of its output was put after what standard output held.
-abbrev pub RunsFile : Option (List ℕ) → Option (List ℕ) → Config → Report → Option (List ℕ) → Option (List ℕ) → Type 0
-RunsFile content input config report old new =
-    AreRun content input (λ elf given. Answers elf given config (Ok report)) × Appends old new report.output.items
+-- A run of which no turn is done is that of a file's bytes and an input, where nothing refuses them.
+abbrev pub IsOpenedFrom : Config → RunInTurn → List ℕ → List ℕ → Type 0
+IsOpenedFrom config start elf input = IsAccepted elf input config × ((point_of start).setup ≡ setup_from elf input config)
 
--- why there is no report of the file at a path
+-- why no run of the file at a path begins
 abbrev pub IsUnrun : List ℕ → Option (List ℕ) → Option (List ℕ) → Config → Failure → Type 0
 IsUnrun path content input config failure =
     IsUnread path failure ⊎ AreRun content input (λ elf given. IsRefused elf given config failure)
@@ -75,26 +87,70 @@ Lists bytes_of path content (Err OutsideRange) = ⊥
 Lists bytes_of path content (Err InputTooLarge) = ⊥
 Lists bytes_of path content (Err NotYet) = ⊥
 Lists bytes_of path content (Err NotText) = ⊥
+Lists bytes_of path content (Err (OneFile one other)) = ⊥
 Lists bytes_of path content (Err (CannotWrite place)) = ⊥
 
--- What a run whose texts go into files answers: its outcome, where the output is out and each file holds its text. Or there is no
--- report, and the files are as they were; or there is one, and a text didn't get into its file.
-abbrev pub RunsInto : (files files' : Content) (input output output' : Option (List ℕ)) → List ℕ → Config → Records → Result RunOutcome Failure → Type 0
-RunsInto files files' input output output' path config records (Ok outcome) =
-    (report : Report) × (report.outcome ≡ outcome) × RunsFile (files path) input config report output output' × AreWritten records report files'
-RunsInto files files' input output output' path config records (Err failure) =
-    (IsUnrun path (files path) input config failure × (files' ≡ files))
-    ⊎ ((report : Report) × RunsFile (files path) input config report output output' × AreUnwritten records report files files' failure)
+-- how a history ends, its output, and the texts of its turns and changes
+pub record IsAnswerOf (setup : Setup) (history : History) (records : Records) (ends : RunOutcome) (output : List ℕ) (texts : Texts) : Type 0 where
+  pub ends_so : outcome setup history ≡ Some ends
+  pub output_is : (present setup history).output ≡ output
+  pub texts_are : AreTextsOf records (turns_of history) (changes_of history) texts
+
+-- There is a complete history that ends so, with this output and these texts, and so it is with every complete history.
+pub record ComesTo (setup : Setup) (records : Records) (ends : RunOutcome) (output : List ℕ) (texts : Texts) : Type 0 where
+  pub some : (history : History) × IsComplete setup history × IsAnswerOf setup history records ends output texts
+  pub every : (history : History) → IsComplete setup history → IsAnswerOf setup history records ends output texts
+
+-- Why a run that began has no answer, and what standard output holds: memory was refused, or standard output failed. A prefix of the
+-- output of some legal history is put out.
+abbrev pub IsStopped : Setup → Option (List ℕ) → Option (List ℕ) → Failure → Type 0
+IsStopped setup old new (CannotWrite place) = (place ≡ StandardOutput) × SendsPrefix setup old new
+IsStopped setup old new OutOfMemory = SendsPrefix setup old new
+IsStopped setup old new (CannotRead place) = ⊥
+IsStopped setup old new OutsideRange = ⊥
+IsStopped setup old new InputTooLarge = ⊥
+IsStopped setup old new (ElfRefused fault) = ⊥
+IsStopped setup old new NotYet = ⊥
+IsStopped setup old new NotText = ⊥
+IsStopped setup old new (OneFile one other) = ⊥
+
+-- Why a run has no answer although nothing refuses it: the output of a text couldn't be begun, and nothing was put out; or the run
+-- was stopped.
+abbrev pub IsHalted : Records → Option (List ℕ) → Option (List ℕ) → Failure → Setup → Type 0
+IsHalted records old new failure setup = (IsUnwritten records failure × (new ≡ old)) ⊎ IsStopped setup old new failure
+
+-- There is a complete history, and one of its texts didn't get to where it is to be.
+abbrev pub IsLeftOut : Records → Content → Content → Failure → Setup → Type 0
+IsLeftOut records old new failure setup = (history : History) × IsComplete setup history × AreUnwritten records (turns_of history) old new failure
+
+-- the file and the input were read, nothing refuses their run, and such is what it is given
+abbrev pub IsBegun : Option (List ℕ) → Option (List ℕ) → Config → (Setup → Type 0) → Type 0
+IsBegun content input config Is = AreRun content input (λ elf given. IsAccepted elf given config × Is (setup_from elf given config))
+
+-- two arguments name one file
+abbrev pub AreOneFile : Failure → Type 0
+AreOneFile failure = (one : _) × (other : _) × (failure ≡ OneFile one other)
+
+-- What a run answers: its outcome, where the output is out and each text is where it is to be. Or no run begins, and the files are as
+-- they were; or it has no answer, and the files are as they were but for the parts; or a text didn't get to where it is to be.
+abbrev pub RunsInto : Type 0 → (files files' : Content) (input output output' : Option (List ℕ)) → List ℕ → Config → Records → Result RunOutcome Failure → Type 0
+RunsInto tells files files' input output output' path config records (Ok ends) =
+    (put : List ℕ) × (texts : Texts) × IsBegun (files path) input config (λ setup. ComesTo setup records ends put texts)
+    × AreFiled records texts files' × (CanPrintAll tells records → Appends output output' (put ++ printed records texts))
+RunsInto tells files files' input output output' path config records (Err failure) =
+    ((AreOneFile failure ⊎ IsUnrun path (files path) input config failure) × (files' ≡ files))
+    ⊎ ((IsBegun (files path) input config (IsHalted records output output' failure) × KeepsButParts records files files')
+    ⊎ IsBegun (files path) input config (IsLeftOut records files files' failure))
 
 -- What a request for a run or a replay answers, by the files' content and standard output before and after it; replays aren't made yet.
-abbrev pub Serves : (files files' : Content) (input output output' : Option (List ℕ)) → Request → Result RunOutcome Failure → Type 0
-Serves files files' input output output' (Run file config records) answer = RunsInto files files' input output output' file.now config records answer
-Serves files files' input output output' (Disasm file) answer = answer ≡ Err NotYet
-Serves files files' input output output' (Replay file schedule config) answer = answer ≡ Err NotYet
+abbrev pub Serves : Type 0 → (files files' : Content) (input output output' : Option (List ℕ)) → Request → Result RunOutcome Failure → Type 0
+Serves tells files files' input output output' (Run file config records) answer = RunsInto tells files files' input output output' file.now config records answer
+Serves tells files files' input output output' (Disasm file) answer = answer ≡ Err NotYet
+Serves tells files files' input output output' (Replay file schedule config) answer = answer ≡ Err NotYet
 
 -- a request names no file to write to
 abbrev pub NamesNoRecord : Request → Type 0
-NamesNoRecord (Run file config records) = IsNone records.trace × IsNone records.report
+NamesNoRecord (Run file config records) = NamesNone records
 NamesNoRecord (Disasm file) = Unit {0}
 NamesNoRecord (Replay file schedule config) = Unit {0}
 

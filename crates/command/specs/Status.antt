@@ -2,7 +2,7 @@ use Rattle.std.specs.Prelude.{ℕ, ◌%◌, Result, Ok, Err}
 use Rattle.token.specs.declared.outcome.RunOutcome.{RunOutcome}
 use Rattle.token.specs.declared.outcome.RunOutcome.TheVariants.{Exit, Finished, Trap, Deadlock}
 use Rattle.command.specs.declared.failure.Failure.{Failure}
-use Rattle.command.specs.declared.failure.Failure.TheVariants.{NotText, OutsideRange, NotYet, ElfRefused, InputTooLarge, CannotRead, CannotWrite, OutOfMemory}
+use Rattle.command.specs.declared.failure.Failure.TheVariants.{NotText, OneFile, OutsideRange, NotYet, ElfRefused, InputTooLarge, CannotRead, CannotWrite, OutOfMemory}
 
 -- the status after a run that ended so: the guest's own, of which a process shows the low byte, or 120 and 121
 abbrev pub outcome_status : RunOutcome → ℕ
@@ -14,6 +14,7 @@ outcome_status Deadlock = 121
 -- the status after a failure: 2 for wrong arguments, and else 123 to 126
 abbrev pub failure_status : Failure → ℕ
 failure_status NotText = 2
+failure_status (OneFile _ _) = 2
 failure_status OutsideRange = 2
 failure_status (ElfRefused _) = 123
 failure_status InputTooLarge = 124

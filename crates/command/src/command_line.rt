@@ -1,3 +1,4 @@
+use crate::destination::Destination;
 use crate::records::Records;
 use crate::request::Request;
 use clap::error::ErrorKind;
@@ -5,6 +6,9 @@ use clap::{Arg, ArgMatches, Command, Error, value_parser};
 use runtime::{Config, MAX_BOUND, MAX_WORKERS};
 use std::alloc::{AllocError, Global};
 use std::convert::AsStr;
+
+/// The version of the program.
+const VERSION: &str = "0.1.0";
 
 /// Reads the arguments of a command line, the program's name first.
 pub fn parse<'a, S: AsStr>(alloc: Global, arguments: &'a [S]) -> Result<Request<'a>, Error> {
@@ -20,6 +24,7 @@ pub fn parse<'a, S: AsStr>(alloc: Global, arguments: &'a [S]) -> Result<Request<
 fn command_line<'a>(alloc: Global) -> Result<Command<'a>, AllocError> {
     Command::new(alloc, "dthreads")
         .bin_name("dthreads")?
+        .version(VERSION)
         .about("Runs multithreaded RV32IM programs with the same result each time")
         .subcommand_required(true)
         .disable_help_subcommand(true)
@@ -59,8 +64,12 @@ fn limited<'a>(command: Command<'a>, alloc: Global) -> Result<Command<'a>, Alloc
 /// Adds the files that a run is recorded in.
 fn with_records<'a>(command: Command<'a>, alloc: Global) -> Result<Command<'a>, AllocError> {
     command
-        .arg(output(alloc, "trace").help("Write a line for each turn to this file"))?
-        .arg(output(alloc, "report").help("Write the sharing of pages to this file"))
+        .arg(output(alloc, "trace").help(
+            "Write a line for each turn to this file, or to standard output where it is -",
+        ))?
+        .arg(output(alloc, "report").help(
+            "Write the sharing of pages to this file, or to standard output where it is -",
+        ))
 }
 
 fn file<'a>(alloc: Global) -> Arg<'a> {
@@ -111,8 +120,8 @@ fn requested<'a>(matches: &ArgMatches<'a>) -> Option<Request<'a>> {
             file: run.get_str("FILE")?,
             config: config_of(run)?,
             records: Records {
-                trace: run.get_str("trace"),
-                report: run.get_str("report"),
+                trace: run.get_str("trace").map(Destination::named),
+                report: run.get_str("report").map(Destination::named),
             },
         }),
         ("disasm", disasm) => Some(Request::Disasm {

@@ -4,10 +4,10 @@ ghost use Rattle.elf32_reader.specs.Refusals.{first_refusal};
 ghost use Rattle.command.specs.Serves.{IsUnlisted, Lists, Prints};
 
 use crate::failure::Failure;
-use crate::files::Files;
 use crate::place::Place;
 use disassembler::listing;
 use elf32_reader::{ElfFault, FILE_LIMIT, read};
+use files::Files;
 use runtime::WriteSink;
 use std::alloc::Global;
 use std::io::Write;

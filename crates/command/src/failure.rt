@@ -1,9 +1,8 @@
 ghost use Rattle.std.specs.Prelude.{◌≡◌};
 
 use crate::place::Place;
-use crate::read_fault::ReadFault;
-use crate::write_fault::WriteFault;
 use elf32_reader::ElfFault;
+use files::{FileName, ReadFault, WriteFault};
 use runtime::RunFault;
 use std::alloc::AllocError;
 use thiserror::Error;
@@ -14,6 +13,9 @@ pub enum Failure<'a> {
     /// The arguments of the command line are not all text.
     #[error("error: invalid UTF-8 was detected in one or more arguments")]
     NotText,
+    /// Two arguments name one file.
+    #[error("error: {0} and {1} name one file")]
+    OneFile(FileName<'a>, FileName<'a>),
     /// A number of the run is outside its range.
     #[error("error: a number is outside its range")]
     OutsideRange,
@@ -66,7 +68,7 @@ impl Failure<'_> {
         ensures { result ≡ failure_status self.now }
     {
         match self {
-            Failure::NotText | Failure::OutsideRange => 2,
+            Failure::NotText | Failure::OneFile(..) | Failure::OutsideRange => 2,
             Failure::ElfRefused(_) => 123,
             Failure::InputTooLarge | Failure::CannotRead(_) | Failure::CannotWrite(_) => 124,
             Failure::OutOfMemory => 125,
@@ -86,7 +88,9 @@ impl From<RunFault> for Failure<'_> {
             RunFault::Elf(fault) => Failure::ElfRefused(fault),
             RunFault::BadConfig => Failure::OutsideRange,
             RunFault::InputTooLarge => Failure::InputTooLarge,
-            RunFault::WriteFailed => Failure::CannotWrite(Place::StandardOutput),
+            RunFault::WriteFailed | RunFault::RecordFailed => {
+                Failure::CannotWrite(Place::StandardOutput)
+            }
         }
     }
 }

@@ -1,9 +1,6 @@
 //! Files, readers and writers for tests.
 
-use crate::files::Files;
-use crate::read_fault::ReadFault;
-use crate::read_upto::read_upto;
-use crate::write_fault::WriteFault;
+use files::{FileName, Files, ReadFault, WriteFault, read_upto};
 use std::alloc::{AllocError, Global};
 use std::io;
 use std::io::{ErrorKind, Read, Write};
@@ -24,8 +21,10 @@ pub struct MemoryFiles<'a> {
     pub program: &'a [u8],
     pub trace: Vec<u8>,
     pub report: Vec<u8>,
-    /// How many more writes there are before each fails.
-    pub good_writes: u32,
+    /// How many bytes each output takes before its writes fail.
+    pub room: usize,
+    /// How many more outputs there are that can be put in their files' places.
+    pub good_ends: u32,
 }
 
 impl<'a> MemoryFiles<'a> {
@@ -35,7 +34,8 @@ impl<'a> MemoryFiles<'a> {
             program,
             trace: Vec::new(alloc),
             report: Vec::new(alloc),
-            good_writes: u32::MAX,
+            room: usize::MAX,
+            good_ends: u32::MAX,
         }
     }
 
@@ -47,7 +47,7 @@ impl<'a> MemoryFiles<'a> {
         Ok(files)
     }
 
-    /// Fails the test unless both files are still those of `with_old_files`.
+    /// Fails the test unless the files are still those of `with_old_files`.
     pub fn assert_old(&self, rt: &impl Abort) {
         for file in [&self.trace, &self.report] {
             assert_eq!(rt; file.len(), 1000);
@@ -66,6 +66,8 @@ impl<'a> MemoryFiles<'a> {
 }
 
 impl Files for MemoryFiles<'_> {
+    type Output = MemoryOutput;
+
     fn read(&self, alloc: Global, path: &str, limit: usize) -> Result<Vec<u8>, ReadFault> {
         if path != PROGRAM {
             return Err(ReadFault::ReadFailed);
@@ -74,30 +76,118 @@ impl Files for MemoryFiles<'_> {
         read_upto(alloc, &mut bytes, limit)
     }
 
-    fn replace(&mut self, path: &str, bytes: &[u8]) -> Result<(), WriteFault> {
-        if self.good_writes == 0 {
+    fn is_one_file(
+        &self,
+        alloc: Global,
+        one: FileName<'_>,
+        other: FileName<'_>,
+    ) -> Result<bool, WriteFault> {
+        Ok(one.text(alloc)? == other.text(alloc)?)
+    }
+
+    fn begin(&mut self, alloc: Global, path: &str) -> Result<MemoryOutput, WriteFault> {
+        match path {
+            TRACE | REPORT => Ok(MemoryOutput::new(alloc, self.room)),
+            _ => Err(WriteFault::WriteFailed),
+        }
+    }
+
+    fn begin_aside(&mut self) -> Result<MemoryOutput, WriteFault> {
+        Ok(MemoryOutput::new(*self.trace.allocator(), self.room))
+    }
+
+    fn finish(&mut self, path: &str, output: MemoryOutput) -> Result<(), WriteFault> {
+        if self.good_ends == 0 {
             return Err(WriteFault::WriteFailed);
         }
-        self.good_writes -= 1;
-        let file = self.at(path).ok_or(WriteFault::WriteFailed)?;
-        file.clear();
-        file.extend_from_slice(bytes)
-            .map_err(|_| WriteFault::OutOfMemory)
+        self.good_ends -= 1;
+        *self.at(path).ok_or(WriteFault::WriteFailed)? = output.text;
+        Ok(())
+    }
+
+    fn copy<W: Write>(&mut self, output: MemoryOutput, writer: &mut W) -> Result<(), WriteFault> {
+        match writer.write_all(output.text.as_slice()) {
+            Ok(()) => Ok(writer.flush()?),
+            Err(_) => Err(WriteFault::WriteFailed),
+        }
+    }
+
+    fn abandon(&mut self, _path: &str, _output: MemoryOutput) {}
+}
+
+/// A text in memory, which takes so many more bytes before its writes fail.
+#[derive(Drop)]
+pub struct MemoryOutput {
+    text: Vec<u8>,
+    room: usize,
+}
+
+impl MemoryOutput {
+    fn new(alloc: Global, room: usize) -> Self {
+        MemoryOutput {
+            text: Vec::new(alloc),
+            room,
+        }
     }
 }
 
-/// Files of which each is over every limit.
+impl Write for MemoryOutput {
+    fn write(&mut self, buf: &[u8]) -> io::Result<usize> {
+        let count = buf.len().min(self.room);
+        if count < buf.len() && count == 0 {
+            return Err(io::Error::from(ErrorKind::StorageFull));
+        }
+        self.text.extend_from_slice(&buf[..count])?;
+        self.room -= count;
+        Ok(count)
+    }
+
+    fn flush(&mut self) -> io::Result<()> {
+        Ok(())
+    }
+}
+
+/// Files of which each is over every limit, and none can be written.
 #[derive(Clone, Copy)]
 pub struct EndlessFiles;
 
 impl Files for EndlessFiles {
+    type Output = FailingWriter;
+
     fn read(&self, alloc: Global, _path: &str, limit: usize) -> Result<Vec<u8>, ReadFault> {
         read_upto(alloc, &mut EndlessReader, limit)
     }
 
-    fn replace(&mut self, _path: &str, _bytes: &[u8]) -> Result<(), WriteFault> {
+    fn is_one_file(
+        &self,
+        alloc: Global,
+        one: FileName<'_>,
+        other: FileName<'_>,
+    ) -> Result<bool, WriteFault> {
+        Ok(one.text(alloc)? == other.text(alloc)?)
+    }
+
+    fn begin(&mut self, _alloc: Global, _path: &str) -> Result<FailingWriter, WriteFault> {
         Err(WriteFault::WriteFailed)
     }
+
+    fn begin_aside(&mut self) -> Result<FailingWriter, WriteFault> {
+        Err(WriteFault::WriteFailed)
+    }
+
+    fn finish(&mut self, _path: &str, _output: FailingWriter) -> Result<(), WriteFault> {
+        Err(WriteFault::WriteFailed)
+    }
+
+    fn copy<W: Write>(
+        &mut self,
+        _output: FailingWriter,
+        _writer: &mut W,
+    ) -> Result<(), WriteFault> {
+        Err(WriteFault::WriteFailed)
+    }
+
+    fn abandon(&mut self, _path: &str, _output: FailingWriter) {}
 }
 
 /// A reader that never ends: each read leaves the whole buffer as it was.
@@ -110,42 +200,13 @@ impl Read for EndlessReader {
     }
 }
 
-/// A reader that gives a byte `7` at each of its first reads and then fails, always in the same way.
+/// A reader of which each read fails.
 #[derive(Clone, Copy)]
-pub struct FailingReader {
-    pub good_reads: u32,
-    pub kind: ErrorKind,
-}
+pub struct FailingReader;
 
 impl Read for FailingReader {
-    fn read(&mut self, buf: &mut [u8]) -> io::Result<usize> {
-        if self.good_reads == 0 {
-            return Err(io::Error::from(self.kind));
-        }
-        self.good_reads -= 1;
-        if buf.is_empty() {
-            return Ok(0);
-        }
-        buf[0] = 7;
-        Ok(1)
-    }
-}
-
-/// A reader of whose reads each second one is interrupted.
-#[derive(Clone, Copy)]
-pub struct InterruptedReader<'a> {
-    pub is_next_interrupted: bool,
-    pub bytes: &'a [u8],
-}
-
-impl Read for InterruptedReader<'_> {
-    fn read(&mut self, buf: &mut [u8]) -> io::Result<usize> {
-        self.is_next_interrupted = !self.is_next_interrupted;
-        if !self.is_next_interrupted {
-            return Err(io::Error::from(ErrorKind::Interrupted));
-        }
-        let room = buf.len().min(2);
-        self.bytes.read(&mut buf[..room])
+    fn read(&mut self, _buf: &mut [u8]) -> io::Result<usize> {
+        Err(io::Error::from(ErrorKind::Other))
     }
 }
 

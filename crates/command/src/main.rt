@@ -3,24 +3,23 @@
 
 mod arguments;
 mod command_line;
+mod destination;
 mod disasm;
 mod failure;
 #[cfg(test)]
 mod fakes;
-mod files;
-mod host_files;
+mod naming;
+mod outputs;
 mod perform;
 mod place;
-mod read_fault;
-mod read_upto;
+mod publishing;
 mod records;
 mod request;
 mod running;
-mod write_fault;
 
 use arguments::arguments_of;
 use failure::Failure;
-use host_files::HostFiles;
+use files::HostFiles;
 use perform::{conclude, perform};
 use runtime::WriteSink;
 use std::process::ExitCode;

@@ -1,20 +1,25 @@
-ghost use Rattle.std.specs.Prelude.{◌≡◌, ◌≢◌, ◌⊎◌, ◌+◌, ◌-◌, ◌^◌, ◌<◌, IfErr, IsNone, OnOk};
+ghost use Rattle.std.specs.Prelude.{◌≡◌, ◌≢◌, ◌⊎◌, ◌+◌, ◌-◌, ◌^◌, ◌<◌, IfErr, OnOk};
 ghost use Rattle.clap.specs.Values.{kind_of};
+ghost use Rattle.files.specs.Content.{Tells};
+ghost use Rattle.files.specs.Taken.{TakesAtMost};
 ghost use Rattle.runtime.specs.Limits as limit;
+ghost use Rattle.command.specs.Records.{NamesNone};
 ghost use Rattle.command.specs.Serves.{NamesNoRecord, RunsInto, Serves};
 ghost use Rattle.command.specs.Status.{answer_status, failure_status, outcome_status};
-ghost use Rattle.command.specs.Taken.{TakesAtMost};
 
 use crate::command_line::parse;
 use crate::disasm::disasm;
 use crate::failure::Failure;
-use crate::files::Files;
+use crate::naming::named_twice;
+use crate::outputs::{abandon, begin};
 use crate::place::Place;
+use crate::publishing::write_records;
 use crate::records::Records;
 use crate::request::Request;
-use crate::running::run_file;
+use crate::running::{open_file, run_start};
 use clap::Error;
 use clap::error::ErrorKind;
+use files::Files;
 use hart::Trap;
 use runtime::{Config, RunOutcome, WriteSink};
 use std::alloc::Global;
@@ -22,13 +27,14 @@ use std::convert::AsStr;
 use std::io;
 use std::io::{Read, Write};
 use std::sync::Wait;
+use std::thread::Threads;
 
 /// The status of a command line that could not be read.
 const WRONG_ARGUMENTS: u8 = 2;
 
 /// Does what the arguments of a command line ask for, the program's name being the first, and answers
 /// the status that the program ends with. Where writing to `stderr` fails, the status stays.
-pub fn perform<H: Wait, S: AsStr, F: Files, R: Read, W: Write, E: Write>(
+pub fn perform<H: Threads + Wait + Sync, S: AsStr, F: Files, R: Read, W: Write, E: Write>(
     rt: &H,
     alloc: Global,
     arguments: &[S],
@@ -51,7 +57,7 @@ pub fn perform<H: Wait, S: AsStr, F: Files, R: Read, W: Write, E: Write>(
 }
 
 /// Does what a request for a run or a replay asks for.
-fn answer<'a, H: Wait, F: Files, R: Read, W: Write>(
+fn answer<'a, H: Threads + Wait + Sync, F: Files, R: Read, W: Write>(
     rt: &H,
     alloc: Global,
     request: &Request<'a>,
@@ -61,7 +67,7 @@ fn answer<'a, H: Wait, F: Files, R: Read, W: Write>(
 ) -> Result<RunOutcome, Failure<'a>>
     requires { stdout.old.failures < 2 ^ 64 - 1 }
     ensures input { TakesAtMost (limit.input + 1) (R.remaining stdin.old) (R.remaining stdin.new) }
-    ensures answer { Serves (F.content files.old) (F.content files.new) (R.remaining stdin.old)
+    ensures answer { Serves (Tells F.Output.contents) (F.content files.old) (F.content files.new) (R.remaining stdin.old)
         (W.contents stdout.old.writer) (W.contents stdout.new.writer) request.now result }
     ensures unnamed { NamesNoRecord request.now → files.new ≡ files.old }
 {
@@ -70,13 +76,13 @@ fn answer<'a, H: Wait, F: Files, R: Read, W: Write>(
             file,
             config,
             records,
-        } => run_recorded(rt, alloc, file, &config, &records, files, stdin, stdout),
+        } => run_apart(rt, alloc, file, &config, &records, files, stdin, stdout),
         _ => Err(Failure::NotYet),
     }
 }
 
-/// Runs the program of a file, and writes its records once there is a report.
-fn run_recorded<'a, H: Wait, F: Files, R: Read, W: Write>(
+/// Runs the program of a file, unless two arguments name one file.
+fn run_apart<'a, H: Threads + Wait + Sync, F: Files, R: Read, W: Write>(
     rt: &H,
     alloc: Global,
     file: &'a str,
@@ -88,13 +94,52 @@ fn run_recorded<'a, H: Wait, F: Files, R: Read, W: Write>(
 ) -> Result<RunOutcome, Failure<'a>>
     requires { stdout.old.failures < 2 ^ 64 - 1 }
     ensures input { TakesAtMost (limit.input + 1) (R.remaining stdin.old) (R.remaining stdin.new) }
-    ensures answer { RunsInto (F.content files.old) (F.content files.new) (R.remaining stdin.old)
+    ensures answer { RunsInto (Tells F.Output.contents) (F.content files.old) (F.content files.new) (R.remaining stdin.old)
         (W.contents stdout.old.writer) (W.contents stdout.new.writer) file.now config.now records.now result }
-    ensures unnamed { IsNone records.now.trace → IsNone records.now.report → files.new ≡ files.old }
+    ensures unnamed { NamesNone records.now → files.new ≡ files.old }
 {
-    let report = run_file(rt, alloc, file, config, files, stdin, stdout)?;
-    records.write(alloc, &report, files)?;
-    Ok(report.outcome)
+    match named_twice(alloc, file, records, files)? {
+        Some((one, other)) => Err(Failure::OneFile(one, other)),
+        None => run_file(rt, alloc, file, config, records, files, stdin, stdout),
+    }
+}
+
+/// Runs the program of a file, and puts its output and its texts where they are to be.
+fn run_file<'a, H: Threads + Wait + Sync, F: Files, R: Read, W: Write>(
+    rt: &H,
+    alloc: Global,
+    file: &'a str,
+    config: &Config,
+    records: &Records<'a>,
+    files: &mut F,
+    stdin: &mut R,
+    stdout: &mut WriteSink<W>,
+) -> Result<RunOutcome, Failure<'a>>
+    requires { stdout.old.failures < 2 ^ 64 - 1 }
+    ensures input { TakesAtMost (limit.input + 1) (R.remaining stdin.old) (R.remaining stdin.new) }
+    ensures answer { RunsInto (Tells F.Output.contents) (F.content files.old) (F.content files.new) (R.remaining stdin.old)
+        (W.contents stdout.old.writer) (W.contents stdout.new.writer) file.now config.now records.now result }
+    ensures unnamed { NamesNone records.now → files.new ≡ files.old }
+{
+    let start = open_file(alloc, file, config, files, stdin)?;
+    let outputs = begin(alloc, records, files)?;
+    match run_start(rt, alloc, start, config.workers, stdout) {
+        Ok(ran) => {
+            write_records(
+                alloc,
+                records,
+                outputs,
+                &ran.kept,
+                files,
+                &mut stdout.writer,
+            )?;
+            Ok(ran.end.outcome)
+        }
+        Err(failure) => {
+            abandon(records, outputs, files);
+            Err(failure)
+        }
+    }
 }
 
 /// Says how a request ended, where there is more to say than its status, and answers the status.
@@ -183,6 +228,8 @@ fn write_help<W: Write>(help: &Error, stdout: &mut W) -> io::Result<()> {
     stdout.flush()
 }
 
+#[cfg(test)]
+mod destinations;
 #[cfg(test)]
 mod failing_writes;
 #[cfg(test)]

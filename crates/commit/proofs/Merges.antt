@@ -1,4 +1,4 @@
-use Rattle.std.proofs.Common.{◌≡◌, ◌≢◌, ℕ, zero, suc, ◌%◌, ◌==◌, Bool, true, false, cond, Option, Some, None, List, [], ◌∷◌, ◌++◌, length, refl, sym, ◌∙◌, ap, arith, inl, inr, eq-eqb}
+use Rattle.std.proofs.Common.{◌≡◌, ◌≢◌, ℕ, zero, suc, ◌+◌, ◌%◌, ◌==◌, Bool, true, false, cond, Option, Some, None, List, [], ◌∷◌, ◌++◌, length, refl, sym, ◌∙◌, ap, arith, inl, inr, eq-eqb}
 use Rattle.std.specs.Prelude.{slice_index, unwrap_or, option_map}
 use Rattle.std.proofs.lemmas.Bool.{cases_eq, ne_eqb}
 use Rattle.std.proofs.Math.Path.{fun_ext}
@@ -6,7 +6,7 @@ use Rattle.guest_memory.specs.Memory.{Cell, Memory}
 use Rattle.guest_memory.specs.Layout.{page_of}
 use Rattle.paged_memory.specs.Page.{PageValue}
 use Rattle.paged_memory.specs.PageMap.{PageMap, memory_of_pages, with_page}
-use Rattle.commit.specs.Bytes.{merged_bytes}
+use Rattle.commit.specs.Bytes.{differing_count, merged_bytes}
 use Rattle.commit.specs.Merge.{changed_byte, with_changes}
 use Rattle.commit.specs.Patched.{PageChange, byte_of_change, patched, AreBelow}
 use Rattle.commit.proofs.Patching.{patched-none, patched-past, patched-here, patched-elsewhere}
@@ -26,6 +26,30 @@ slice_index-merged_bytes (n ∷ now) (c ∷ copy) (m ∷ mine) zero sizes sizes'
     either true = refl
     either false = refl
 slice_index-merged_bytes (n ∷ now) (c ∷ copy) (m ∷ mine) (suc index) sizes sizes' = slice_index-merged_bytes now copy mine index (omega arith) (omega arith)
+
+-- bytes of which none was changed become mine
+pub merged_bytes-unchanged : (now copy mine : List ℕ) → length copy ≡ length now → length mine ≡ length now → differing_count now copy ≡ 0 →
+    merged_bytes now copy mine ≡ mine
+unfolding merged_bytes differing_count
+merged_bytes-unchanged [] [] [] sizes sizes' none = refl
+merged_bytes-unchanged [] (c ∷ copy) mine sizes sizes' none = cc
+merged_bytes-unchanged [] [] (m ∷ mine) sizes sizes' none = cc
+merged_bytes-unchanged (n ∷ now) [] mine sizes sizes' none = cc
+merged_bytes-unchanged (n ∷ now) (c ∷ copy) [] sizes sizes' none = cc
+merged_bytes-unchanged (n ∷ now) (c ∷ copy) (m ∷ mine) sizes sizes' none =
+    elim (cases_eq n c) [
+      | inl same ↦
+          (let left : 0 + differing_count now copy ≡ 0 = rw (eq-eqb n c same) at none in
+          rw (merged_bytes-unchanged now copy mine (omega arith) (omega arith) (omega (arith, left))) (ap (λ byte. byte ∷ mine) (taken same)))
+      | inr apart ↦ (let more : 1 + differing_count now copy ≡ 0 = rw (ne_eqb n c apart) at none in absurd (omega (arith, more)))
+    ]
+  where
+    taken : n ≡ c → cond (c == m) n m ≡ m
+    taken same =
+        elim (cases_eq c m) [
+          | inl equal ↦ rw (eq-eqb c m equal) (same ∙ equal)
+          | inr other ↦ rw (ne_eqb c m other) refl
+        ]
 
 -- a cell with a byte that may have changed
 abbrev pub changed_cell : Option ℕ → Cell → Cell

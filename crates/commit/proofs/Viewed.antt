@@ -4,6 +4,7 @@ use Rattle.std.specs.Option.{option_or}
 use Rattle.std.proofs.lemmas.Bool.{cases_lt, le-ltb}
 use Rattle.guest_memory.specs.declared.perm.Perm.{Perm}
 use Rattle.paged_memory.specs.Page.{PageValue}
+use Rattle.paged_memory.specs.PageTree as trees
 use Rattle.paged_memory.specs.Snapshot as snapshots
 use Rattle.paged_memory.specs.declared.snapshot.Snapshot.{Snapshot}
 use Rattle.twins.specs.PrivatePages.{private_at}
@@ -24,7 +25,7 @@ not-dirty view number clean = either (private_at (views.private_of view) number)
 
 -- the pages of a snapshot have numbers below 2^20
 number-mapped : (snapshot : Snapshot) (number : ℕ) (perm : Perm) → option_map (λ (page : PageValue). page.perm) (snapshots.pages_of snapshot number) ≡ Some perm → number < 2 ^ 20
-unfolding snapshots.pages_of
+unfolding snapshots.pages_of trees.pages_of
 number-mapped snapshot number perm mapped =
     elim (cases_lt number (2 ^ 20)) [
       | inl below ↦ below

@@ -1,14 +1,14 @@
-ghost use Rattle.std.specs.Prelude.{◌≡◌, ◌^◌, ◌<◌, [], ◌∷◌, ◌++◌, length, OnOk};
+ghost use Rattle.std.specs.Prelude.{◌≡◌, ◌^◌, ◌<◌, [], ◌∷◌, ◌++◌, length, IfOk, OnOk, OnErr};
 ghost use Rattle.std.specs.Arc.{arc_value};
 ghost use Rattle.guest_memory.specs.Layout.{page_size};
 ghost use Rattle.paged_memory.specs.Page.{PageValue};
-ghost use Rattle.commit.specs.Bytes.{differing_count};
+ghost use Rattle.commit.specs.Bytes.{differing_count, merged_bytes};
 ghost use Rattle.commit.specs.Patched.{PageChange, IsPageChange};
 
-use crate::kernels::{merge_page, push_differing};
+use crate::kernels::{count_page, merge_page, push_differing};
 use guest_memory::layout::PAGE_SIZE;
 use paged_memory::{Page, Snapshot};
-use std::alloc::AllocError;
+use std::alloc::{AllocError, Global};
 use std::marker::Model;
 use std::sync::Arc;
 
@@ -33,7 +33,7 @@ impl Model for ChangedPage {
 impl ChangedPage {
     ghost use Rattle.commit.specs.Merge.{with_changes};
     ghost use Rattle.commit.specs.Patched.{patched, addresses_in};
-    ghost use Rattle.paged_memory.specs.Snapshot.{cells_of};
+    ghost use Rattle.paged_memory.specs.Snapshot.{cells_of, pages_of};
 
     pub(crate) fn new(number: u32, copy: Arc<Page>, mine: Arc<Page>) -> Self
         requires number { number < 2 ^ 20 }
@@ -43,19 +43,33 @@ impl ChangedPage {
         ChangedPage { number, copy, mine }
     }
 
-    /// Merges it into the page of its number, where that is mapped.
+    /// Merges it into the page of its number, where that is mapped. The pages stay when memory runs out.
     pub(crate) fn merge_into(&self, snapshot: &mut Snapshot) -> Result<(), AllocError>
-        ensures { OnOk result (cells_of snapshot.new ≡ with_changes (patched (self.now ∷ [])) (cells_of snapshot.old)) }
+        ensures merged { OnOk result (cells_of snapshot.new ≡ with_changes (patched (self.now ∷ [])) (cells_of snapshot.old)) }
+        ensures kept { OnErr result (pages_of snapshot.new ≡ pages_of snapshot.old) }
     {
         let Some(page) = snapshot.page(self.number) else {
             return Ok(());
         };
-        let mut bytes = *page.bytes();
+        let merged = self.merged(snapshot.allocator(), page)?;
+        snapshot.replace(self.number, merged)
+    }
+
+    /// What it makes of the present page. Where nobody else changed the page, that is the thread's own page, which
+    /// is shared then.
+    fn merged(&self, alloc: Global, now: &Page) -> Result<Arc<Page>, AllocError>
+        ensures merged { IfOk result (λ page. arc_value page ≡ record { perm = now.now.perm; bytes = merged_bytes now.now.bytes self.now.copy self.now.mine }) }
+        ensures now { length now.now.bytes ≡ page_size }
+        ensures copy { length self.now.copy ≡ page_size }
+        ensures mine { length self.now.mine ≡ page_size }
+    {
+        if count_page(now.bytes(), self.copy.bytes()) == 0 && now.perm() == self.mine.perm() {
+            return Arc::try_clone(&self.mine);
+        }
+        let mut bytes = *now.bytes();
         merge_page(&mut bytes, self.copy.bytes(), self.mine.bytes());
-        let merged = Page::new(page.perm(), bytes);
-        let merged = Arc::new(snapshot.allocator(), merged)?;
-        snapshot.replace(self.number, merged)?;
-        Ok(())
+        let merged = Arc::new(alloc, Page::new(now.perm(), bytes))?;
+        Ok(merged)
     }
 
     /// Pushes the addresses of its bytes that differ, ascending.

@@ -8,6 +8,7 @@ use std::alloc::{AllocError, Global};
 use std::process::Abort;
 use std::sync::Wait;
 use std::test::Fail;
+use std::thread::Threads;
 
 /// As many instructions as a run may have, no quantum, and one worker.
 pub const CONFIG: Config = Config {
@@ -29,7 +30,13 @@ pub fn memory_of(alloc: Global, words: &[u32]) -> Result<WholeMemory, Fail> {
 pub type Ending = Result<RunOutcome, RunFault>;
 
 /// How the run of a file ends.
-pub fn ending(rt: &impl Wait, alloc: Global, file: &[u8], input: &[u8], config: &Config) -> Ending {
+pub fn ending(
+    rt: &(impl Threads + Wait + Sync),
+    alloc: Global,
+    file: &[u8],
+    input: &[u8],
+    config: &Config,
+) -> Ending {
     Ok(run(rt, alloc, file, input, config, &OpenGate)?.outcome)
 }
 
@@ -40,7 +47,7 @@ pub fn ends(outcome: RunOutcome) -> Ending {
 
 /// How the program ends that puts two words into x5 and x6 and then has these words.
 pub fn answer_on(
-    rt: &impl Wait,
+    rt: &(impl Threads + Wait + Sync),
     alloc: Global,
     (a, b): (u32, u32),
     words: &[u32],
@@ -53,7 +60,7 @@ pub fn answer_on(
 
 /// Asserts that the program that puts two words into x5 and x6, has these words and then exits does so with this status.
 pub fn assert_status(
-    rt: &(impl Abort + Wait),
+    rt: &(impl Abort + Threads + Wait + Sync),
     alloc: Global,
     operands: (u32, u32),
     words: &[u32],

@@ -6,8 +6,8 @@ ghost use Rattle.std.specs.Prelude.{◌<◌, ◌≤◌, ◌^◌, IfSome};
 use crate::memory_rows::assert_bytes;
 use elf32_reader::read;
 use guest_programs::{
-    Ending, FULL_OUTPUTS, LIMITS, OBJECTS, ONE_THREAD, Run, SHARED_BYTES, THREADS, file_of,
-    single_calls,
+    ENDS, Ending, FULL_OUTPUTS, HEAP, LIMITS, OBJECTS, ONE_THREAD, Run, SHARED_BYTES, THREADS,
+    TRANSFERS, file_of, single_calls,
 };
 use runtime::{Config, MAX_BOUND, OpenGate, run};
 use sharing_report::{report, report_text};
@@ -15,7 +15,8 @@ use std::alloc::{AllocError, Global};
 use std::process::Abort;
 use std::sync::Wait;
 use std::test::Fail;
-use token::{Next, RunOutcome, Serial, Turn, TurnStop, next_turn};
+use std::thread::Threads;
+use token::{Kept, Next, RunOutcome, Serial, Start, Turn, TurnFault, TurnStop, next_turn};
 use tracer::{line, trace_text};
 
 /// More turns than a run has.
@@ -32,14 +33,14 @@ struct Case<'a> {
 /// A run's end.
 #[derive(Drop)]
 struct Ran {
-    serial: Serial,
+    serial: Serial<Kept>,
     outcome: RunOutcome,
     /// What the turns sent, one after another.
     sent: Vec<u8>,
 }
 
 /// A limit of a run, or the greatest there is where it isn't given.
-fn limit(given: Option<u64>) -> u64
+pub(crate) fn limit(given: Option<u64>) -> u64
     ensures most { result ≤ 2 ^ 40 }
     ensures some { 0 < result }
 {
@@ -47,7 +48,7 @@ fn limit(given: Option<u64>) -> u64
 }
 
 /// The quantum of a run, where it has one.
-fn quantum_of(run: &Run) -> Option<u64>
+pub(crate) fn quantum_of(run: &Run) -> Option<u64>
     ensures most { IfSome result (λ quantum. quantum ≤ 2 ^ 40) }
     ensures some { IfSome result (λ quantum. 0 < quantum) }
 {
@@ -58,7 +59,7 @@ fn quantum_of(run: &Run) -> Option<u64>
 }
 
 /// Does the next turn, or answers how the run ended.
-fn take_turn(serial: &mut Serial) -> Result<Option<RunOutcome>, AllocError> {
+fn take_turn(serial: &mut Serial<Kept>) -> Result<Option<RunOutcome>, TurnFault> {
     match next_turn(serial)? {
         Next::Turn(end) => {
             serial.turn(end.as_ref())?;
@@ -71,7 +72,8 @@ fn take_turn(serial: &mut Serial) -> Result<Option<RunOutcome>, AllocError> {
 /// Runs a file turn by turn to its end.
 fn run_serial(alloc: Global, file: &[u8], run: &Run) -> Result<Ran, Fail> {
     let image = read(alloc, file)?;
-    let mut serial = Serial::open(alloc, &image, run.input, limit(run.bound), quantum_of(run))?;
+    let start = Start::open(alloc, &image, run.input, limit(run.bound), quantum_of(run))?;
+    let mut serial = start.recorded_by(Kept::new(alloc));
     let mut sent = Vec::new(alloc);
     for _ in 0..TURNS {
         if let Some(outcome) = take_turn(&mut serial)? {
@@ -128,7 +130,7 @@ fn assert_versions(rt: &impl Abort, turns: &[Turn], name: &str) {
 fn assert_changes(
     rt: &impl Abort,
     alloc: Global,
-    serial: &Serial,
+    serial: &Serial<Kept>,
     wanted: &[u32],
     name: &str,
 ) -> Result<(), AllocError> {
@@ -184,7 +186,7 @@ fn assert_serial(rt: &impl Abort, alloc: Global, case: Case<'_>) -> Result<(), F
 
 /// Asserts that the report of a file is that of a run with this number of workers.
 fn assert_report(
-    rt: &(impl Abort + Wait),
+    rt: &(impl Abort + Threads + Wait + Sync),
     alloc: Global,
     case: Case<'_>,
     workers: u32,
@@ -217,16 +219,24 @@ fn assert_report(
 }
 
 /// Asserts that a file's run is what it must be, turn by turn and with few and with many workers.
-fn assert_case(rt: &(impl Abort + Wait), alloc: Global, case: Case<'_>) -> Result<(), Fail> {
+fn assert_case(
+    rt: &(impl Abort + Threads + Wait + Sync),
+    alloc: Global,
+    case: Case<'_>,
+) -> Result<(), Fail> {
     assert_serial(rt, alloc, case)?;
-    for workers in [1, 2, 64] {
+    for workers in [1, 2, 3, 4, 64] {
         assert_report(rt, alloc, case, workers)?;
     }
     Ok(())
 }
 
 /// Asserts that the runs of a table are what they must be.
-fn assert_runs(rt: &(impl Abort + Wait), alloc: Global, runs: &[Run]) -> Result<(), Fail> {
+fn assert_runs(
+    rt: &(impl Abort + Threads + Wait + Sync),
+    alloc: Global,
+    runs: &[Run],
+) -> Result<(), Fail> {
     for run in runs {
         let file = run.program.file(alloc)?;
         let trace = run.trace_text(alloc)?;
@@ -246,6 +256,16 @@ fn programs_of_one_thread(rt: HostRuntime) -> Result<(), Fail> {
 }
 
 #[test]
+fn programs_that_write_and_read(rt: HostRuntime) -> Result<(), Fail> {
+    assert_runs(&rt, rt.alloc(), &TRANSFERS)
+}
+
+#[test]
+fn programs_of_the_heap(rt: HostRuntime) -> Result<(), Fail> {
+    assert_runs(&rt, rt.alloc(), &HEAP)
+}
+
+#[test]
 fn programs_that_share_bytes(rt: HostRuntime) -> Result<(), Fail> {
     assert_runs(&rt, rt.alloc(), &SHARED_BYTES)
 }
@@ -258,6 +278,11 @@ fn programs_of_two_threads(rt: HostRuntime) -> Result<(), Fail> {
 #[test]
 fn programs_that_meet(rt: HostRuntime) -> Result<(), Fail> {
     assert_runs(&rt, rt.alloc(), &OBJECTS)
+}
+
+#[test]
+fn programs_that_end_with_threads_left(rt: HostRuntime) -> Result<(), Fail> {
+    assert_runs(&rt, rt.alloc(), &ENDS)
 }
 
 #[test]

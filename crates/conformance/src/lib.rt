@@ -16,7 +16,11 @@ mod files;
 #[cfg(test)]
 mod fixtures;
 #[cfg(test)]
+mod gates;
+#[cfg(test)]
 mod guest_runs;
+#[cfg(test)]
+mod hands;
 #[cfg(test)]
 mod harts;
 #[cfg(test)]
@@ -26,11 +30,17 @@ mod memory_rows;
 #[cfg(test)]
 mod objects;
 #[cfg(test)]
+mod permissions;
+#[cfg(test)]
+mod recorders;
+#[cfg(test)]
 mod runs;
 #[cfg(test)]
 mod segments;
 #[cfg(test)]
 mod sinks;
+#[cfg(test)]
+mod sizes;
 #[cfg(test)]
 mod snapshots;
 #[cfg(test)]

@@ -107,3 +107,32 @@ pub fn assert_bytes(rt: &impl Abort, memory: &Snapshot, bytes: &[(u32, Option<u8
         assert_eq!(rt; memory.byte(*address), *byte, "{address:x}");
     }
 }
+
+/// An address of a page, and whether it can be loaded from, stored to and executed.
+pub type Permits = (u32, bool, bool, bool);
+
+/// Asserts what pages permit: loads and stores of each width, and fetches.
+pub fn assert_permits<M: GuestMemory>(rt: &impl Abort, memory: &mut M, rows: &[Permits]) {
+    for (address, read, write, execute) in rows {
+        assert_permits_width(rt, memory, 1, (*address, *read, *write));
+        assert_permits_width(rt, memory, 2, (*address, *read, *write));
+        assert_permits_width(rt, memory, 4, (*address, *read, *write));
+        assert_eq!(rt; *address % 4, 0, "{address:x}");
+        assert_eq!(rt; memory.fetch(*address).is_some(), *execute, "{address:x}");
+    }
+}
+
+/// Asserts whether an address can be loaded from and stored to with this width. What can't be is denied.
+fn assert_permits_width<M: GuestMemory>(
+    rt: &impl Abort,
+    memory: &mut M,
+    width: u32,
+    (address, read, write): (u32, bool, bool),
+) {
+    let loaded = load(memory, width, address);
+    let is_denied = matches!(loaded, Err(AccessFault::Denied));
+    assert_eq!(rt; (loaded.is_ok(), is_denied), (read, !read), "{address:x}");
+    let stored = store(memory, (width, address, 7));
+    let is_denied = matches!(stored, Err(StoreFault::Refused(AccessFault::Denied)));
+    assert_eq!(rt; (stored.is_ok(), is_denied), (write, !write), "{address:x}");
+}

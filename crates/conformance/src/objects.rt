@@ -12,13 +12,14 @@ use std::test::Fail;
 type Row = (u32, CallKind, u32, u32, &'static str);
 
 /// A mutex that is given back for a wait is free, and a signal wakes who waits, with that mutex.
-static QUEUE: [Row; 10] = [
+static QUEUE: [Row; 11] = [
     (3, Lock, 0, 0, "0"),
     (3, Lock, 1, 0, "0"),
     (3, Wait, 0, 0, "6"),
     (3, Unlock, 1, 0, "0"),
     (3, Wait, 0, 0, "wait"),
     (5, Signal, 0, 0, "0 1, 3 takes 0"),
+    (3, Unlock, 0, 0, "5"),
     (5, Signal, 0, 0, "0 0"),
     (5, Broadcast, 0, 0, "0 0"),
     (5, Wait, 64, 0, "2"),
@@ -58,7 +59,7 @@ static ORDER: [Row; 22] = [
 ];
 
 /// The codes of lock, unlock and wait, in their order.
-static MUTEXES: [Row; 19] = [
+static MUTEXES: [Row; 23] = [
     (1, Lock, 63, 0, "0"),
     (1, Lock, 63, 0, "8"),
     (1, Lock, 64, 0, "2"),
@@ -78,6 +79,11 @@ static MUTEXES: [Row; 19] = [
     (2, ThreadExit, 0, 0, "end"),
     (3, Lock, 0, 0, "0"),
     (3, Lock, 63, 0, "0"),
+    // A mutex that another thread holds, which no run comes to: the caller is its holder then.
+    (4, Lock, 63, 0, "0"),
+    (3, Unlock, 63, 0, "5"),
+    (4, Lock, 63, 0, "8"),
+    (4, Unlock, 63, 0, "0"),
 ];
 
 /// The codes of barrier, in their order, and who is let pass.

@@ -9,6 +9,7 @@ use std::alloc::Global;
 use std::process::Abort;
 use std::sync::Wait;
 use std::test::Fail;
+use std::thread::Threads;
 
 /// A program of one word that is no instruction: of zeros, FENCE.I, and SLLI with bit 25 set.
 static ILLEGAL: [u32; 3] = [0x0000_0000, 0x0000_100F, 0x0202_9293];
@@ -50,7 +51,7 @@ fn trap(pc: u32, cause: Cause, value: u32) -> RunOutcome {
 
 /// Asserts how the runs of a file end under limits, with few and with many workers.
 fn assert_ends(
-    rt: &(impl Abort + Wait),
+    rt: &(impl Abort + Threads + Wait + Sync),
     alloc: Global,
     file: &[u8],
     (bound, quantum): (u64, Option<u64>),
@@ -81,6 +82,16 @@ fn runs_stop_at_limits_and_illegal_words(rt: HostRuntime) -> Result<(), Fail> {
         let outcome = trap(CODE, Cause::IllegalInstruction, word);
         assert_ends(&rt, rt.alloc(), &file, (MAX_BOUND, None), ends(outcome));
     }
+    Ok(())
+}
+
+/// The first word is no instruction, and the second, at the entry, is EBREAK.
+#[test]
+fn a_run_begins_at_the_entry(rt: HostRuntime) -> Result<(), Fail> {
+    let mut file = file_of(rt.alloc(), &[0, 0x0010_0073])?;
+    *file.get_mut(24).ok_or("its entry")? = 4;
+    let outcome = trap(CODE + 4, Cause::Breakpoint, 0);
+    assert_ends(&rt, rt.alloc(), &file, (MAX_BOUND, None), ends(outcome));
     Ok(())
 }
 

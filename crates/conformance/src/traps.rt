@@ -10,6 +10,7 @@ use std::alloc::Global;
 use std::process::Abort;
 use std::sync::Wait;
 use std::test::Fail;
+use std::thread::Threads;
 
 /// Jumps and taken branches to no multiple of 4.
 static TARGETS_MISALIGNED: [(u32, u32, u32); 10] = [
@@ -125,7 +126,7 @@ fn trap_at(
 
 /// Asserts that an instruction traps so by itself, and that a program ends so that puts the words into x5 and x6 first.
 fn assert_traps(
-    rt: &(impl Abort + Wait),
+    rt: &(impl Abort + Threads + Wait + Sync),
     alloc: Global,
     trap: Trap,
     word: u32,
@@ -146,7 +147,7 @@ fn assert_traps(
 
 /// Asserts that each of some instructions traps with this cause.
 fn assert_all_trap(
-    rt: &(impl Abort + Wait),
+    rt: &(impl Abort + Threads + Wait + Sync),
     alloc: Global,
     cause: Cause,
     rows: &[(u32, u32, u32)],

@@ -10,7 +10,7 @@ use std::process::Abort;
 use std::test::Fail;
 
 /// An address, a word and its text there.
-static TEXTS: [(u32, u32, &str); 106] = [
+static TEXTS: [(u32, u32, &str); 107] = [
     // Upper immediates and jumps.
     (0x0000_0000, 0x8000_02B7, "lui x5,0x80000"),
     (0x0000_0000, 0x0007_A337, "lui x6,0x0007a"),
@@ -106,6 +106,7 @@ static TEXTS: [(u32, u32, &str); 106] = [
     (0x0001_0000, 0x8330_000F, "fence 8,3,3,x0,x0"),
     (0x0001_0000, 0x0FF0_8F8F, "fence 0,15,15,x1,x31"),
     (0x0001_0000, 0x0FF0_000F, "fence 0,15,15,x0,x0"),
+    (0x0001_0000, 0x0C30_000F, "fence 0,12,3,x0,x0"),
     // Words that are no instruction.
     (0x0001_0000, 0x0000_100F, ".word 0x0000100f"),
     (0x0001_0000, 0x0000_0000, ".word 0x00000000"),

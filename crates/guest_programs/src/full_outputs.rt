@@ -61,6 +61,28 @@ pub const FULL_OUTPUT: Program = Program {
     zeros: &PAGES,
 };
 
+/// Writes 65,536 bytes 256 times, then from where nothing is mapped, up to the last address, and exits with the code.
+pub const LAST_WRITE: Program = Program {
+    name: "last-write",
+    listing: &[
+        "\
+00010000: 10000393 addi x7,x0,256
+00010004: 00b00893 addi x17,x0,11
+00010008: 00020537 lui x10,0x00020
+0001000c: 000105b7 lui x11,0x00010
+00010010: 00000073 ecall
+00010014: fff38393 addi x7,x7,-1
+00010018: fe0398e3 bne x7,x0,0x00010008
+0001001c: ff000513 addi x10,x0,-16
+00010020: 01000593 addi x11,x0,16
+00010024: 00000073 ecall
+00010028: 00100893 addi x17,x0,1
+0001002c: 00000073 ecall
+",
+    ],
+    zeros: &PAGES,
+};
+
 const OUTPUTS_END: &str = "\
 257 0 write 00020000 00000001 00000000 -> 4 changed=0 ran=5
 258 0 write 00020000 00000000 00000000 -> 0 00000000 changed=0 ran=3
@@ -73,8 +95,13 @@ const FULL_OUTPUT_END: &str = "\
 259 0 exit 00000004 00000000 00000000 -> end changed=0 ran=3
 ";
 
+const LAST_WRITE_END: &str = "\
+257 0 write fffffff0 00000010 00000000 -> 3 changed=0 ran=5
+258 0 exit 00000003 00000010 00000000 -> end changed=0 ran=2
+";
+
 /// The runs of these programs.
-pub static RUNS: [Run; 2] = [
+pub static RUNS: [Run; 3] = [
     Run {
         name: "outputs",
         program: OUTPUTS,
@@ -89,6 +116,15 @@ pub static RUNS: [Run; 2] = [
         status: 4,
         output: Output::Zeros(16_777_216),
         trace: &[Part::Writes { ran: 6 }, Part::Lines(FULL_OUTPUT_END)],
+        ..PLAIN
+    },
+    Run {
+        name: "last-write",
+        program: LAST_WRITE,
+        ending: Ending::Exit(3),
+        status: 3,
+        output: Output::Zeros(16_777_216),
+        trace: &[Part::Writes { ran: 5 }, Part::Lines(LAST_WRITE_END)],
         ..PLAIN
     },
 ];

@@ -102,6 +102,60 @@ pub const FULL_HEAP: Program = Program {
     zeros: &PAGE,
 };
 
+/// Thread 0 creates 255 threads while it holds mutex 0, then one whose entry is no multiple of 4, then one more, and exits
+/// with the last code.
+pub const FULL_CREATES: Program = Program {
+    name: "full-creates",
+    listing: &[
+        "\
+00010000: 00010437 lui x8,0x00010
+00010004: 0ff00393 addi x7,x0,255
+00010008: 00500893 addi x17,x0,5
+0001000c: 00000073 ecall
+00010010: 00300893 addi x17,x0,3
+00010014: 04040513 addi x10,x8,64
+00010018: 00000073 ecall
+0001001c: fff38393 addi x7,x7,-1
+00010020: fe039ae3 bne x7,x0,0x00010014
+00010024: 00240513 addi x10,x8,2
+00010028: 00000073 ecall
+0001002c: 04040513 addi x10,x8,64
+00010030: 00000073 ecall
+00010034: 00100893 addi x17,x0,1
+00010038: 00000073 ecall
+0001003c: 0ff0000f fence 0,15,15,x0,x0
+00010040: 00200893 addi x17,x0,2
+00010044: 00000073 ecall
+",
+    ],
+    zeros: &PAGE,
+};
+
+/// Asks for 1024 pages 16 times, releases the first 1024, asks for one and exits with the code.
+pub const RELEASED_HEAP: Program = Program {
+    name: "released-heap",
+    listing: &[
+        "\
+00010000: 01000393 addi x7,x0,16
+00010004: 00d00893 addi x17,x0,13
+00010008: 40000513 addi x10,x0,1024
+0001000c: 00000073 ecall
+00010010: fff38393 addi x7,x7,-1
+00010014: fe039ae3 bne x7,x0,0x00010008
+00010018: 20000537 lui x10,0x20000
+0001001c: 40000593 addi x11,x0,1024
+00010020: 00f00893 addi x17,x0,15
+00010024: 00000073 ecall
+00010028: 00d00893 addi x17,x0,13
+0001002c: 00100513 addi x10,x0,1
+00010030: 00000073 ecall
+00010034: 00100893 addi x17,x0,1
+00010038: 00000073 ecall
+",
+    ],
+    zeros: &PAGE,
+};
+
 const CREATES_START: &str = "\
 1 0 lock 00000000 00000000 00000000 -> 0 changed=0 ran=4
 1 0 create 00010040 00000000 00000000 -> 0 00000001 changed=0 ran=3
@@ -142,8 +196,20 @@ const FULL_HEAP_END: &str = "\
 18 0 exit 00000004 23c00000 00000000 -> end changed=0 ran=2
 ";
 
+const FULL_CREATES_END: &str = "\
+1 0 create 00010002 000000ff 00000000 -> 2 changed=0 ran=4
+1 0 create 00010040 000000ff 00000000 -> 4 changed=0 ran=2
+1 0 exit 00000004 000000ff 00000000 -> end changed=0 ran=2
+";
+
+const RELEASED_HEAP_END: &str = "\
+17 0 release 20000000 00000400 00000000 -> 0 changed=0 ran=6
+18 0 memory 00000001 00000400 00000000 -> 4 changed=0 ran=3
+19 0 exit 00000004 00000400 00000000 -> end changed=0 ran=2
+";
+
 /// The runs of these programs.
-pub static RUNS: [Run; 4] = [
+pub static RUNS: [Run; 6] = [
     Run {
         name: "creates",
         program: CREATES,
@@ -203,6 +269,36 @@ pub static RUNS: [Run; 4] = [
             (0x2000_0000, Some(0)),
             (0x23FF_FFFF, Some(0)),
             (0x2400_0000, None),
+        ],
+        ..PLAIN
+    },
+    Run {
+        name: "full-creates",
+        program: FULL_CREATES,
+        ending: Ending::Exit(4),
+        status: 4,
+        trace: &[
+            Part::Lines(CREATES_START),
+            Part::Creates,
+            Part::Lines(FULL_CREATES_END),
+        ],
+        ..PLAIN
+    },
+    Run {
+        name: "released-heap",
+        program: RELEASED_HEAP,
+        ending: Ending::Exit(4),
+        status: 4,
+        trace: &[
+            Part::Lines(HEAP_START),
+            Part::Asks { ran: 4 },
+            Part::Lines(RELEASED_HEAP_END),
+        ],
+        memory: &[
+            (0x2000_0000, None),
+            (0x203F_FFFF, None),
+            (0x2040_0000, Some(0)),
+            (0x23FF_FFFF, Some(0)),
         ],
         ..PLAIN
     },

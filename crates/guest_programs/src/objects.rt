@@ -266,6 +266,75 @@ pub const DEADLOCK: Program = Program {
     zeros: &PAGE,
 };
 
+/// Thread 1 waits at condition variable 1 with mutex 2, and thread 0 signals it.
+pub const SIGNAL_OF_ONE: Program = Program {
+    name: "signal-of-one",
+    listing: &[
+        "\
+00010000: 00010437 lui x8,0x00010
+00010004: 00300893 addi x17,x0,3
+00010008: 03840513 addi x10,x8,56
+0001000c: 00000073 ecall
+00010010: 00e00893 addi x17,x0,14
+00010014: 00000073 ecall
+00010018: 00800893 addi x17,x0,8
+0001001c: 00100513 addi x10,x0,1
+00010020: 00000073 ecall
+00010024: 00400893 addi x17,x0,4
+00010028: 00100513 addi x10,x0,1
+0001002c: 00000073 ecall
+00010030: 00100893 addi x17,x0,1
+00010034: 00000073 ecall
+00010038: 00500893 addi x17,x0,5
+0001003c: 00200513 addi x10,x0,2
+00010040: 00000073 ecall
+00010044: 00700893 addi x17,x0,7
+00010048: 00100513 addi x10,x0,1
+0001004c: 00200593 addi x11,x0,2
+00010050: 00000073 ecall
+00010054: 00600893 addi x17,x0,6
+00010058: 00200513 addi x10,x0,2
+0001005c: 00000073 ecall
+00010060: 00200893 addi x17,x0,2
+00010064: 00000073 ecall
+",
+    ],
+    zeros: &PAGE,
+};
+
+/// Thread 0 holds mutex 0, and locks it again, joins, comes to a barrier, and waits with mutex 1.
+pub const WHILE_HOLDING: Program = Program {
+    name: "while-holding",
+    listing: &[
+        "\
+00010000: 00010437 lui x8,0x00010
+00010004: 00300893 addi x17,x0,3
+00010008: 05440513 addi x10,x8,84
+0001000c: 00000073 ecall
+00010010: 00500893 addi x17,x0,5
+00010014: 00000073 ecall
+00010018: 00000073 ecall
+0001001c: 00400893 addi x17,x0,4
+00010020: 00100513 addi x10,x0,1
+00010024: 00000073 ecall
+00010028: 00a00893 addi x17,x0,10
+0001002c: 00000513 addi x10,x0,0
+00010030: 00000073 ecall
+00010034: 00500893 addi x17,x0,5
+00010038: 00100513 addi x10,x0,1
+0001003c: 00000073 ecall
+00010040: 00700893 addi x17,x0,7
+00010044: 00100593 addi x11,x0,1
+00010048: 00000073 ecall
+0001004c: 00100893 addi x17,x0,1
+00010050: 00000073 ecall
+00010054: 00200893 addi x17,x0,2
+00010058: 00000073 ecall
+",
+    ],
+    zeros: &PAGE,
+};
+
 const SIGNAL_TRACE: &str = "\
 1 0 create 00010034 00000000 00000000 -> 0 00000001 changed=0 ran=4
 2 0 sync 00000000 00000001 00000000 -> 0 changed=0 ran=2
@@ -374,8 +443,32 @@ const DEADLOCK_TRACE: &str = "\
 2 1 thread_exit 00000000 00000001 00000000 -> end changed=0 ran=2
 ";
 
+const SIGNAL_OF_ONE_TRACE: &str = "\
+1 0 create 00010038 00000000 00000000 -> 0 00000001 changed=0 ran=4
+2 0 sync 00000000 00000001 00000000 -> 0 changed=0 ran=2
+2 1 lock 00000002 00000001 00000000 -> 0 changed=0 ran=3
+2 1 wait 00000001 00000002 00000000 -> wait changed=0 ran=4
+3 0 signal 00000001 00000001 00000000 -> 0 00000001 changed=0 ran=3
+4 0 join 00000001 00000001 00000000 -> wait changed=0 ran=3
+4 1 wake 2 changed=0 ran=0
+4 1 unlock 00000002 00000002 00000000 -> 0 changed=0 ran=3
+5 1 thread_exit 00000000 00000002 00000000 -> end changed=0 ran=2
+6 0 exit 00000000 00000000 00000000 -> end changed=0 ran=2
+";
+
+const WHILE_HOLDING_TRACE: &str = "\
+1 0 create 00010054 00000000 00000000 -> 0 00000001 changed=0 ran=4
+2 0 lock 00000000 00000001 00000000 -> 0 changed=0 ran=2
+2 0 lock 00000000 00000001 00000000 -> 8 changed=0 ran=1
+2 0 join 00000001 00000001 00000000 -> 6 changed=0 ran=3
+2 0 barrier 00000000 00000001 00000000 -> 6 changed=0 ran=3
+2 0 lock 00000001 00000001 00000000 -> 0 changed=0 ran=3
+2 0 wait 00000000 00000001 00000000 -> 6 changed=0 ran=3
+2 0 exit 00000006 00000001 00000000 -> end changed=0 ran=2
+";
+
 /// The runs of these programs.
-pub static RUNS: [Run; 9] = [
+pub static RUNS: [Run; 11] = [
     Run {
         name: "signal",
         program: SIGNAL,
@@ -434,6 +527,20 @@ pub static RUNS: [Run; 9] = [
         ending: Ending::Deadlock,
         status: 121,
         trace: &[Part::Lines(DEADLOCK_TRACE)],
+        ..PLAIN
+    },
+    Run {
+        name: "signal-of-one",
+        program: SIGNAL_OF_ONE,
+        trace: &[Part::Lines(SIGNAL_OF_ONE_TRACE)],
+        ..PLAIN
+    },
+    Run {
+        name: "while-holding",
+        program: WHILE_HOLDING,
+        ending: Ending::Exit(6),
+        status: 6,
+        trace: &[Part::Lines(WHILE_HOLDING_TRACE)],
         ..PLAIN
     },
 ];

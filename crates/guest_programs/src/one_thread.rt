@@ -206,8 +206,17 @@ const TRAP_COMMITS_TRACE: &str = "\
 1 0 trap 3 0001000c 00000000 changed=1 ran=3
 ";
 
+const TRAP_COMMITS_BOUND_3_TRACE: &str = "\
+1 0 trap 16 0001000c 00000000 changed=1 ran=3
+";
+
+const TRAP_COMMITS_QUANTUM_3_TRACE: &str = "\
+1 0 quantum 0001000c changed=1 ran=3
+2 0 trap 3 0001000c 00000000 changed=0 ran=0
+";
+
 /// The runs of these programs.
-pub static RUNS: [Run; 12] = [
+pub static RUNS: [Run; 14] = [
     Run {
         name: "seven",
         program: SEVEN,
@@ -324,6 +333,28 @@ pub static RUNS: [Run; 12] = [
         report: "page=00020000 turns=1 bytes=1 threads=1 shared=0 clashes=0\n",
         changed: &[0x0002_0000],
         memory: &[(0x0002_0000, Some(5))],
+        ..PLAIN
+    },
+    Run {
+        name: "trap-commits, bound 3",
+        program: TRAP_COMMITS,
+        bound: Some(3),
+        ending: Ending::Trap("trap thread=0 pc=0001000c cause=16 value=00000000"),
+        status: 120,
+        trace: &[Part::Lines(TRAP_COMMITS_BOUND_3_TRACE)],
+        report: "page=00020000 turns=1 bytes=1 threads=1 shared=0 clashes=0\n",
+        changed: &[0x0002_0000],
+        ..PLAIN
+    },
+    Run {
+        name: "trap-commits, quantum 3",
+        program: TRAP_COMMITS,
+        quantum: Some(3),
+        ending: Ending::Trap("trap thread=0 pc=0001000c cause=3 value=00000000"),
+        status: 120,
+        trace: &[Part::Lines(TRAP_COMMITS_QUANTUM_3_TRACE)],
+        report: "page=00020000 turns=1 bytes=1 threads=1 shared=0 clashes=0\n",
+        changed: &[0x0002_0000],
         ..PLAIN
     },
 ];

@@ -121,6 +121,71 @@ pub const LATE_TRAP: Program = Program {
     zeros: &PAGE,
 };
 
+/// Threads 0, 1 and 2 store to one byte in one phase.
+pub const THREE_WRITERS: Program = Program {
+    name: "three-writers",
+    listing: &[
+        "\
+00010000: 00010437 lui x8,0x00010
+00010004: 00500893 addi x17,x0,5
+00010008: 00000073 ecall
+0001000c: 00300893 addi x17,x0,3
+00010010: 02c40513 addi x10,x8,44
+00010014: 00000073 ecall
+00010018: 02c40513 addi x10,x8,44
+0001001c: 00000073 ecall
+00010020: 00600893 addi x17,x0,6
+00010024: 00000073 ecall
+00010028: 00700593 addi x11,x0,7
+0001002c: 000204b7 lui x9,0x00020
+00010030: 00b48023 sb x11,0(x9)
+00010034: 00200893 addi x17,x0,2
+00010038: 00000073 ecall
+",
+    ],
+    zeros: &PAGE,
+};
+
+/// Thread 0 keeps the token over two turns of one phase, each of which stores to one byte.
+pub const KEEPER_STORES: Program = Program {
+    name: "keeper-stores",
+    listing: &[
+        "\
+00010000: 00500893 addi x17,x0,5
+00010004: 00000073 ecall
+00010008: 000204b7 lui x9,0x00020
+0001000c: 00100293 addi x5,x0,1
+00010010: 00548023 sb x5,0(x9)
+00010014: 00e00893 addi x17,x0,14
+00010018: 00000073 ecall
+0001001c: 00200293 addi x5,x0,2
+00010020: 00548023 sb x5,0(x9)
+00010024: 00600893 addi x17,x0,6
+00010028: 00000073 ecall
+0001002c: 00100893 addi x17,x0,1
+00010030: 00000073 ecall
+",
+    ],
+    zeros: &PAGE,
+};
+
+/// Stores to the stack, and then to the page at 0x00020000.
+pub const TWO_PAGES: Program = Program {
+    name: "two-pages",
+    listing: &[
+        "\
+00010000: 00100293 addi x5,x0,1
+00010004: 00512023 sw x5,0(x2)
+00010008: 000204b7 lui x9,0x00020
+0001000c: fff00313 addi x6,x0,-1
+00010010: 0064a223 sw x6,4(x9)
+00010014: 00100893 addi x17,x0,1
+00010018: 00000073 ecall
+",
+    ],
+    zeros: &PAGE,
+};
+
 const SAME_BYTE_TRACE: &str = "\
 1 0 lock 00000000 00000000 00000000 -> 0 changed=0 ran=3
 1 0 create 0001004c 00000000 00000000 -> 0 00000001 changed=0 ran=3
@@ -133,7 +198,7 @@ const SAME_BYTE_TRACE: &str = "\
 4 0 exit 00000005 00000001 00000000 -> end changed=0 ran=4
 ";
 
-const RACE_TRACE: &str = "\
+pub const RACE_TRACE: &str = "\
 1 0 lock 00000000 00000000 00000000 -> 0 changed=0 ran=3
 1 0 create 0001004c 00000000 00000000 -> 0 00000001 changed=0 ran=3
 1 0 create 0001004c 00000001 00000000 -> 0 00000002 changed=0 ran=2
@@ -218,8 +283,41 @@ const LATE_TRAP_TRACE: &str = "\
 2 1 trap 3 00010060 00000000 changed=0 ran=999427
 ";
 
+const RACE_BOUND_18_TRACE: &str = "\
+1 0 lock 00000000 00000000 00000000 -> 0 changed=0 ran=3
+1 0 create 0001004c 00000000 00000000 -> 0 00000001 changed=0 ran=3
+1 0 create 0001004c 00000001 00000000 -> 0 00000002 changed=0 ran=2
+1 0 unlock 00000000 00000002 00000000 -> 0 changed=0 ran=2
+2 0 join 00000001 00000002 00000000 -> wait changed=0 ran=3
+2 1 thread_exit 00000000 00000001 00000000 -> end changed=1 ran=4
+2 2 thread_exit 00000001 00000002 00000000 -> end changed=1 ran=4
+3 0 join 00000002 00000000 00000000 -> 0 00000001 changed=0 ran=2
+4 0 trap 16 00010048 00000000 changed=0 ran=3
+";
+
+const THREE_WRITERS_TRACE: &str = "\
+1 0 lock 00000000 00000000 00000000 -> 0 changed=0 ran=3
+1 0 create 0001002c 00000000 00000000 -> 0 00000001 changed=0 ran=3
+1 0 create 0001002c 00000001 00000000 -> 0 00000002 changed=0 ran=2
+1 0 unlock 00000000 00000002 00000000 -> 0 changed=0 ran=2
+2 0 thread_exit 00000000 00000007 00000000 -> end changed=1 ran=5
+2 1 thread_exit 00000000 00000001 00000000 -> end changed=1 ran=4
+2 2 thread_exit 00000001 00000002 00000000 -> end changed=1 ran=4
+";
+
+const KEEPER_STORES_TRACE: &str = "\
+1 0 lock 00000000 00000000 00000000 -> 0 changed=0 ran=2
+1 0 sync 00000000 00000000 00000000 -> 0 changed=1 ran=5
+1 0 unlock 00000000 00000000 00000000 -> 0 changed=1 ran=4
+2 0 exit 00000000 00000000 00000000 -> end changed=0 ran=2
+";
+
+const TWO_PAGES_TRACE: &str = "\
+1 0 exit 00000000 00000000 00000000 -> end changed=5 ran=7
+";
+
 /// The runs of these programs.
-pub static RUNS: [Run; 8] = [
+pub static RUNS: [Run; 13] = [
     Run {
         name: "same-byte",
         program: SAME_BYTE,
@@ -319,6 +417,66 @@ pub static RUNS: [Run; 8] = [
         ending: Ending::Trap("trap thread=1 pc=00010060 cause=3 value=00000000"),
         status: 120,
         trace: &[Part::Lines(LATE_TRAP_TRACE)],
+        ..PLAIN
+    },
+    Run {
+        name: "race, bound 18",
+        program: RACE,
+        bound: Some(18),
+        ending: Ending::Trap("trap thread=0 pc=00010048 cause=16 value=00000000"),
+        status: 120,
+        trace: &[Part::Lines(RACE_BOUND_18_TRACE)],
+        report: "page=00020000 turns=2 bytes=2 threads=2 shared=1 clashes=1\n",
+        changed: &[0x0002_0000, 0x0002_0000],
+        ..PLAIN
+    },
+    Run {
+        name: "race, bound 19",
+        program: RACE,
+        bound: Some(19),
+        ending: Ending::Exit(2),
+        status: 2,
+        trace: &[Part::Lines(RACE_TRACE)],
+        report: "page=00020000 turns=2 bytes=2 threads=2 shared=1 clashes=1\n",
+        changed: &[0x0002_0000, 0x0002_0000],
+        ..PLAIN
+    },
+    Run {
+        name: "three-writers",
+        program: THREE_WRITERS,
+        ending: Ending::Finished(0),
+        trace: &[Part::Lines(THREE_WRITERS_TRACE)],
+        report: "page=00020000 turns=3 bytes=3 threads=3 shared=1 clashes=1\n",
+        changed: &[0x0002_0000, 0x0002_0000, 0x0002_0000],
+        memory: &[(0x0002_0000, Some(2))],
+        ..PLAIN
+    },
+    Run {
+        name: "keeper-stores",
+        program: KEEPER_STORES,
+        trace: &[Part::Lines(KEEPER_STORES_TRACE)],
+        report: "page=00020000 turns=2 bytes=2 threads=1 shared=0 clashes=0\n",
+        changed: &[0x0002_0000, 0x0002_0000],
+        memory: &[(0x0002_0000, Some(2))],
+        ..PLAIN
+    },
+    Run {
+        name: "two-pages",
+        program: TWO_PAGES,
+        trace: &[Part::Lines(TWO_PAGES_TRACE)],
+        report: "page=00020000 turns=1 bytes=4 threads=1 shared=0 clashes=0\npage=7ffff000 turns=1 bytes=1 threads=1 shared=0 clashes=0\n",
+        changed: &[
+            0x0002_0004,
+            0x0002_0005,
+            0x0002_0006,
+            0x0002_0007,
+            0x7FFF_FFF0,
+        ],
+        memory: &[
+            (0x0002_0007, Some(0xFF)),
+            (0x0002_0008, Some(0)),
+            (0x7FFF_FFF0, Some(1)),
+        ],
         ..PLAIN
     },
 ];

@@ -25,7 +25,7 @@ pub struct SingleCall {
 }
 
 /// Calls at the edges of their arguments: x10, x11, and what each gives.
-static CALLS: [(CallKind, u32, u32, Answer); 47] = [
+static CALLS: [(CallKind, u32, u32, Answer); 50] = [
     (Write, 0xFFFF_FFFF, 1, Only(3)),
     (Write, 0xFFFF_FFFF, 2, Only(3)),
     (Write, 0xFFFF_FFFF, 0, Gives(0)),
@@ -42,6 +42,7 @@ static CALLS: [(CallKind, u32, u32, Answer); 47] = [
     (Read, 0x0001_0000, 0, Gives(0)),
     (Read, 0x0002_0000, 4096, Gives(0)),
     (Read, 0x0002_0000, 4097, Only(3)),
+    (Read, 0x7FFC_0000, 0x0001_0000, Gives(0)),
     (Read, 0x0002_0000, 0x0001_0001, Only(2)),
     (Read, 0xFFFF_FFFF, 1, Only(3)),
     (Memory, 0, 0, Only(2)),
@@ -52,6 +53,8 @@ static CALLS: [(CallKind, u32, u32, Answer); 47] = [
     (Release, 0x2000_0000, 1025, Only(2)),
     (Release, 0x1FFF_F000, 1, Only(3)),
     (Release, 0x2000_0000, 1, Only(3)),
+    (Release, 0x0002_0000, 1, Only(3)),
+    (Release, 0x7FFC_0000, 1, Only(3)),
     (Release, 0xFFFF_F000, 1024, Only(3)),
     (Sync, 9, 9, Only(0)),
     (Create, 0x0001_0001, 0, Only(2)),

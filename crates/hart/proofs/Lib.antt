@@ -1,1 +1,3 @@
+pub mod Coding
+pub mod Keeping
 pub mod Segments

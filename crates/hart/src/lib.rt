@@ -6,6 +6,7 @@ mod arithmetic;
 mod cause;
 mod control;
 mod execute;
+mod flow;
 mod instruction;
 mod segment;
 mod slice_end;
@@ -18,7 +19,7 @@ mod trap;
 
 pub use cause::Cause;
 pub use instruction::step;
-pub use segment::{run_slice, run_to_stop};
+pub use segment::{run_coded, run_coded_slice, run_slice, run_to_stop};
 pub use slice_end::SliceEnd;
 pub use state::Hart;
 pub use stepped::Stepped;

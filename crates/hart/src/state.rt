@@ -62,9 +62,8 @@ impl Hart {
         requires { i < 32 }
         ensures { self.new ≡ record { registers = with_register self.old.registers i value; pc = self.old.pc } }
     {
-        if i != 0 {
-            self.registers[i] = value;
-        }
+        self.registers[i] = value;
+        self.registers[0] = 0;
     }
 
     /// Sets the address of the next instruction.

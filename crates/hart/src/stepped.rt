@@ -1,6 +1,3 @@
-ghost use Rattle.std.specs.Prelude.{◌≡◌};
-
-use crate::cause::Cause;
 use crate::trap::Trap;
 use std::alloc::AllocError;
 
@@ -15,12 +12,4 @@ pub enum Stepped {
     Trap(Trap),
     /// It is a store for which the memory had to grow and couldn't. Nothing has changed.
     OutOfMemory(AllocError),
-}
-
-/// A trap of this cause and value.
-#[inline(always)]
-pub(crate) fn trapped(cause: Cause, value: u32) -> Stepped
-    ensures { result ≡ Stepped.Trap (record { cause = cause; value = value }) }
-{
-    Stepped::Trap(Trap { cause, value })
 }

@@ -7,13 +7,14 @@ ghost use Rattle.guest_memory.specs.Stores.{Stores, IsOutOfMemory as IsRefused};
 ghost use Rattle.guest_memory.specs.declared.fault.AccessFault.{AccessFault as Fault};
 ghost use Rattle.hart.specs.Arithmetic.{sign_extended};
 ghost use Rattle.hart.specs.Next.{loads, stores, viewed};
-ghost use Rattle.hart.specs.Steps.{Steps};
-ghost use Rattle.hart.specs.Stored.{IsOutOfMemory};
+ghost use Rattle.code.specs.Closed.{Kept};
+ghost use Rattle.hart.specs.HartState.{with_pc};
+ghost use Rattle.hart.specs.Flows.{Flows, IsOutOfMemory};
 
 use crate::arithmetic::{extended_byte, extended_half};
 use crate::cause::Cause;
+use crate::flow::{Flow, go_on, trapped};
 use crate::state::Hart;
-use crate::stepped::{Stepped, trapped};
 use decoder::Register;
 use guest_memory::{AccessFault, GuestMemory, StoreFault};
 
@@ -23,15 +24,17 @@ impl Hart {
     #[inline(always)]
     pub(crate) fn load(
         &mut self,
+        pc: u32,
         rd: Register,
         address: u32,
         answer: Result<u32, AccessFault>,
-    ) -> Stepped
-        ensures steps { (memory : Memory) → Steps result (loads self.old memory rd address answer) self.old memory self.new memory }
+    ) -> Flow
+        requires { pc % 4 ≡ 0 }
+        ensures flows { (memory : Memory) → Flows result (loads (with_pc self.old pc) memory rd address answer) self.old memory self.new memory }
         ensures no_growth { IsOutOfMemory result → ⊥ }
     {
         match answer {
-            Ok(value) => self.put(rd, value),
+            Ok(value) => self.put(pc, rd, value),
             Err(AccessFault::Misaligned) => trapped(Cause::LoadMisaligned, address),
             Err(AccessFault::Denied) => trapped(Cause::LoadDenied, address),
         }
@@ -40,19 +43,20 @@ impl Hart {
     /// Goes on after a store, as it answered.
     #[tactic(auto, unfolding(crate::specs::Next::stores))]
     #[inline(always)]
-    fn store(&mut self, address: u32, answer: Result<(), StoreFault>) -> Stepped
-        ensures steps { (before after : Memory) (wanted : Result Memory Fault) → Stores answer before wanted after
-            → Steps result (stores self.old address wanted) self.old before self.new after }
+    fn store(&self, pc: u32, address: u32, answer: Result<(), StoreFault>) -> Flow
+        requires { pc % 4 ≡ 0 }
+        ensures flows { (before after : Memory) (wanted : Result Memory Fault) → Stores answer before wanted after
+            → Flows result (stores (with_pc self.now pc) address wanted) self.now before self.now after }
         ensures grows { IsOutOfMemory result → IsRefused answer }
     {
         match answer {
-            Ok(()) => self.go_on(),
+            Ok(()) => go_on(pc),
             Err(StoreFault::Refused(AccessFault::Misaligned)) => trapped(
                 Cause::StoreMisaligned,
                 address,
             ),
             Err(StoreFault::Refused(AccessFault::Denied)) => trapped(Cause::StoreDenied, address),
-            Err(StoreFault::OutOfMemory(error)) => Stepped::OutOfMemory(error),
+            Err(StoreFault::OutOfMemory(error)) => Flow::OutOfMemory(error),
         }
     }
 }
@@ -90,52 +94,64 @@ pub fn half<M: GuestMemory>(memory: &M, address: u32) -> Result<u32, AccessFault
 }
 
 /// Stores the low byte of a word.
+#[tactic(auto, using(crate::proofs::Keeping::stores_keep))]
 #[inline(always)]
 pub fn store_byte<M: GuestMemory>(
-    hart: &mut Hart,
+    hart: &Hart,
+    pc: u32,
     memory: &mut M,
     address: u32,
     value: u32,
-) -> Stepped
-    ensures steps { Steps result (stores hart.old address (stored 1 (M.cells memory.old) address (value % 2 ^ 8))) hart.old (M.cells memory.old) hart.new (M.cells memory.new) }
+) -> Flow
+    requires { pc % 4 ≡ 0 }
+    ensures flows { Flows result (stores (with_pc hart.now pc) address (stored 1 (M.cells memory.old) address (value % 2 ^ 8))) hart.now (M.cells memory.old) hart.now (M.cells memory.new) }
     ensures grows { IsOutOfMemory result → M.grows memory.old address }
     ensures settles { (other : ℕ) → M.grows memory.new other → M.grows memory.old other }
     ensures base { M.base memory.new ≡ M.base memory.old }
+    ensures kept { Kept (M.cells memory.old) (M.cells memory.new) }
 {
     let answer = memory.store8(address, (value % 256) as u8);
-    hart.store(address, answer)
+    hart.store(pc, address, answer)
 }
 
 /// Stores the low two bytes of a word.
+#[tactic(auto, using(crate::proofs::Keeping::stores_keep))]
 #[inline(always)]
 pub fn store_half<M: GuestMemory>(
-    hart: &mut Hart,
+    hart: &Hart,
+    pc: u32,
     memory: &mut M,
     address: u32,
     value: u32,
-) -> Stepped
-    ensures steps { Steps result (stores hart.old address (stored 2 (M.cells memory.old) address (value % 2 ^ 16))) hart.old (M.cells memory.old) hart.new (M.cells memory.new) }
+) -> Flow
+    requires { pc % 4 ≡ 0 }
+    ensures flows { Flows result (stores (with_pc hart.now pc) address (stored 2 (M.cells memory.old) address (value % 2 ^ 16))) hart.now (M.cells memory.old) hart.now (M.cells memory.new) }
     ensures grows { IsOutOfMemory result → M.grows memory.old address }
     ensures settles { (other : ℕ) → M.grows memory.new other → M.grows memory.old other }
     ensures base { M.base memory.new ≡ M.base memory.old }
+    ensures kept { Kept (M.cells memory.old) (M.cells memory.new) }
 {
     let answer = memory.store16(address, (value % 65_536) as u16);
-    hart.store(address, answer)
+    hart.store(pc, address, answer)
 }
 
 /// Stores a word.
+#[tactic(auto, using(crate::proofs::Keeping::stores_keep))]
 #[inline(always)]
 pub fn store_word<M: GuestMemory>(
-    hart: &mut Hart,
+    hart: &Hart,
+    pc: u32,
     memory: &mut M,
     address: u32,
     value: u32,
-) -> Stepped
-    ensures steps { Steps result (stores hart.old address (stored 4 (M.cells memory.old) address value)) hart.old (M.cells memory.old) hart.new (M.cells memory.new) }
+) -> Flow
+    requires { pc % 4 ≡ 0 }
+    ensures flows { Flows result (stores (with_pc hart.now pc) address (stored 4 (M.cells memory.old) address value)) hart.now (M.cells memory.old) hart.now (M.cells memory.new) }
     ensures grows { IsOutOfMemory result → M.grows memory.old address }
     ensures settles { (other : ℕ) → M.grows memory.new other → M.grows memory.old other }
     ensures base { M.base memory.new ≡ M.base memory.old }
+    ensures kept { Kept (M.cells memory.old) (M.cells memory.new) }
 {
     let answer = memory.store32(address, value);
-    hart.store(address, answer)
+    hart.store(pc, address, answer)
 }

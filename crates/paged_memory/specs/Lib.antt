@@ -1,9 +1,11 @@
 pub mod Bytes
+pub mod Code
 pub mod Mapping
 pub mod Number
 pub mod Page
 pub mod PageMap
 pub mod PageTable
+pub mod PageTree
 pub mod Pages
 pub mod Snapshot
 pub mod WholeMemory

@@ -1,24 +1,11 @@
-use Rattle.std.specs.Prelude.{◌/◌, ◌%◌, ◌^◌, nat_lt, if◌then◌else◌, Some, None}
 use Rattle.guest_memory.specs.Memory.{Memory}
-use Rattle.paged_memory.specs.Page.{PageValue}
 use Rattle.paged_memory.specs.PageMap.{PageMap, memory_of_pages}
-use Rattle.paged_memory.specs.PageTable.{pages_of_entry, pages_of_node}
-use Rattle.paged_memory.specs.declared.node.Node.{Node}
+use Rattle.paged_memory.specs.PageTree as tree
 use Rattle.paged_memory.specs.declared.snapshot.Snapshot.{Snapshot}
-
--- the pages of the nodes of each level
-abbrev pub pages_of_leaf : Node PageValue → PageMap
-pages_of_leaf node = pages_of_node (λ page _. Some page) (λ number. number % 128) node.entries
-
-abbrev pub pages_of_middle : Node (Node PageValue) → PageMap
-pages_of_middle node = pages_of_node pages_of_leaf (λ number. number / 128 % 128) node.entries
-
-abbrev pub pages_of_root : Node (Node (Node PageValue)) → PageMap
-pages_of_root node = pages_of_node pages_of_middle (λ number. number / 128 / 128 % 128) node.entries
 
 -- the pages of a snapshot
 unfoldable pub pages_of : Snapshot → PageMap
-pages_of snapshot number = if nat_lt number (2 ^ 20) then pages_of_entry pages_of_root snapshot.root number else None
+pages_of snapshot = tree.pages_of snapshot.tree
 
 -- a snapshot as a map
 abbrev pub cells_of : Snapshot → Memory

@@ -3,12 +3,14 @@
 
 pub mod access;
 mod change;
+mod decoding;
 mod level;
 mod little_endian;
 mod node;
 pub mod number;
 pub mod page;
 pub mod page_memory;
+mod page_tree;
 pub mod snapshot;
 pub mod whole_memory;
 mod zeros;

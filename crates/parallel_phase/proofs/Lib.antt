@@ -1,2 +1,6 @@
+pub mod Coding
 pub mod Runs
+pub mod Stages
 pub mod Works
+pub mod Fates
+pub mod Places

@@ -1,5 +1,5 @@
 -- Looks of a seat, one after another.
-use Rattle.std.proofs.Common.{◌≡◌, ◌∙◌, ◌+◌, ◌<◌, ◌≤◌, ℕ, Option, Some, None, IfSome, zero, suc, List, [], ◌∷◌, ◌++◌, length, get_or, refl, sym, ap, arith}
+use Rattle.std.proofs.Common.{◌≡◌, ◌∙◌, ◌<◌, ℕ, Some, zero, suc, List, [], ◌∷◌, length, get_or, refl, sym, ap, arith}
 use Rattle.std.specs.Prelude.{slice_get}
 use Rattle.claim_table.specs.Logs.{times, with_seen}
 use Rattle.claim_table.proofs.Totals.{times_push, drawn_here}
@@ -35,10 +35,6 @@ looks_at old new least is = record {
 
 pub saw_below : (old new : SeatState) (least number : ℕ) → new ≡ record old { log = with_seen old.log least } → least < number → SawBelow new.log number
 saw_below old new least number is below = (least, below, let e = ap (λ (s : SeatState). times least s.log.seen) is in let here = drawn_here least old.log.seen in omega arith)
-
-pub from_zero : (quantum : Option ℕ) → IfSome quantum (λ q. 0 ≤ q)
-from_zero None = tt
-from_zero (Some q) = omega arith
 
 pub job_at : (jobs : List Job) (number : ℕ) (job : Job) → number < length jobs → job ≡ get_or jobs number job → slice_get jobs number ≡ Some job
 job_at [] number job inside is = absurd (omega arith)

@@ -1,6 +1,7 @@
 -- What a seat of a phase does with the jobs that it draws.
 use Rattle.std.specs.Prelude.{◌≡◌, ℕ, ◌+◌, ◌<◌, ◌≤◌, Bool, true, false, if◌then◌else◌, Option, Some, None, List, [], ◌∷◌, ◌++◌, map, length, All, slice_get}
 use Rattle.guest_memory.specs.Memory.{Memory}
+use Rattle.paged_memory.specs.Snapshot.{cells_of}
 use Rattle.paged_memory.specs.declared.snapshot.Snapshot.{Snapshot}
 use Rattle.claim_table.specs.declared.log.Log.{Log}
 use Rattle.claim_table.specs.Logs.{times, with_noted}
@@ -88,3 +89,15 @@ pub record WorkState : Type 0 where
   pub seat : SeatState
   pub outcomes : List Drawn
   pub refused : Bool
+
+-- the work of a seat of this phase that was done until no job was left or memory was refused
+pub record IsWorkOf (phase : PhaseState) (work : WorkState) : Type 0 where
+  pub row : work.seat.row ≡ phase.row
+  pub over : AreOver phase.jobs (cells_of phase.base) work.outcomes
+  pub ended : work.refused ≡ false → 0 < work.seat.log.ended
+
+-- the work of a seat of this phase that has drawn nothing
+pub record IsUnbegun (phase : PhaseState) (work : WorkState) : Type 0 where
+  pub row : work.seat.row ≡ phase.row
+  pub refused : work.refused ≡ false
+  pub outcomes : work.outcomes ≡ []

@@ -1,9 +1,10 @@
-ghost use Rattle.std.specs.Prelude.{◌≡◌, [], false};
+ghost use Rattle.std.specs.Prelude.{◌≡◌, [], false, IfOk, OnOk};
 ghost use Rattle.claim_table.specs.Logs.{new_log};
+ghost use Rattle.parallel_phase.specs.Outcomes.{IsWhole};
 
 use crate::drawn::Drawn;
 use claim_table::DrawSeat;
-use std::alloc::Global;
+use std::alloc::{AllocError, Global};
 use std::marker::Model;
 
 /// What was done by a seat of a phase: the jobs that it drew, and what became of each. Where memory was refused, the
@@ -12,18 +13,18 @@ use std::marker::Model;
 pub struct WorkDone {
     pub(crate) seat: DrawSeat,
     pub(crate) outcomes: Vec<Drawn>,
-    pub(crate) refused: bool,
+    pub(crate) refused: Option<AllocError>,
 }
 
 impl Model for WorkDone {
-    ghost use Rattle.std.specs.Prelude.{◌≡◌, false};
+    ghost use Rattle.std.specs.Prelude.{◌≡◌, false, is_some};
     ghost use Rattle.parallel_phase.specs.Work.{WorkState, AreOutcomes};
 
     ghost Value = { WorkState };
 
-    ghost view = { λ w. record { seat = w.seat; outcomes = w.outcomes.items; refused = w.refused } };
+    ghost view = { λ w. record { seat = w.seat; outcomes = w.outcomes.items; refused = is_some w.refused } };
 
-    ghost invariant = { λ w. w.refused ≡ false → AreOutcomes w.seat.log w.outcomes.items };
+    ghost invariant = { λ w. is_some w.refused ≡ false → AreOutcomes w.seat.log w.outcomes.items };
 }
 
 impl WorkDone {
@@ -35,7 +36,23 @@ impl WorkDone {
         WorkDone {
             seat,
             outcomes: Vec::new(alloc),
-            refused: false,
+            refused: None,
+        }
+    }
+
+    /// The seat, and what became of the jobs that it drew. Err where memory was refused.
+    pub(crate) fn into_parts(self) -> Result<(DrawSeat, Vec<Drawn>), AllocError>
+        ensures parts { IfOk result (λ parts. (parts.0 ≡ self.seat) × (parts.1.items ≡ self.outcomes)) }
+        ensures whole { OnOk result (IsWhole self) }
+    {
+        let WorkDone {
+            seat,
+            outcomes,
+            refused,
+        } = self;
+        match refused {
+            Some(error) => Err(error),
+            None => Ok((seat, outcomes)),
         }
     }
 
@@ -43,7 +60,7 @@ impl WorkDone {
     pub fn was_refused(&self) -> bool
         ensures { result ≡ self.now.refused }
     {
-        self.refused
+        self.refused.is_some()
     }
 
     /// The jobs that it drew, in order, and what became of each.

@@ -1,6 +1,7 @@
 pub mod Config
 pub mod Faults
 pub mod Limits
+pub mod Recorded
 pub mod Reports
 pub mod Run
 pub mod Sending

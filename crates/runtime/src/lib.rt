@@ -3,11 +3,13 @@
 
 mod all_taken;
 mod config;
-mod jobs;
 mod limits;
 mod opening;
+mod recorded_run;
+mod recording;
 mod report;
 mod reporting;
+mod run_end;
 mod run_fault;
 mod running;
 mod sending;
@@ -20,9 +22,12 @@ mod write_sink;
 pub use config::Config;
 pub use gate::{Gate, OpenGate};
 pub use limits::{MAX_BOUND, MAX_INPUT, MAX_WORKERS};
+pub use recorded_run::RecordedRun;
+pub use recording::{open_run, run_opened, run_recorded};
 pub use report::Report;
+pub use run_end::RunEnd;
 pub use run_fault::RunFault;
 pub use running::{run, run_into};
 pub use sink::{Sink, SinkFault};
-pub use token::RunOutcome;
+pub use token::{Both, Kept, NoRecord, Recorder, RunOutcome, Start};
 pub use write_sink::WriteSink;

@@ -1,35 +1,45 @@
-ghost use Rattle.std.specs.Prelude.{◌≡◌, Some, IfOk};
+ghost use Rattle.std.specs.Prelude.{◌≡◌, Some, IfOk, IfErr};
+ghost use Rattle.token.specs.Kept.{Keeps};
+ghost use Rattle.token.specs.Law.{Determinism, Progress};
 ghost use Rattle.token.specs.RunInTurn.{point_of};
-ghost use Rattle.token.specs.Serial.{IsLawful};
+ghost use Rattle.token.specs.Setup.{Setup};
+ghost use Rattle.paged_memory.specs.Snapshot.{cells_of};
+ghost use Rattle.runtime.specs.Recorded.{Ends};
 ghost use Rattle.runtime.specs.Reports.{Reports};
 
 use crate::report::Report;
+use crate::run_end::RunEnd;
 use std::alloc::{AllocError, Global};
-use token::{RunOutcome, Serial, one_history};
+use token::{Kept, Recorder, RunOutcome, Serial};
 
-/// The report of a run that ended so.
-pub(crate) fn report(
+/// What a run left that ended so.
+pub(crate) fn end_of<K: Recorder>(
     alloc: Global,
-    serial: &Serial,
+    serial: &Serial<K>,
     outcome: RunOutcome,
-) -> Result<Report, AllocError>
-    requires { (point_of serial.now).ended ≡ Some outcome }
-    ensures report { IfOk result (Reports (point_of serial.now).setup) }
-    ensures output { IfOk result (λ report. report.output.items ≡ (point_of serial.now).state.output) }
+) -> Result<RunEnd, AllocError>
+    ensures outcome { IfOk result (λ end. end.outcome ≡ outcome) }
+    ensures output { IfOk result (λ end. end.output.items ≡ (point_of serial.now).state.output) }
+    ensures memory { IfOk result (λ end. cells_of end.memory ≡ (point_of serial.now).state.memory) }
 {
-    one_history();
-    Ok(Report {
+    Ok(RunEnd {
         outcome,
         output: Vec::from_slice(alloc, serial.output())?,
         memory: serial.now().try_clone()?,
-        trace: Vec::from_slice(alloc, serial.turns())?,
-        sharing: sharing_report::report(alloc, serial.changes())?,
     })
 }
 
-/// The turns of a serial state are a legal history.
-pub(crate) fn has_history(serial: &Serial)
-    ensures { IsLawful serial.now }
+/// The report of a run with this end, whose turns and changes were kept.
+pub(crate) fn report(alloc: Global, end: RunEnd, kept: Kept) -> Result<Report, AllocError>
+    ensures report { IfOk result (λ report. (setup : Setup) → Ends Keeps setup end kept → Reports setup report) }
+    ensures output { IfOk result (λ report. report.output.items ≡ end.output.items) }
 {
-    let _turns = serial.turns();
+    let sharing = sharing_report::report(alloc, kept.changes())?;
+    Ok(Report {
+        outcome: end.outcome,
+        output: end.output,
+        memory: end.memory,
+        trace: kept.into_turns(),
+        sharing,
+    })
 }

@@ -1,6 +1,7 @@
 use elf32_reader::ElfFault;
 use std::alloc::AllocError;
 use thiserror::Error;
+use token::TurnFault;
 
 /// Why no report is given. The configuration is looked at first, then the input, then the file.
 #[derive(Clone, Copy, Debug, PartialEq, Eq, Error)]
@@ -20,13 +21,16 @@ pub enum RunFault {
     /// The sink of the output failed.
     #[error("cannot write the output")]
     WriteFailed,
+    /// The recorder couldn't write.
+    #[error("cannot write the record")]
+    RecordFailed,
 }
 
 impl RunFault {
     ghost use Rattle.std.specs.Prelude.{◌≡◌};
     ghost use Rattle.runtime.specs.Faults.{number_of};
 
-    /// Its number, 1 to 5.
+    /// Its number, 1 to 6.
     pub fn number(self) -> u8
         ensures { result ≡ number_of self }
     {
@@ -36,6 +40,7 @@ impl RunFault {
             RunFault::InputTooLarge => 3,
             RunFault::OutOfMemory => 4,
             RunFault::WriteFailed => 5,
+            RunFault::RecordFailed => 6,
         }
     }
 }
@@ -49,5 +54,20 @@ impl From<AllocError> for RunFault {
     /// Out of memory.
     fn from(_error: AllocError) -> Self {
         RunFault::OutOfMemory
+    }
+}
+
+impl From<TurnFault> for RunFault {
+    ghost use Rattle.std.specs.Prelude.{◌≡◌};
+    ghost use Rattle.runtime.specs.Faults.{fault_of};
+
+    ghost from_gives = { λ fault made. made ≡ fault_of fault };
+
+    /// Out of memory, or a failure of the recorder.
+    fn from(fault: TurnFault) -> Self {
+        match fault {
+            TurnFault::OutOfMemory => RunFault::OutOfMemory,
+            TurnFault::WriteFailed => RunFault::RecordFailed,
+        }
     }
 }

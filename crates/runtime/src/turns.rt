@@ -1,36 +1,39 @@
-//! The turns of a run: each segment runs on the caller's thread, and its turn is taken before the next one runs.
-ghost use Rattle.std.specs.Prelude.{◌≡◌, ◌-◌, ◌^◌, ◌<◌, Some, IfOk, IfSome, OnErr};
+//! The turns of a run, in token order, beside the host threads that execute its segments.
+ghost use Rattle.std.specs.Prelude.{◌≡◌, ◌-◌, ◌^◌, ◌<◌, ◌≤◌, Some, IfOk, IfErr, IfSome, OnErr};
 ghost use Rattle.token.specs.RunInTurn.{point_of};
 ghost use Rattle.runtime.specs.Sending.{CountsFailures, SendsOn};
 ghost use Rattle.runtime.specs.Turns.{Moves};
 
-use crate::jobs::JobCount;
 use crate::run_fault::RunFault;
 use crate::sending::send;
 use crate::sink::Sink;
 use gate::Gate;
-use std::alloc::AllocError;
+use std::alloc::Global;
 use std::sync::Wait;
-use token::{Need, RunOutcome, Serial};
+use std::thread::{Threads, join_mut};
+use token::{Need, Recorder, RunOutcome, Serial, TurnFault};
+use worker_pool::{OfRun, Pool};
 
-/// The number of the caller's thread among the workers.
-const WORKER: u32 = 0;
+/// The number of the first worker. The caller is worker 0.
+const FIRST_WORKER: u32 = 1;
 
 /// Does the next turn, or answers how the run ended where there is none.
-fn take_turn<G: Gate>(
-    serial: &mut Serial,
+fn take_turn<B: OfRun + Send + Sync, R: Wait, K: Recorder, G: Gate>(
+    rt: &R,
+    serial: &mut Serial<K>,
+    pool: &mut Pool<B>,
     gate: &G,
-    jobs: &mut JobCount,
-) -> Result<Option<RunOutcome>, AllocError>
+) -> Result<Option<RunOutcome>, TurnFault>
+    requires { (point_of serial.old).setup ≡ B.setup }
     ensures setup { (point_of serial.new).setup ≡ (point_of serial.old).setup }
     ensures moved { IfOk result (λ ends. Moves ends (point_of serial.old) (point_of serial.new)) }
     ensures kept { OnErr result (point_of serial.new ≡ point_of serial.old) }
+    ensures fault { IfErr result (λ fault. fault ≡ TurnFault.WriteFailed → K.writes) }
 {
     match serial.need() {
         Need::Ended(outcome) => Ok(Some(outcome)),
         Need::Segment(work) => {
-            gate.pass(WORKER, jobs.take(serial.phase()));
-            let end = work.run(serial.base())?;
+            let end = pool.segment(rt, serial, &work, gate)?;
             serial.turn(Some(&end))?;
             gate.turned(work.thread);
             Ok(None)
@@ -50,19 +53,22 @@ fn take_turn<G: Gate>(
 }
 
 /// Does the next turn and sends what it wrote, or answers how the run ended where there is none.
-fn send_turn<G: Gate, S: Sink>(
-    serial: &mut Serial,
+fn send_turn<B: OfRun + Send + Sync, R: Wait, K: Recorder, G: Gate, S: Sink>(
+    rt: &R,
+    serial: &mut Serial<K>,
+    pool: &mut Pool<B>,
     gate: &G,
-    jobs: &mut JobCount,
     sink: &mut S,
 ) -> Result<Option<RunOutcome>, RunFault>
-    requires { S.failed sink.old < 2 ^ 64 - 1 }
+    requires failures { S.failed sink.old < 2 ^ 64 - 1 }
+    requires run { (point_of serial.old).setup ≡ B.setup }
     ensures setup { (point_of serial.new).setup ≡ (point_of serial.old).setup }
     ensures ended { IfOk result (λ ends. IfSome ends (λ outcome. (point_of serial.new).ended ≡ Some outcome)) }
     ensures sent { SendsOn result (point_of serial.old).state.output (point_of serial.new).state.output (S.taken sink.old) (S.taken sink.new) }
     ensures failures { CountsFailures result (S.failed sink.old) (S.failed sink.new) }
+    ensures fault { IfErr result (λ fault. fault ≡ RunFault.RecordFailed → K.writes) }
 {
-    if let Some(outcome) = take_turn(serial, gate, jobs)? {
+    if let Some(outcome) = take_turn(rt, serial, pool, gate)? {
         return Ok(Some(outcome));
     }
     match send(serial.fresh(), sink) {
@@ -71,24 +77,140 @@ fn send_turn<G: Gate, S: Sink>(
     }
 }
 
-/// Does all turns, and sends the output of each before the next one. Answers how the run ended.
-pub(crate) fn take_turns<R: Wait, G: Gate, S: Sink>(
+/// Does turns, and sends the output of each before the next one, until the run has ended, and answers how; or until a
+/// phase has work for workers that aren't hired.
+fn go_on<B: OfRun + Send + Sync, R: Wait, K: Recorder, G: Gate, S: Sink>(
     rt: &R,
-    serial: &mut Serial,
+    serial: &mut Serial<K>,
+    pool: &mut Pool<B>,
+    gate: &G,
+    sink: &mut S,
+) -> Result<Option<RunOutcome>, RunFault>
+    requires failures { S.failed sink.old < 2 ^ 64 - 1 }
+    requires run { (point_of serial.old).setup ≡ B.setup }
+    ensures setup { (point_of serial.new).setup ≡ (point_of serial.old).setup }
+    ensures ended { IfOk result (λ ends. IfSome ends (λ outcome. (point_of serial.new).ended ≡ Some outcome)) }
+    ensures sent { SendsOn result (point_of serial.old).state.output (point_of serial.new).state.output (S.taken sink.old) (S.taken sink.new) }
+    ensures failures { CountsFailures result (S.failed sink.old) (S.failed sink.new) }
+    ensures fault { IfErr result (λ fault. fault ≡ RunFault.RecordFailed → K.writes) }
+{
+    for _ in rt.forever() {
+        if pool.wants_workers(serial) {
+            return Ok(None);
+        }
+        if let Some(outcome) = send_turn(rt, serial, pool, gate, sink)? {
+            return Ok(Some(outcome));
+        }
+    }
+    unreachable!()
+}
+
+/// Does the rest of the turns, beside the workers that serve, and answers how the run ended.
+fn go_to_end<B: OfRun + Send + Sync, R: Wait, K: Recorder, G: Gate, S: Sink>(
+    rt: &R,
+    serial: &mut Serial<K>,
+    pool: &mut Pool<B>,
     gate: &G,
     sink: &mut S,
 ) -> Result<RunOutcome, RunFault>
-    requires { S.failed sink.old < 2 ^ 64 - 1 }
+    requires failures { S.failed sink.old < 2 ^ 64 - 1 }
+    requires run { (point_of serial.old).setup ≡ B.setup }
     ensures setup { (point_of serial.new).setup ≡ (point_of serial.old).setup }
     ensures ended { IfOk result (λ outcome. (point_of serial.new).ended ≡ Some outcome) }
     ensures sent { SendsOn result (point_of serial.old).state.output (point_of serial.new).state.output (S.taken sink.old) (S.taken sink.new) }
     ensures failures { CountsFailures result (S.failed sink.old) (S.failed sink.new) }
+    ensures fault { IfErr result (λ fault. fault ≡ RunFault.RecordFailed → K.writes) }
 {
-    let mut jobs = JobCount::NONE;
     for _ in rt.forever() {
-        if let Some(outcome) = send_turn(serial, gate, &mut jobs, sink)? {
+        if let Some(outcome) = go_on(rt, serial, pool, gate, sink)? {
             return Ok(outcome);
         }
     }
     unreachable!()
+}
+
+/// Does the rest of the turns, and tells the workers then that the run has ended.
+fn conclude<B: OfRun + Send + Sync, R: Wait, K: Recorder, G: Gate, S: Sink>(
+    rt: &R,
+    serial: &mut Serial<K>,
+    pool: &mut Pool<B>,
+    gate: &G,
+    sink: &mut S,
+) -> Result<RunOutcome, RunFault>
+    requires failures { S.failed sink.old < 2 ^ 64 - 1 }
+    requires run { (point_of serial.old).setup ≡ B.setup }
+    ensures setup { (point_of serial.new).setup ≡ (point_of serial.old).setup }
+    ensures ended { IfOk result (λ outcome. (point_of serial.new).ended ≡ Some outcome) }
+    ensures sent { SendsOn result (point_of serial.old).state.output (point_of serial.new).state.output (S.taken sink.old) (S.taken sink.new) }
+    ensures failures { CountsFailures result (S.failed sink.old) (S.failed sink.new) }
+    ensures fault { IfErr result (λ fault. fault ≡ RunFault.RecordFailed → K.writes) }
+{
+    let result = go_to_end(rt, serial, pool, gate, sink);
+    pool.dismiss();
+    result
+}
+
+/// Does the rest of the turns, while workers that are hired for it execute segments.
+fn go_on_hired<
+    B: OfRun + Send + Sync,
+    R: Threads + Wait + Sync,
+    K: Recorder,
+    G: Gate + Sync,
+    S: Sink,
+>(
+    rt: &R,
+    serial: &mut Serial<K>,
+    pool: &mut Pool<B>,
+    gate: &G,
+    sink: &mut S,
+) -> Result<RunOutcome, RunFault>
+    requires failures { S.failed sink.old < 2 ^ 64 - 1 }
+    requires run { (point_of serial.old).setup ≡ B.setup }
+    ensures setup { (point_of serial.new).setup ≡ (point_of serial.old).setup }
+    ensures ended { IfOk result (λ outcome. (point_of serial.new).ended ≡ Some outcome) }
+    ensures sent { SendsOn result (point_of serial.old).state.output (point_of serial.new).state.output (S.taken sink.old) (S.taken sink.new) }
+    ensures failures { CountsFailures result (S.failed sink.old) (S.failed sink.new) }
+    ensures fault { IfErr result (λ fault. fault ≡ RunFault.RecordFailed → K.writes) }
+{
+    let crew = pool.hire()?;
+    let (_, result) = join_mut(
+        rt,
+        &mut || crew.serve(rt, gate, FIRST_WORKER),
+        &mut ||
+            requires { (S.failed sink.now < 2 ^ 64 - 1) × ((point_of serial.now).setup ≡ B.setup) }
+        { conclude(rt, serial, pool, gate, sink) },
+    );
+    result
+}
+
+/// Does all turns with so many host threads at most, the caller's included, and sends the output of each before the
+/// next one. Answers how the run ended.
+pub(crate) fn take_turns<
+    B: OfRun + Send + Sync,
+    R: Threads + Wait + Sync,
+    K: Recorder,
+    G: Gate + Sync,
+    S: Sink,
+>(
+    rt: &R,
+    alloc: Global,
+    serial: &mut Serial<K>,
+    workers: u32,
+    gate: &G,
+    sink: &mut S,
+) -> Result<RunOutcome, RunFault>
+    requires failures { S.failed sink.old < 2 ^ 64 - 1 }
+    requires run { (point_of serial.old).setup ≡ B.setup }
+    requires workers { (0 < workers) × (workers ≤ 64) }
+    ensures setup { (point_of serial.new).setup ≡ (point_of serial.old).setup }
+    ensures ended { IfOk result (λ outcome. (point_of serial.new).ended ≡ Some outcome) }
+    ensures sent { SendsOn result (point_of serial.old).state.output (point_of serial.new).state.output (S.taken sink.old) (S.taken sink.new) }
+    ensures failures { CountsFailures result (S.failed sink.old) (S.failed sink.new) }
+    ensures fault { IfErr result (λ fault. fault ≡ RunFault.RecordFailed → K.writes) }
+{
+    let mut pool = Pool::<B>::new(alloc, workers);
+    if let Some(outcome) = go_on(rt, serial, &mut pool, gate, sink)? {
+        return Ok(outcome);
+    }
+    go_on_hired(rt, serial, &mut pool, gate, sink)
 }

@@ -1,19 +1,19 @@
 -- How a segment that is executed an instruction at a time goes on and stops.
-use Rattle.std.proofs.Common.{◌≡◌, ◌≢◌, ◌∙◌, ℕ, suc, ◌+◌, ◌<◌, ◌≤◌, Bool, true, false, Option, Some, None, refl, ap, sym, subst, arith, add-one, ◌^◌}
-use Rattle.std.specs.Prelude.{◌==◌, ◌&&◌, is_some, if◌then◌else◌, option_and_then}
+use Rattle.std.proofs.Common.{◌≡◌, ◌∙◌, ℕ, ◌+◌, ◌<◌, ◌≤◌, Bool, true, false, Option, Some, None, refl, ap, sym, arith, add-one, ◌^◌}
+use Rattle.std.specs.Prelude.{◌==◌, if◌then◌else◌, option_and_then}
 use Rattle.std.proofs.lemmas.Bool.Decides.{nat_tests}
 use borrow.Author.Count.{below_more}
 use Rattle.guest_memory.specs.Memory.{Memory}
 use Rattle.hart.specs.HartState.{HartState}
-use Rattle.hart.specs.Next.{Next, Goes, Calls, Traps, next}
+use Rattle.hart.specs.Next.{Next, Goes, next}
 use Rattle.hart.specs.Segment.{Segment, after, left_by, stop_at, stop_after, stop_of, is_used_up, counted, bound_trap}
 use Rattle.hart.specs.declared.stop.Stop.{Stop}
 use Rattle.hart.specs.declared.stop.Stop.TheVariants.{Trap, Ecall, Quantum}
 use Rattle.schedule.specs.Phase.{advanced, is_end}
-use Rattle.schedule.specs.Verdict.{Verdict, GoesOn, Stops, EndsRun, ends_run, verdict_after, verdict_in, verdict_of}
+use Rattle.schedule.specs.Verdict.{GoesOn, Stops, EndsRun, ends_run, verdict_after, verdict_in, verdict_of}
 use Rattle.schedule.specs.declared.advance.Advance.{Advance}
 use Rattle.token.specs.declared.need.Work.{Work}
-use Rattle.schedule_core.specs.Running.{HasCome, IsItsStop, limit_at}
+use Rattle.schedule_core.specs.Running.{HasCome, limit_at}
 
 -- the bound or the quantum comes first, and else the next instruction says what stops it
 first_limit : (at_bound used : Bool) (stop : Option Stop) (what : Next)

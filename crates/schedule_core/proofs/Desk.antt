@@ -1,6 +1,6 @@
 -- How the workers' places and the jobs' results change by an event.
-use Rattle.std.proofs.Common.{◌≡◌, ◌≢◌, ◌∙◌, ℕ, suc, ◌+◌, ◌<◌, ◌≤◌, Bool, true, false, Option, Some, None, List, [], ◌∷◌, length, refl, ap, sym, subst, arith, get_or, inl, inr, ◌⊎◌}
-use Rattle.std.specs.Prelude.{All, is_some, Result, Ok, Err, OnOk, OnErr, map, option_map, min, ◌==◌, slice_get, slice_set, sum_by, ◌&&◌, not, nat_lt}
+use Rattle.std.proofs.Common.{◌≡◌, ◌∙◌, ℕ, ◌+◌, ◌<◌, ◌≤◌, Bool, true, false, Option, Some, None, List, length, refl, ap, sym, subst, arith, get_or, inl, inr, ◌⊎◌}
+use Rattle.std.specs.Prelude.{is_some, Result, Ok, Err, OnOk, OnErr, map, option_map, min, ◌==◌, slice_get, slice_set, ◌&&◌, not, nat_lt}
 use Rattle.std.proofs.lemmas.List.{map-set, length-set, length-map}
 use Rattle.std.proofs.lemmas.List.Elements.{All-set, All-from_get_or, All-get_or}
 use Rattle.std.proofs.lemmas.List.Sums.{sum_by-set, sum_by-le}
@@ -19,10 +19,9 @@ use Rattle.schedule.specs.declared.worker.Worker.{Worker}
 use Rattle.schedule.specs.declared.worker.Worker.TheVariants as worker
 use Rattle.hart.specs.declared.stop.Stop.{Stop}
 use Rattle.token.specs.Point.{IsEndOf}
-use Rattle.token.specs.declared.need.Work.{Work}
 use Rattle.token.specs.declared.segment_end.SegmentEnd.{SegmentEnd}
-use Rattle.schedule_core.specs.Jobs.{Start, jobs_of, verdict_by, verdicts_of, work_at}
-use Rattle.schedule_core.specs.Running.{IsRunning, advance_of, memory_of, verdict_of}
+use Rattle.schedule_core.specs.Jobs.{Start, verdict_by, verdicts_of, work_at}
+use Rattle.schedule_core.specs.Running.{advance_of, memory_of, verdict_of}
 use Rattle.schedule_core.specs.Stage.{IsDesk, IsHeld, IsSeat, counts_by, fate_of, one_if_ended, task_of, worker_of}
 use Rattle.schedule_core.specs.declared.running.Running.{Running}
 use Rattle.schedule_core.specs.declared.seat.Held.{Held}

@@ -1,3 +1,4 @@
 pub mod Coming
 pub mod Desk
+pub mod Events
 pub mod Turning

@@ -1,16 +1,13 @@
 -- What a turn changes of what stands beside it.
-use Rattle.std.proofs.Common.{◌≡◌, ◌∙◌, ℕ, zero, suc, ◌+◌, Bool, true, false, Option, Some, None, List, [], ◌∷◌, ◌++◌, length, refl, ap, sym, subst, arith, length-append}
+use Rattle.std.proofs.Common.{◌≡◌, ◌∙◌, ℕ, zero, suc, ◌+◌, Bool, true, false, Option, Some, None, List, ◌∷◌, length, refl, ap, sym, subst, arith}
 use Rattle.std.specs.Prelude.{is_some, if◌then◌else◌, ◌==◌, ◌||◌, nat_lt}
 use Rattle.thread_table.specs.Threads.{serial_list}
-use Rattle.thread_table.specs.declared.thread.Thread.{Thread}
-use Rattle.token.specs.Due.{thread_due}
 use Rattle.token.specs.Outcome.{quiet_outcome}
-use Rattle.token.specs.Point.{Point, after_step, due_at, moved, need_at, need_by, need_of, next_phase, passed_on, recorded, work_from, base_at}
+use Rattle.token.specs.Point.{Point, after_step, due_at, moved, need_at, need_by, counted, need_of, next_phase, passed_on, work_from, base_at}
 use Rattle.token.specs.Serial.{IsLonger}
 use Rattle.token.specs.Turns.{Step}
 use Rattle.token.specs.declared.due.Due.{Due}
 use Rattle.token.specs.declared.due.Due.TheVariants as due
-use Rattle.token.specs.declared.need.Need.{Need}
 use Rattle.token.specs.declared.need.Need.TheVariants as need
 use Rattle.token.specs.declared.need.Work.{Work}
 use Rattle.token.specs.declared.outcome.RunOutcome.{RunOutcome}
@@ -18,7 +15,7 @@ use Rattle.token.specs.History.{History}
 use Rattle.token.specs.Law.{Progress}
 use Rattle.token.specs.Serial.{StandsAfter}
 use Rattle.schedule_core.specs.Histories.{IsOutcome}
-use Rattle.std.specs.Prelude.{map, option_map, slice_get, slice_index, position, IfSome}
+use Rattle.std.specs.Prelude.{map, option_map, slice_get, slice_index, position}
 use Rattle.std.proofs.Common.{replicate, get_or, ◌<◌, ◌≤◌}
 use Rattle.std.proofs.lemmas.Bool.Decides.{nat_tests}
 use Rattle.std.proofs.lemmas.List.{length-replicate, get_or-replicate, length-map}
@@ -26,12 +23,9 @@ use Rattle.std.proofs.lemmas.List.Elements.{All-from_get_or}
 use Rattle.std.proofs.lemmas.List.Quantifiers.{position-Some}
 use Rattle.std.proofs.lemmas.Option.{slice_get_within, get_or_from_slice_get, slice_get-get_or, slice_get-map}
 use Rattle.schedule.specs.Phase.{Counts, opened}
-use Rattle.schedule.specs.Phase.{begun as begun_advance}
 use Rattle.schedule.specs.declared.advance.Advance.{Advance}
 use Rattle.schedule.specs.declared.event.Event.TheVariants.{Turn}
-use Rattle.schedule.specs.declared.worker.Worker.TheVariants as worker
 use Rattle.schedule.specs.declared.fate.Fate.{Fate}
-use Rattle.schedule.specs.declared.fate.Fate.TheVariants as fate
 use Rattle.token.proofs.Needs.{segment_needed}
 use Rattle.token.specs.Point.{IsEndOf, IsNeededAt, step_at}
 use Rattle.token.specs.RunInTurn.{point_of}
@@ -49,10 +43,10 @@ use Rattle.schedule_core.specs.declared.seat.Seat.{Seat}
 use Rattle.schedule_core.specs.declared.slot.Slot.{Slot}
 
 -- what the next phase begins with, or that the run has ended
-abbrev begun : Point → List ℕ → Point
-begun point list = record point { phase = point.phase + 1; first = length point.turns; base = point.state.memory; base_threads = point.state.threads; list = list; given = 0 }
+abbrev pub begun : Point → List ℕ → Point
+begun point list = record point { phase = point.phase + 1; first = point.done; base = point.state.memory; base_threads = point.state.threads; list = list; given = 0 }
 
-abbrev ended : Point → Point
+abbrev pub ended : Point → Point
 ended point = record point { ended = Some (quiet_outcome point.state) }
 
 by_going : (point : Point) (list : List ℕ) (goes empty : Bool) → (if goes then point else (if empty then ended point else begun point list)).phase ≡ point.phase
@@ -63,7 +57,7 @@ by_going point list false false same = absurd (omega arith)
 
 -- A turn after which the phase is still the same keeps what the phase began with.
 pub same_start : (point : Point) (step : Step) → (moved point step).phase ≡ point.phase → start_of (moved point step) ≡ start_of point
-unfolding passed_on next_phase after_step recorded
+unfolding passed_on next_phase after_step counted
 same_start point step same =
     let after : Point = after_step point step in
     by_going after (serial_list after.state.threads) (is_some after.ended || is_some after.keeper || nat_lt after.given (length after.list)) (length (serial_list after.state.threads) == 0) same
@@ -100,10 +94,6 @@ going_of point (Some outcome) who never = absurd (never outcome refl)
 pub goes_on : (point : Point) → ((outcome : RunOutcome) → need_at point ≡ need.Ended outcome → ⊥) → point.ended ≡ None
 unfolding need_at
 goes_on point never = going_of point point.ended (due_at point) never
-
--- one turn more
-pub longer_by_one : (old new : Point) → IsLonger old new → length new.turns ≡ length old.turns + 1
-longer_by_one old new longer = ap length longer.turns ∙ length-append old.turns (longer.turn ∷ [])
 
 -- what holds of the workers' places still does after a turn of the same phase
 pub kept_desk : (old new : Point) (step : Step) (phase number : ℕ) (places : List Seat) (results : List Slot)
@@ -210,7 +200,7 @@ turn_done old new serial phase end needed done longer is same none counts =
       moves = record { end = end; needed = needed; done = after ∙ done };
       tally =
           same_tally _ _ _ _ _ _
-          (ap (λ (point : Point). length point.turns) after ∙ longer_by_one (point_at old) (point_of serial) longer)
+          (ap (λ (point : Point). point.done) after ∙ longer.done)
           (told ∙ ap (λ (point : Point). counts_after (point_at old) point (counts_of old)) (sym after))
           (ap keeper_advance none);
     }

@@ -7,9 +7,8 @@ use Rattle.token.specs.Serial.{StandsAfter}
 use Rattle.token.specs.Turns.{Step}
 use Rattle.token.specs.declared.outcome.RunOutcome.{RunOutcome}
 
--- The run stands after a legal history, and of it and each legal history of the same setup one is a prefix of the other.
-pub record IsTheHistory (point : Point) : Type 0 where
-  pub history : History
+-- The run stands after this history, which is legal, and of it and each legal history of the same setup one is a prefix of the other.
+pub record IsTheHistory (point : Point) (history : History) : Type 0 where
   pub stands : StandsAfter point history
   pub prefix : (other : History) → IsLegal point.setup other → IsPrefix history other ⊎ IsPrefix other history
 

@@ -58,7 +58,7 @@ counts_of stage = counts_by stage.drawn stage.least stage.seats.items stage.slot
 
 -- the abstract world that is told
 abbrev pub tally_of : Stage → Tally
-tally_of stage = record { turns = length (point_at stage).turns; counts = counts_of stage; keeper = keeper_advance stage.keeper }
+tally_of stage = record { turns = (point_at stage).done; counts = counts_of stage; keeper = keeper_advance stage.keeper }
 
 -- A worker's segment is its job's on the phase's first memory.
 pub record IsHeld (start : Start) (held : Held) : Type 0 where
@@ -104,6 +104,7 @@ start_in stage = start_of (point_at stage)
 pub record IsSound (stage : Stage) : Type 0 where
   pub desk : IsDesk (start_in stage) stage.drawn stage.seats.items stage.slots.items
   pub keeper : IsKeeper (point_at stage) stage.keeper
+  pub outcome : stage.outcome ≡ (point_at stage).ended
   -- there is room for the results and the places of each further phase
   pub room : 256 ≤ vec_capacity stage.slots
   pub places : vec_len stage.seats ≤ vec_capacity stage.seats

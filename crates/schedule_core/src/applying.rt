@@ -1,7 +1,6 @@
 use crate::event_fault::EventFault;
 use crate::stage::Stage;
 use schedule::Event;
-use token::Need;
 
 impl Stage {
     ghost use Rattle.std.specs.Prelude.{◌≡◌, None, Some, length, OnOk, OnErr};
@@ -18,7 +17,7 @@ impl Stage {
         ensures happens { OnOk result (Happens (point_at self.old) (tally_of self.old) event (point_at self.new) (tally_of self.new)) }
         ensures unchanged { OnErr result (Same self.old self.new) }
     {
-        if let Need::Ended(_) = self.serial.need() {
+        if self.outcome.is_some() {
             return Err(EventFault::Ended);
         }
         match event {

@@ -1,5 +1,6 @@
 use std::alloc::AllocError;
 use thiserror::Error;
+use token::TurnFault;
 
 /// Why an event is refused. The run's end is looked at first, then the worker, then the event.
 #[derive(Clone, Copy, Debug, PartialEq, Eq, Error)]
@@ -55,6 +56,18 @@ impl From<AllocError> for EventFault {
 
     /// Out of memory.
     fn from(_error: AllocError) -> Self {
+        EventFault::OutOfMemory
+    }
+}
+
+impl From<TurnFault> for EventFault {
+    ghost use Rattle.std.specs.Prelude.{◌≡◌};
+    ghost use Rattle.schedule_core.specs.declared.event_fault.EventFault.TheVariants.{OutOfMemory};
+
+    ghost from_gives = { λ _ fault. fault ≡ OutOfMemory };
+
+    /// Out of memory: the turns are kept as a list, and nothing is written.
+    fn from(_fault: TurnFault) -> Self {
         EventFault::OutOfMemory
     }
 }

@@ -3,6 +3,7 @@
 
 mod applying;
 pub mod event_fault;
+mod refused_event;
 mod running;
 mod seat;
 mod slot;
@@ -11,4 +12,5 @@ mod turns;
 pub mod world;
 
 pub use event_fault::EventFault;
+pub use refused_event::RefusedEvent;
 pub use world::World;

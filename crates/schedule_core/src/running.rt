@@ -1,7 +1,7 @@
 use commit::Patch;
 use hart::{Cause, Hart, Stepped, Stop, Trap, step};
 use paged_memory::Snapshot;
-use schedule::{Advance, ends_run};
+use schedule::ends_run;
 use std::alloc::AllocError;
 use token::{SegmentEnd, Work};
 use twins::View;
@@ -47,16 +47,6 @@ impl Running {
         ensures { result ≡ is_some self.now.stop }
     {
         self.stop.is_some()
-    }
-
-    /// How far it has come.
-    pub(crate) fn advance(&self) -> Advance
-        ensures { result ≡ advance_of self.now }
-    {
-        Advance {
-            steps: self.steps,
-            stopped: self.stop.is_some(),
-        }
     }
 
     /// Whether it has stopped and ends the run.

@@ -3,12 +3,12 @@ use crate::seat::{Held, Seat};
 use crate::slot::Slot;
 use schedule::Event;
 use std::alloc::AllocError;
-use token::{Serial, Work};
+use token::{Kept, RunOutcome, Serial, Work};
 
 /// The serial state of a run with the half-run jobs of its present phase.
 #[derive(Drop)]
 pub struct Stage {
-    pub(crate) serial: Serial,
+    pub(crate) serial: Serial<Kept>,
     /// How many numbers were drawn in the phase.
     pub(crate) drawn: u32,
     /// The least job that was made known to have ended the run, or the number of jobs.
@@ -19,6 +19,8 @@ pub struct Stage {
     pub(crate) slots: Vec<Slot>,
     /// The segment of the thread that keeps the token, once it has begun.
     pub(crate) keeper: Option<Running>,
+    /// How the run ended, none while a turn may follow.
+    pub(crate) outcome: Option<RunOutcome>,
 }
 
 impl Stage {

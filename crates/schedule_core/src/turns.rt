@@ -1,5 +1,6 @@
 ghost use Rattle.std.specs.Prelude.{◌≡◌, ◌≤◌, [], replicate, vec_len};
 ghost use Rattle.std.specs.Vec.{vec_capacity};
+ghost use Rattle.token.specs.RunInTurn.{point_of};
 
 use crate::event_fault::EventFault;
 use crate::running::Running;
@@ -7,7 +8,7 @@ use crate::seat::Seat;
 use crate::slot::Slot;
 use crate::stage::Stage;
 use std::alloc::AllocError;
-use token::{Need, Work};
+use token::{Kept, Need, RunOutcome, Serial, TurnFault, Work};
 
 impl Stage {
     ghost use Rattle.std.specs.Prelude.{◌≡◌, ◌≤◌, ◌==◌, if◌then◌else◌, true, false, is_some, length, slice_get, vec_len, None, Some, IfSome, OnOk, OnErr};
@@ -123,7 +124,7 @@ impl Stage {
     }
 
     /// The turn of a thread with the posted result of its job.
-    fn posted_turn(&mut self, work: Work, job: usize) -> Result<(), AllocError>
+    fn posted_turn(&mut self, work: Work, job: usize) -> Result<(), TurnFault>
         requires sound { IsSound self.old }
         requires need { need_at (point_at self.old) ≡ need.Segment work }
         requires job { job_of (start_in self.old) work.thread ≡ Some job }
@@ -166,7 +167,7 @@ impl Stage {
     }
 
     /// The turn of a woken thread.
-    fn wake_turn(&mut self, thread: u32) -> Result<(), AllocError>
+    fn wake_turn(&mut self, thread: u32) -> Result<(), TurnFault>
         requires sound { IsSound self.old }
         requires need { need_at (point_at self.old) ≡ need.Wake thread }
         ensures sound { IsSound self.new }
@@ -192,6 +193,7 @@ impl Stage {
         ensures counts { counts_of self.new ≡ (if (point_at self.old).phase == phase then counts_of self.old else opened (length (jobs_of (start_in self.old))) (length self.old.seats.items)) }
     {
         self.keeper = None;
+        self.outcome = outcome_of(&self.serial);
         if self.serial.phase() != phase {
             self.open_phase();
         }
@@ -199,6 +201,7 @@ impl Stage {
 
     /// Opens the present phase: its workers are idle, and its jobs open.
     pub(crate) fn open_phase(&mut self)
+        requires outcome { self.old.outcome ≡ (point_at self.old).ended }
         requires slots { 256 ≤ vec_capacity self.old.slots }
         requires seats { vec_len self.old.seats ≤ vec_capacity self.old.seats }
         requires few { length self.old.seats.items ≤ 64 }
@@ -216,6 +219,16 @@ impl Stage {
         add_open(&mut self.slots, jobs);
         self.seats.clear();
         add_idle(&mut self.seats, workers);
+    }
+}
+
+/// How a run ended, none while a turn may follow.
+pub(crate) fn outcome_of(serial: &Serial<Kept>) -> Option<RunOutcome>
+    ensures { result ≡ (point_of serial.now).ended }
+{
+    match serial.need() {
+        Need::Ended(outcome) => Some(outcome),
+        _ => None,
     }
 }
 

@@ -1,7 +1,8 @@
 use crate::event_fault::EventFault;
+use crate::refused_event::RefusedEvent;
 use crate::seat::Seat;
 use crate::stage::Stage;
-use crate::turns::add_idle;
+use crate::turns::{add_idle, outcome_of};
 use elf32_reader::Image;
 use hart::Hart;
 use paged_memory::Snapshot;
@@ -9,7 +10,7 @@ use schedule::Event;
 use std::alloc::{AllocError, Global};
 use std::marker::Model;
 use thread_table::CAPACITY;
-use token::{Need, RunOutcome, Serial, Turn, one_history};
+use token::{Kept, Need, RunOutcome, Start, Turn, one_history};
 use twins::View;
 
 /// A run that goes by written events: workers draw jobs, step them, skip or post them, and turns are taken
@@ -32,16 +33,18 @@ impl Model for World {
 }
 
 impl World {
-    ghost use Rattle.std.specs.Prelude.{◌≡◌, ◌≤◌, ◌<◌, ◌^◌, [], length, IfOk, IfSome, OnOk, OnErr, option_map, slice_get};
+    ghost use Rattle.std.specs.Prelude.{◌≡◌, ◌≤◌, ◌<◌, ◌^◌, length, IfOk, IfErr, IfSome, OnOk, OnErr, option_map, slice_get};
     ghost use Rattle.paged_memory.specs.Snapshot.{cells_of};
     ghost use Rattle.twins.specs.View as views;
     ghost use Rattle.schedule.specs.Phase.{begun, opened};
+    ghost use Rattle.token.specs.History.{History, turns_of};
+    ghost use Rattle.token.specs.RunInTurn.{point_of};
     ghost use Rattle.token.specs.Setup.{setup_of};
     ghost use Rattle.schedule_core.specs.Faults.{IsAnswerTo};
     ghost use Rattle.schedule_core.specs.Histories.{IsTheHistory, IsOutcome};
     ghost use Rattle.schedule_core.specs.Jobs.{jobs_of};
     ghost use Rattle.schedule_core.specs.Stage.{Same, counts_of, point_at, private_of, start_in, tally_of};
-    ghost use Rattle.schedule_core.specs.Tally.{Happens, refusal_of};
+    ghost use Rattle.schedule_core.specs.Tally.{HappenInTurn, Happens, IsRefusedAt, refusal_of};
 
     /// A run of a program with this input, in which each thread may execute `bound` instructions and a segment
     /// ends after `quantum` instructions at the latest, for so many workers. Nothing has happened: no turn is
@@ -61,10 +64,23 @@ impl World {
         requires few { workers ≤ 64 }
         requires some_workers { 0 < workers }
         ensures setup { IfOk result (λ world. (point_at world).setup ≡ setup_of image.now input.now bound quantum) }
-        ensures turns { IfOk result (λ world. (point_at world).turns ≡ []) }
+        ensures done { IfOk result (λ world. (point_at world).done ≡ 0) }
         ensures tally { IfOk result (λ world. tally_of world ≡ record { turns = 0; counts = opened (length (jobs_of (start_in world))) workers; keeper = begun }) }
     {
-        let serial = Serial::open(alloc, image, input, bound, quantum)?;
+        let start = Start::open(alloc, image, input, bound, quantum)?;
+        World::of_start(alloc, start, workers)
+    }
+
+    /// A run of which no turn is done, for so many workers. Nothing has happened, and the first phase is open.
+    pub fn of_start(alloc: Global, start: Start, workers: u32) -> Result<Self, AllocError>
+        requires few { workers ≤ 64 }
+        requires some_workers { 0 < workers }
+        ensures point { IfOk result (λ world. point_at world ≡ point_of start) }
+        ensures done { IfOk result (λ world. (point_at world).done ≡ 0) }
+        ensures tally { IfOk result (λ world. tally_of world ≡ record { turns = 0; counts = opened (length (jobs_of (start_in world))) workers; keeper = begun }) }
+    {
+        let serial = start.recorded_by(Kept::new(alloc));
+        let outcome = outcome_of(&serial);
         let mut seats = Vec::new(alloc);
         seats.reserve(workers as usize)?;
         add_idle(&mut seats, workers as usize);
@@ -77,6 +93,7 @@ impl World {
             seats,
             slots,
             keeper: None,
+            outcome,
         };
         stage.open_phase();
         Ok(World { stage })
@@ -92,11 +109,27 @@ impl World {
         self.stage.apply(event)
     }
 
+    /// Makes events happen in turn, up to the first that is refused. Those before it have happened.
+    ///
+    /// # Errors
+    ///
+    /// The first event that is refused, or for which memory runs out: its place and its fault.
+    pub fn apply_all(&mut self, events: &[Event]) -> Result<(), RefusedEvent>
+        ensures all { OnOk result (HappenInTurn (point_at self.old) (tally_of self.old) events.now (point_at self.new) (tally_of self.new)) }
+        ensures refused { IfErr result (λ refused. IsRefusedAt (point_at self.old) (tally_of self.old) events.now refused.place refused.fault (point_at self.new) (tally_of self.new)) }
+    {
+        for (place, event) in events.iter().enumerate() {
+            if let Err(fault) = self.apply(*event) {
+                return Err(RefusedEvent { place, fault });
+            }
+        }
+        Ok(())
+    }
+
     /// The turns that were done, the first one first. They are those of a legal history, and of it and each
     /// legal history of the same run one is a prefix of the other.
     pub fn turns(&self) -> &[Turn]
-        ensures turns { result.now ≡ (point_at self.now).turns }
-        ensures history { IsTheHistory (point_at self.now) }
+        ensures { (history : History) × IsTheHistory (point_at self.now) history × (turns_of history ≡ result.now) }
     {
         one_history();
         self.stage.serial.turns()
@@ -108,7 +141,6 @@ impl World {
         ensures outcome { IsOutcome (point_at self.now) result }
     {
         one_history();
-        let _turns = self.stage.serial.turns();
         match self.stage.serial.need() {
             Need::Ended(outcome) => Some(outcome),
             _ => None,
@@ -118,7 +150,7 @@ impl World {
     /// The present shared memory: that of the history's last version.
     pub fn now(&self) -> &Snapshot
         ensures memory { cells_of result.now ≡ (point_at self.now).state.memory }
-        ensures history { IsTheHistory (point_at self.now) }
+        ensures history { (history : History) × IsTheHistory (point_at self.now) history }
     {
         let _turns = self.turns();
         self.stage.serial.now()

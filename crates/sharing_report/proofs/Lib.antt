@@ -1,7 +1,13 @@
+pub mod Adding
+pub mod Counted
 pub mod Distinct
 pub mod Neighbours
+pub mod Noting
 pub mod OneReport
 pub mod Partition
+pub mod Places
+pub mod Recorded
 pub mod Rows
+pub mod RowsKept
 pub mod Stable
 pub mod Turns

@@ -36,7 +36,7 @@ two-different t u ts apart =
     (λ q found. member-unique nat_eq_equiv (t ∷ u ∷ ts) q ∙ longer (eqb q t) (eqb q u) (is_member eqb ts q) found))
 
 -- a test that no element passes keeps none
-filter_none : {X : Type 0} (p : X → Bool) (xs : List X) → list_any p xs ≡ false → filter p xs ≡ []
+pub filter_none : {X : Type 0} (p : X → Bool) (xs : List X) → list_any p xs ≡ false → filter p xs ≡ []
 filter_none p [] none = refl
 filter_none p (x ∷ xs) none = step (p x) none (filter_none p xs)
   where
@@ -65,7 +65,7 @@ module _ {K : Type 0} {eq : K → K → Bool} (laws : IsEquivalence eq) where
   single false x = refl
 
   -- the keys at one place, seen from another key there
-  at_same : (q x : K) (marks : List (Mark K)) → eq q x ≡ true →
+  pub at_same : (q x : K) (marks : List (Mark K)) → eq q x ≡ true →
       filter (λ (mark : Mark K). eq q mark.place) marks ≡ filter (λ (mark : Mark K). eq x mark.place) marks
   at_same q x marks equal = filter_agree (λ (mark : Mark K). eq q mark.place) (λ (mark : Mark K). eq x mark.place) (λ mark. laws.congr q x mark.place equal) marks
 
@@ -127,6 +127,16 @@ module _ {K : Type 0} {eq : K → K → Bool} (laws : IsEquivalence eq) where
       step true same = ap (λ (places : List K). y.place ∷ places) same
       step false same = same
 
+  -- a contested place is the place of a mark
+  pub contested_there : (marks : List (Mark K)) (q : K) → (is_member eq (map (λ mark. mark.place) marks) q && is_contested eq marks q) ≡ is_contested eq marks q
+  contested_there marks q = step (is_member eq (map (λ mark. mark.place) marks) q) refl
+    where
+      step : (b : Bool) → is_member eq (map (λ mark. mark.place) marks) q ≡ b → (b && is_contested eq marks q) ≡ is_contested eq marks q
+      step true e = refl
+      step false e =
+          let none : filter (λ mark. eq q mark.place) marks ≡ [] = filter_none (λ mark. eq q mark.place) marks (sym (list_any-map (eq q) (λ (mark : Mark K). mark.place) marks) ∙ e) in
+          sym (ap (λ (kept : List (Mark K)). two_of (map (λ mark. mark.thread) kept)) none)
+
   module _ {cmp : K → K → Ordering} (o : IsTotalOrder cmp) (ties : (x y : K) → eq x y ≡ eq_by_cmp cmp x y) where
     -- of three keys that do not fall the first is apart from the third where it is from the second
     apart_beyond : (a b c : K) (first third : Ordering) → cmp a b ≡ first → cmp a c ≡ third →
@@ -166,16 +176,6 @@ module _ {K : Type 0} {eq : K → K → Bool} (laws : IsEquivalence eq) where
     sorted-neighbours q [] up = refl
     sorted-neighbours q (x ∷ rest) up =
         ap (λ (places : List K). is_member eq places q) (neighbours-cons x rest) ∙ member-after q x rest (runs-from_sorted x rest up)
-
-    -- a contested place is the place of a mark
-    contested_there : (marks : List (Mark K)) (q : K) → (is_member eq (map (λ mark. mark.place) marks) q && is_contested eq marks q) ≡ is_contested eq marks q
-    contested_there marks q = step (is_member eq (map (λ mark. mark.place) marks) q) refl
-      where
-        step : (b : Bool) → is_member eq (map (λ mark. mark.place) marks) q ≡ b → (b && is_contested eq marks q) ≡ is_contested eq marks q
-        step true e = refl
-        step false e =
-            let none : filter (λ mark. eq q mark.place) marks ≡ [] = filter_none (λ mark. eq q mark.place) marks (sym (list_any-map (eq q) (λ (mark : Mark K). mark.place) marks) ∙ e) in
-            sym (ap (λ (kept : List (Mark K)). two_of (map (λ mark. mark.thread) kept)) none)
 
     -- the contested neighbours of sorted marks are the contested places
     pub contested_count-sorted : (marks sorted : List (Mark K)) → IsSortedByKey (λ (mark : Mark K). mark.place) cmp sorted → IsStableByKey (λ (mark : Mark K). mark.place) cmp marks sorted →

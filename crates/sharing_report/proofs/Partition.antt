@@ -7,15 +7,15 @@ use Rattle.sharing_report.specs.declared.byte_change.ByteChange.{ByteChange}
 
 module _ {X : Type 0} where
   -- the elements before the first that fails a test, where no later one passes it
-  partition_front : (p : X → Bool) (xs : List X) (i : ℕ) → ((k : ℕ) (d : X) → k < i → p (slice_index_or xs k d) ≡ true) →
+  partition_prefix : (p : X → Bool) (xs : List X) (i : ℕ) → ((k : ℕ) (d : X) → k < i → p (slice_index_or xs k d) ≡ true) →
       ((k : ℕ) (d : X) → i ≤ k → k < length xs → p (slice_index_or xs k d) ≡ false) → take i xs ≡ filter p xs
-  partition_front p [] zero passing failing = refl
-  partition_front p [] (suc i) passing failing = refl
-  partition_front p (x ∷ xs) zero passing failing =
+  partition_prefix p [] zero passing failing = refl
+  partition_prefix p [] (suc i) passing failing = refl
+  partition_prefix p (x ∷ xs) zero passing failing =
       sym (ap (λ (b : Bool). cond b (x ∷ filter p xs) (filter p xs)) (failing 0 x (omega arith) (omega arith))
-      ∙ sym (partition_front p xs zero (λ k d h. absurd (omega arith)) (λ k d lo hi. failing (suc k) d (omega arith) (omega arith))))
-  partition_front p (x ∷ xs) (suc i) passing failing =
-      ap (λ (ys : List X). x ∷ ys) (partition_front p xs i (λ k d h. passing (suc k) d (omega arith)) (λ k d lo hi. failing (suc k) d (omega arith) (omega arith)))
+      ∙ sym (partition_prefix p xs zero (λ k d h. absurd (omega arith)) (λ k d lo hi. failing (suc k) d (omega arith) (omega arith))))
+  partition_prefix p (x ∷ xs) (suc i) passing failing =
+      ap (λ (ys : List X). x ∷ ys) (partition_prefix p xs i (λ k d h. passing (suc k) d (omega arith)) (λ k d lo hi. failing (suc k) d (omega arith) (omega arith)))
       ∙ sym (ap (λ (b : Bool). cond b (x ∷ filter p xs) (filter p xs)) (passing 0 x (omega arith)))
 
   -- and the elements from there on
@@ -50,7 +50,7 @@ pub page_run : (bytes : List ByteChange) (page end start : ℕ) →
 unfolding bytes_of_page
 page_run bytes page end start up_to below =
     partition_back (λ byte. ltb byte.page page) (take end bytes) start (λ k d h. below.0 k d (omega arith) h) below.1
-    ∙ ap (filter (λ byte. not (ltb byte.page page))) (partition_front (λ byte. leb byte.page page) bytes end (λ k d h. up_to.0 k d (omega arith) h) up_to.1)
+    ∙ ap (filter (λ byte. not (ltb byte.page page))) (partition_prefix (λ byte. leb byte.page page) bytes end (λ k d h. up_to.0 k d (omega arith) h) up_to.1)
     ∙ filter_twice (λ byte. leb byte.page page) (λ byte. not (ltb byte.page page)) (λ byte. eqb byte.page page) (λ byte. exactly byte.page) bytes
   where
     exactly : (n : ℕ) → (leb n page && not (ltb n page)) ≡ eqb n page

@@ -1,4 +1,4 @@
-use Rattle.std.specs.Prelude.{ℕ, ◌*◌, ◌==◌, List, map, filter}
+use Rattle.std.specs.Prelude.{ℕ, ◌*◌, ◌==◌, List, [], map, filter}
 use Rattle.std.specs.List.{enumerate_from, flat_map}
 use Rattle.guest_memory.specs.Layout.{page_of, page_size}
 use Rattle.token.specs.Change.{Change}
@@ -20,3 +20,11 @@ bytes_of changes = flat_map (λ (turn, change). bytes_of_turn turn change) (enum
 -- those of a page
 unfoldable pub bytes_of_page : (page : ℕ) → List ByteChange → List ByteChange
 bytes_of_page page = filter (λ byte. byte.page == page)
+
+-- the change of the byte at an address by a turn of this phase and thread
+abbrev pub byte_by : (turn phase thread address : ℕ) → ByteChange
+byte_by turn phase thread address = byte_change turn (record { phase = phase; thread = thread; addresses = [] }) address
+
+-- and those at some addresses
+abbrev pub bytes_by : (turn phase thread : ℕ) → List ℕ → List ByteChange
+bytes_by turn phase thread addresses = map (byte_by turn phase thread) addresses

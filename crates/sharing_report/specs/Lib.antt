@@ -1,4 +1,8 @@
 pub mod ByteChanges
+pub mod Changers
 pub mod Contested
+pub mod Pages
+pub mod Recording
 pub mod Sharing
+pub mod Tallies
 pub mod Texts

@@ -1,3 +1,4 @@
+pub mod Begins
 pub mod Committing
 pub mod Complete
 pub mod Dues
@@ -11,6 +12,7 @@ pub mod LawfulTurn
 pub mod Longer
 pub mod Needs
 pub mod NextStep
+pub mod OneBeginning
 pub mod OneHistory
 pub mod OneStep
 pub mod Outputs
@@ -19,7 +21,6 @@ pub mod SameThreads
 pub mod SegmentEnds
 pub mod SerialList
 pub mod Standing
-pub mod Start
 pub mod Statuses
 pub mod TurnThere
 pub mod Versions

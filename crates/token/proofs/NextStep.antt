@@ -31,7 +31,7 @@ use Rattle.token.specs.declared.segment_end.SegmentEnd.{SegmentEnd}
 use Rattle.token.proofs.Dues.{keeper_is, keeper_ready, ready_is}
 use Rattle.token.proofs.Duties.{due_is, has_due}
 use Rattle.token.proofs.Followers.{follower}
-use Rattle.token.proofs.Standing.{stands_next, turns_len}
+use Rattle.token.proofs.Standing.{stands_next}
 use Rattle.token.proofs.Versions.{version_last}
 
 -- the base of who is due
@@ -44,9 +44,6 @@ record IsBase (point : Point) (who : Due) (number : ℕ) (base : State) : Type 0
 last_is : (point : Point) (history : History) → StandsAfter point history → version point.setup history (length history) ≡ point.state
 last_is point history stands = version_last point.setup history ∙ stands.state
 
-turns_are : (point : Point) (history : History) → StandsAfter point history → length history ≡ length point.turns
-turns_are point history stands = sym (turns_len history) ∙ ap length stands.turns
-
 base_is : (point : Point) (history : History) → StandsAfter point history → (who : Due)
     → IsBase point who (base_of history point.phase who) (version point.setup history (base_of history point.phase who))
 base_is point history stands (due.Fresh thread) =
@@ -58,10 +55,10 @@ base_is point history stands (due.Fresh thread) =
     }
 base_is point history stands (due.Keeper thread) =
     let there = last_is point history stands in
-    record { number_is = turns_are point history stands; memory = ap (λ (state : State). state.memory) there; threads = ap (λ (state : State). state.threads) there }
+    record { number_is = stands.done; memory = ap (λ (state : State). state.memory) there; threads = ap (λ (state : State). state.threads) there }
 base_is point history stands (due.Woken thread mutex) =
     let there = last_is point history stands in
-    record { number_is = turns_are point history stands; memory = ap (λ (state : State). state.memory) there; threads = ap (λ (state : State). state.threads) there }
+    record { number_is = stands.done; memory = ap (λ (state : State). state.memory) there; threads = ap (λ (state : State). state.threads) there }
 
 -- the row of a thread, by the threads of its state
 same_row : (state other : State) (thread : ℕ) → state.threads ≡ other.threads → row_of state thread ≡ row_of other thread
@@ -158,9 +155,9 @@ unfolding woken_step
 wake_follows point history stands (due.Fresh thread) is cut needed = absurd needed
 wake_follows point history stands (due.Keeper thread) is cut needed = absurd needed
 wake_follows point history stands (due.Woken thread mutex) is cut needed =
-    let same : wake_step (present point.setup history) point.phase thread (length history) mutex ≡ wake_step point.state point.phase thread (length point.turns) mutex =
+    let same : wake_step (present point.setup history) point.phase thread (length history) mutex ≡ wake_step point.state point.phase thread point.done mutex =
     ap (λ (now : State). wake_step now point.phase thread (length history) mutex) stands.state
-    ∙ ap (λ (n : ℕ). wake_step point.state point.phase thread n mutex) (turns_are point history stands) in
+    ∙ ap (λ (n : ℕ). wake_step point.state point.phase thread n mutex) (stands.done) in
     subst (Follows point.setup history) same (follower point.setup history point.phase (due.Woken thread mutex) tt is tt cut)
 
 pub step_follows : (point : Point) (history : History) (end : Option SegmentEnd) → StandsAfter point history → Invariants point → IsNeededAt point end → Follows point.setup history (step_at point end)

@@ -8,10 +8,10 @@ use Rattle.thread_table.specs.Threads.{serial_list}
 use Rattle.thread_table.specs.declared.status.Status.{Status}
 use Rattle.thread_table.specs.declared.status.Status.TheVariants.{Ready, Woken, Blocked, Done}
 use Rattle.thread_table.specs.declared.thread.Thread.{Thread}
-use Rattle.token.specs.History.{History, first_version, heads, is_quiet, keeper_of, keeps, last_outcome, list_of, outcome, phase_of, present, same_threads, thread_of, turns_of, version, change_of, changes_of}
+use Rattle.token.specs.History.{History, first_version, heads, is_quiet, keeper_of, keeps, last_outcome, list_of, outcome, phase_of, present, same_threads, thread_of, version}
 use Rattle.token.specs.Legal.{Follows, IsLegal}
 use Rattle.token.specs.Outcome.{quiet_outcome}
-use Rattle.token.specs.Point.{Point, after_step, due_at, due_by, due_next, keeper_after, moved, next_phase, passed_on, recorded}
+use Rattle.token.specs.Point.{Point, after_step, counted, due_at, due_by, due_next, keeper_after, moved, next_phase, passed_on}
 use Rattle.token.specs.Serial.{Invariants, StandsAfter}
 use Rattle.token.specs.Setup.{Setup}
 use Rattle.call_table.specs.State.{State, row_of}
@@ -27,8 +27,7 @@ use Rattle.token.proofs.Versions.{first_version_kept, first_version_next, first_
 -- a run stands after a history in the phase of its last turn
 pub record StandsIn (point : Point) (history : History) : Type 0 where
   pub legal : IsLegal point.setup history
-  pub turns : turns_of history ≡ point.turns
-  pub changes : changes_of history ≡ point.changes
+  pub done : length history ≡ point.done
   pub state : present point.setup history ≡ point.state
   pub first : first_version history point.phase ≡ point.first
   pub base : (version point.setup history point.first).memory ≡ point.base
@@ -39,7 +38,7 @@ pub record StandsIn (point : Point) (history : History) : Type 0 where
   pub ended : last_outcome history ≡ point.ended
   pub phase : point.phase ≡ phase_of history
   pub within : point.given ≤ length point.list
-  pub number : point.phase ≤ length point.turns
+  pub number : point.phase ≤ point.done
   pub bound : point.setup.bound ≤ limit.instructions
   pub fresh : point.fresh_from ≤ length point.state.output
 
@@ -54,11 +53,6 @@ pub list_is : (setup : Setup) (history : History) (phase first : ℕ) (threads :
 unfolding list_of
 list_is setup history phase first threads list begins has lists =
     ap (λ number. serial_list (version setup history number).threads) begins ∙ ap serial_list has ∙ lists
-
-pub turns_len : (history : History) → length (turns_of history) ≡ length history
-unfolding turns_of
-turns_len [] = refl
-turns_len (step ∷ before) = let rest = turns_len before in length-append (turns_of before) (step.turn ∷ []) ∙ omega arith
 
 -- one step
 
@@ -86,7 +80,7 @@ keeper_made history step = refl
 
 stands_in : (point : Point) (history : History) (step : Step) → StandsAfter point history → Invariants point → Follows point.setup history step → step.turn.phase ≡ point.phase
     → step.turn.thread ≡ thread_due (due_at point) → (point.keeper ≡ None → point.given < length point.list) → StandsIn (after_step point step) (step ∷ history)
-unfolding after_step recorded IsLegal turns_of changes_of present last_outcome phase_of due_at
+unfolding after_step counted IsLegal present last_outcome phase_of due_at
 stands_in point history step stands holds follows same thread listed =
     let begins : first_version (step ∷ history) point.phase ≡ point.first = first_version_kept history step point.phase (omega arith) ∙ stands.first in
     let first : point.first ≤ length history = subst (λ n. n ≤ length history) stands.first (first_version_within history point.phase) in
@@ -94,8 +88,7 @@ stands_in point history step stands holds follows same thread listed =
     let grows = output_grows point.setup history step follows in
     record {
       legal = (follows, stands.legal);
-      turns = ap (λ turns. turns ++ step.turn ∷ []) stands.turns;
-      changes = ap (λ changes. changes ++ change_of step ∷ []) stands.changes;
+      done = let done = stands.done in omega arith;
       state = refl;
       first = begins;
       base = ap (λ state. state.memory) base ∙ stands.base;
@@ -106,7 +99,7 @@ stands_in point history step stands holds follows same thread listed =
       keeper = keeper_made history step;
       ended = refl;
       phase = sym same;
-      number = simp length-append (omega (arith, holds.number));
+      number = let number = holds.number in omega arith;
       bound = holds.bound;
       fresh = output_within point.setup history step.after point.state stands.state grows.more grows.is;
     }
@@ -166,8 +159,7 @@ goes point history stands on =
     let ended : outcome point.setup history ≡ point.ended = outcome_of_last (last_outcome history) (is_quiet point.setup history) _ (lively_by point history stands on (keeps history) refl) ∙ stands.ended in (
       record {
         legal = stands.legal;
-        turns = stands.turns;
-        changes = stands.changes;
+        done = stands.done;
         state = stands.state;
         first = stands.first;
         base = stands.base;
@@ -216,8 +208,7 @@ ends point history stands running quiet =
     let last : last_outcome history ≡ None = stands.ended ∙ running in (
       record {
         legal = stands.legal;
-        turns = stands.turns;
-        changes = stands.changes;
+        done = stands.done;
         state = stands.state;
         first = stands.first;
         base = stands.base;
@@ -242,25 +233,23 @@ ends point history stands running quiet =
 begins : (point : Point) (history : History) → StandsIn point history → point.ended ≡ None → point.keeper ≡ None → length point.list ≤ point.given
     → is_quiet point.setup history ≡ false → (length (serial_list point.state.threads) == 0) ≡ false
     → Stands
-    (record point { phase = point.phase + 1; first = length point.turns; base = point.state.memory; base_threads = point.state.threads; list = serial_list point.state.threads; given = 0 })
+    (record point { phase = point.phase + 1; first = point.done; base = point.state.memory; base_threads = point.state.threads; list = serial_list point.state.threads; given = 0 })
     history
 unfolding outcome
 begins point history stands running free used lively filled =
     let phase : point.phase + 1 ≡ suc (phase_of history) = let same = stands.phase in omega arith in
     let above : phase_of history < point.phase + 1 = omega arith in
-    let number : length history ≡ length point.turns = sym (turns_len history) ∙ ap length stands.turns in
     let last : last_outcome history ≡ None = stands.ended ∙ running in
-    let there : version point.setup history (length point.turns) ≡ point.state =
-    ap (version point.setup history) (sym number) ∙ version_last point.setup history ∙ stands.state in
+    let there : version point.setup history point.done ≡ point.state =
+    ap (version point.setup history) (sym stands.done) ∙ version_last point.setup history ∙ stands.state in
     let some : length (serial_list point.state.threads) ≡ 0 → ⊥ = eqb-false _ _ filled in
     let all : take point.given point.list ≡ point.list = take_all point.given point.list used in
     let ended : outcome point.setup history ≡ point.ended = rw (last, lively) (sym running) in (
       record {
         legal = stands.legal;
-        turns = stands.turns;
-        changes = stands.changes;
+        done = stands.done;
         state = stands.state;
-        first = first_version_next point.setup history (point.phase + 1) stands.legal above ∙ number;
+        first = first_version_next point.setup history (point.phase + 1) stands.legal above ∙ stands.done;
         base = ap (λ state. state.memory) there;
         base_threads = ap (λ state. state.threads) there;
         list = refl;
@@ -293,7 +282,7 @@ next_stands point history stands over =
         → (length (serial_list point.state.threads) == 0) ≡ empty
         → Stands
         (if empty then record point { ended = Some (quiet_outcome point.state) }
-        else record point { phase = point.phase + 1; first = length point.turns; base = point.state.memory; base_threads = point.state.threads; list = serial_list point.state.threads; given = 0 })
+        else record point { phase = point.phase + 1; first = point.done; base = point.state.memory; base_threads = point.state.threads; list = serial_list point.state.threads; given = 0 })
         history
     by_list point history stands running free used true is =
         ends point history stands running (quiet_if point history stands (no_keeper history (stands.keeper ∙ free)) used true is)

@@ -93,6 +93,12 @@ pub record IsNextOfList (setup : Setup) (before : History) (phase : ℕ) (thread
   pub next : list_of setup before phase ≡ heads before phase ++ thread ∷ rest
   pub current : (phase ≡ phase_of before) ⊎ ((phase ≡ suc (phase_of before)) × (list_of setup before (phase_of before) ≡ heads before (phase_of before)))
 
+-- A phase is the one that the next turn is of: that of the last turn, or the one after it where its list is used up.
+abbrev pub IsNextPhase : Setup → History → ℕ → Type 0
+IsNextPhase setup history phase =
+    (phase ≡ phase_of history)
+    ⊎ ((phase ≡ suc (phase_of history)) × (keeps history ≡ false) × (list_of setup history (phase_of history) ≡ heads history (phase_of history)))
+
 -- whether two lists of threads are the same
 unfoldable pub same_threads : List ℕ → List ℕ → Bool
 same_threads [] [] = true

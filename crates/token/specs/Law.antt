@@ -1,7 +1,7 @@
--- The law of one history: determinism, progress and mutual exclusion.
+-- The law of one history: determinism, progress, mutual exclusion, and one beginning of each phase.
 use Rattle.std.specs.Prelude.{◌≡◌, ◌⊎◌, ℕ, true, Some, None}
 use Rattle.condvar_barrier.specs.Objects.{holds_mutex}
-use Rattle.token.specs.History.{History, IsPrefix, IsHeldByKeeper, keeper_of, outcome, present}
+use Rattle.token.specs.History.{History, IsPrefix, IsHeldByKeeper, IsNextPhase, first_version, keeper_of, outcome, present, version}
 use Rattle.token.specs.Legal.{Follows, IsLegal}
 use Rattle.token.specs.Setup.{Setup}
 use Rattle.token.specs.Turns.{Step}
@@ -27,3 +27,8 @@ pub record MutualExclusion : Type 0 where
   -- No turn finds a mutex held by another thread than its own.
   pub none_else : (setup : Setup) (history : History) (step : Step) → IsLegal setup history → Follows setup history step
       → (thread mutex : ℕ) → holds_mutex (present setup history).objects thread mutex ≡ true → thread ≡ step.turn.thread
+
+pub record OneBeginning : Type 0 where
+  -- Wherever in a phase two legal histories of one setup end, the phase began with the same version in both.
+  pub begins : (setup : Setup) (one other : History) (phase : ℕ) → IsLegal setup one → IsLegal setup other → IsNextPhase setup one phase → IsNextPhase setup other phase
+      → version setup one (first_version one phase) ≡ version setup other (first_version other phase)

@@ -1,6 +1,7 @@
 pub mod Change
 pub mod Due
 pub mod History
+pub mod Kept
 pub mod Law
 pub mod Legal
 pub mod Next

@@ -1,9 +1,9 @@
 -- Where a run stands between two turns, and what a turn makes of that.
-use Rattle.std.specs.Prelude.{◌≡◌, ℕ, ◌+◌, ◌-◌, ◌&&◌, ◌||◌, not, ◌==◌, nat_lt, if◌then◌else◌, Option, Some, None, is_some, List, [], ◌∷◌, ◌++◌, length, slice_index}
+use Rattle.std.specs.Prelude.{◌≡◌, ℕ, ◌+◌, ◌-◌, ◌&&◌, ◌||◌, not, ◌==◌, nat_lt, if◌then◌else◌, Option, Some, None, is_some, List, length, slice_index}
 use Rattle.guest_memory.specs.Memory.{Memory}
 use Rattle.commit.specs.Changed.{addresses_of}
 use Rattle.commit.specs.Merge.{changes}
-use Rattle.commit.specs.Patched.{patched}
+use Rattle.commit.specs.Patched.{PageChange, patched}
 use Rattle.condvar_barrier.specs.Objects.{holds}
 use Rattle.hart.specs.Segment.{Segment}
 use Rattle.thread_table.specs.Status.{is_ready}
@@ -13,9 +13,7 @@ use Rattle.thread_table.specs.declared.status.Status.TheVariants.{Woken}
 use Rattle.thread_table.specs.declared.thread.Thread.{Thread}
 use Rattle.call_table.specs.CommitAndWake.{committed_bytes}
 use Rattle.call_table.specs.State.{State, row_of}
-use Rattle.token.specs.Change.{Change}
 use Rattle.token.specs.Due.{thread_due, mutex_due}
-use Rattle.token.specs.History.{change_of}
 use Rattle.token.specs.Outcome.{outcome_of_stop, quiet_outcome}
 use Rattle.token.specs.Setup.{Setup}
 use Rattle.token.specs.Turns.{Step, Stopped, after_stop, wake_step}
@@ -31,7 +29,7 @@ use Rattle.token.specs.declared.turn.TurnStop.{TurnStop}
 
 -- What stands between two turns: what the run was given, the phase of the next turn, the number of the phase's first version with its
 -- memory and threads, the phase's list and how many of it were given the token, who keeps the token, how the run ended, the
--- state, the turns with their changes, and how long the output was before the last turn.
+-- state, how many turns were done, and how long the output was before the last turn.
 pub record Point : Type 0 where
   pub setup : Setup
   pub phase : ℕ
@@ -43,8 +41,7 @@ pub record Point : Type 0 where
   pub keeper : Option ℕ
   pub ended : Option RunOutcome
   pub state : State
-  pub turns : List Turn
-  pub changes : List Change
+  pub done : ℕ
   pub fresh_from : ℕ
 
 -- who is due: the keeper, or the next of the list
@@ -68,8 +65,8 @@ base_at point (due.Woken thread mutex) = point.state
 -- the base's number
 abbrev pub base_number_at : Point → Due → ℕ
 base_number_at point (due.Fresh thread) = point.first
-base_number_at point (due.Keeper thread) = length point.turns
-base_number_at point (due.Woken thread mutex) = length point.turns
+base_number_at point (due.Keeper thread) = point.done
+base_number_at point (due.Woken thread mutex) = point.done
 
 -- the segment of a thread from a base
 abbrev pub work_from : Setup → State → ℕ → Option ℕ → Work
@@ -95,6 +92,11 @@ pub record IsEndOf (copy : Memory) (work : Work) (end : SegmentEnd) : Type 0 whe
   pub memory : Memory
   pub patch : patched end.patch ≡ changes copy memory
   pub segment : Segment work.hart copy work.left work.quantum end.stop end.count end.hart memory
+
+-- the patch of a segment's end, none at a wake
+abbrev pub patch_of : Option SegmentEnd → Option (List PageChange)
+patch_of None = None
+patch_of (Some end) = Some end.patch
 
 -- the end is what the next turn needs
 abbrev pub IsNeededBy : Point → Need → Option SegmentEnd → Type 0
@@ -139,27 +141,26 @@ unfoldable pub keeper_after : State → ℕ → TurnStop → Option ℕ
 keeper_after state thread stop =
     if not (is_some (outcome_of_stop thread stop)) && (is_ready (row_of state thread).status && holds state.objects thread) then Some thread else None
 
--- where a turn with its change is written down, once the state is the one after it
-unfoldable pub recorded : Point → Turn → Change → ℕ → Point
-recorded point turn change fresh_from =
+-- where a turn is counted, once the state is the one after it
+unfoldable pub counted : Point → Turn → ℕ → Point
+counted point turn fresh_from =
     record point {
       given = if is_some point.keeper then point.given else point.given + 1;
       keeper = keeper_after point.state turn.thread turn.stop;
       ended = outcome_of_stop turn.thread turn.stop;
-      turns = point.turns ++ turn ∷ [];
-      changes = point.changes ++ change ∷ [];
+      done = point.done + 1;
       fresh_from = fresh_from;
     }
 
 -- where a run stands after a step, in the same phase
 unfoldable pub after_step : Point → Step → Point
-after_step point step = recorded (record point { state = step.after }) step.turn (change_of step) (length point.state.output)
+after_step point step = counted (record point { state = step.after }) step.turn (length point.state.output)
 
 -- the next phase, or the end where nobody has a turn
 unfoldable pub next_phase : Point → List ℕ → Point
 next_phase point list =
     if length list == 0 then record point { ended = Some (quiet_outcome point.state) }
-    else record point { phase = point.phase + 1; first = length point.turns; base = point.state.memory; base_threads = point.state.threads; list = list; given = 0 }
+    else record point { phase = point.phase + 1; first = point.done; base = point.state.memory; base_threads = point.state.threads; list = list; given = 0 }
 
 -- the next phase begins where the list is used up
 unfoldable pub passed_on : Point → Point

@@ -1,6 +1,5 @@
 -- What the fields of a run say.
-use Rattle.std.specs.Prelude.{◌≡◌, ◌-◌, ◌<◌, ◌≤◌, Option, Some, None, IsSome, length, vec_len, slice_index}
-use Rattle.std.specs.Vec.{vec_capacity}
+use Rattle.std.specs.Prelude.{◌≡◌, ◌-◌, ◌<◌, ◌≤◌, Option, Some, None, length, slice_index}
 use Rattle.abi.specs.Limits as limit
 use Rattle.guest_memory.specs.Memory.{Memory}
 use Rattle.paged_memory.specs.Snapshot.{cells_of}
@@ -32,16 +31,9 @@ point_of run =
       keeper = run.keeper;
       ended = run.outcome;
       state = state_of run.shared;
-      turns = run.turns.items;
-      changes = run.changes.items;
+      done = run.done;
       fresh_from = run.fresh_from;
     }
-
--- there is room for a turn
-pub record HasRoom (run : RunInTurn) : Type 0 where
-  pub turns : vec_len run.turns < vec_capacity run.turns
-  pub changes : vec_len run.changes < vec_capacity run.changes
-  pub base : IsSome run.phase.base
 
 -- somebody is due, and is one of the threads, now and in its base
 pub record HasDue (point : Point) : Type 0 where

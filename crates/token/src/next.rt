@@ -4,6 +4,7 @@ ghost use Rattle.token.specs.RunInTurn.{point_of};
 
 use crate::need::Need;
 use crate::outcome::RunOutcome;
+use crate::recorder::Recorder;
 use crate::segment_end::SegmentEnd;
 use crate::serial::Serial;
 use std::alloc::AllocError;
@@ -19,7 +20,7 @@ pub enum Next {
 
 /// What the next turn of a run needs. The segment is executed here, where it needs one. The run is only read.
 #[tactic(auto, using(crate::proofs::Needs::needs))]
-pub fn next_turn(serial: &Serial) -> Result<Next, AllocError>
+pub fn next_turn<R: Recorder>(serial: &Serial<R>) -> Result<Next, AllocError>
     ensures { IfOk result (IsNext (point_of serial.now)) }
 {
     match serial.need() {

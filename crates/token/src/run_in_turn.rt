@@ -1,8 +1,7 @@
 //! A run and its turns.
 #![tactic(auto, unfolding(crate::specs::RunInTurn::point_of))]
 
-ghost use Rattle.std.specs.Prelude.{◌≡◌, ◌+◌, ◌^◌, ◌<◌, ◌++◌, [], ◌∷◌, None, Some, length, vec_len, OnOk, OnErr, option_map};
-ghost use Rattle.std.specs.Vec.{vec_capacity};
+ghost use Rattle.std.specs.Prelude.{◌≡◌, ◌+◌, ◌^◌, ◌<◌, None, Some, IsSome, length, IfOk, OnOk, OnErr, option_map};
 ghost use Rattle.abi.specs.Limits as limit;
 ghost use Rattle.token.specs.Point as point;
 
@@ -13,20 +12,21 @@ use crate::phase::Phase;
 use crate::segment_end::SegmentEnd;
 use crate::segment_turn::run_on;
 use crate::turn::{Turn, TurnStop};
-use crate::turn_change::TurnChange;
 use crate::verdict::{keeper_after, outcome_of_stop, quiet_outcome};
 use call_table::SharedState;
-use commit::changed_addresses;
+use commit::changed;
 use paged_memory::Snapshot;
-use std::alloc::{AllocError, Global};
+use std::alloc::AllocError;
 use thread_table::{Status, Thread};
 
-/// A run, also in the middle of a turn. There its state may be one turn ahead of the turns that are written down,
-/// so the fact that a `Serial` keeps of it doesn't hold: each method here says what it makes of the point where
+/// More turns than this are refused as if memory ran out. No run comes near it: that would take thousands of years.
+pub(crate) const MOST_TURNS: u64 = 1 << 63;
+
+/// A run, also in the middle of a turn. There its state may be one turn ahead of the turns that are counted and
+/// recorded, so the fact that a `Serial` keeps of it doesn't hold: each method here says what it makes of the point where
 /// the run stands, and `Serial` hands its calls on to them.
 #[derive(Drop)]
 pub struct RunInTurn {
-    pub(crate) alloc: Global,
     pub(crate) entry: u32,
     /// The memory at the start.
     pub(crate) first: Snapshot,
@@ -37,8 +37,8 @@ pub struct RunInTurn {
     /// The thread that keeps the token.
     pub(crate) keeper: Option<u32>,
     pub(crate) outcome: Option<RunOutcome>,
-    pub(crate) turns: Vec<Turn>,
-    pub(crate) changes: Vec<TurnChange>,
+    /// How many turns were done.
+    pub(crate) done: u64,
     /// How long the output was before the last turn.
     pub(crate) fresh_from: usize,
 }
@@ -49,7 +49,7 @@ impl RunInTurn {
     ghost use Rattle.call_table.specs.Shared.{state_of};
     ghost use Rattle.call_table.specs.State.{row_of};
     ghost use Rattle.token.specs.Due.{thread_due};
-    ghost use Rattle.token.specs.RunInTurn.{point_of, HasRoom, HasDue, CanRun, MayTurn};
+    ghost use Rattle.token.specs.RunInTurn.{point_of, HasDue, CanRun, MayTurn};
     ghost use Rattle.commit.specs.Patched.{patched};
 
     /// The memory that the present phase began with.
@@ -97,7 +97,7 @@ impl RunInTurn {
     {
         match due {
             Due::Fresh { .. } => self.phase.first,
-            Due::Keeper { .. } | Due::Woken { .. } => self.turns.len() as u64,
+            Due::Keeper { .. } | Due::Woken { .. } => self.done,
         }
     }
 
@@ -133,31 +133,32 @@ impl RunInTurn {
         }
     }
 
-    /// Does the next turn, with this end of the segment that it needs.
-    #[tactic(auto, unfolding(crate::specs::RunInTurn::point_of, crate::specs::Point::after_step, crate::specs::Point::recorded))]
-    pub(crate) fn turn(&mut self, end: Option<&SegmentEnd>) -> Result<(), AllocError>
+    /// Does the next turn, with this end of the segment that it needs, and answers it.
+    #[tactic(auto, unfolding(crate::specs::RunInTurn::point_of, crate::specs::Point::after_step, crate::specs::Point::counted))]
+    pub(crate) fn turn(&mut self, end: Option<&SegmentEnd>) -> Result<Turn, AllocError>
         requires due { HasDue (point_of self.old) }
         requires ready { MayTurn (point_of self.old) (option_map (λ end. end.now) end) }
         requires phase { (point_of self.old).phase + 1 < 2 ^ 64 }
+        requires done { (point_of self.old).done + 1 < 2 ^ 64 }
+        ensures turn { IfOk result (λ turn. turn ≡ (point.step_at (point_of self.old) (option_map (λ end. end.now) end.entry)).turn) }
         ensures moved { OnOk result (point_of self.new ≡ point.moved (point_of self.old) (point.step_at (point_of self.old) (option_map (λ end. end.now) end.entry))) }
         ensures kept { OnErr result (point_of self.new ≡ point_of self.old) }
     {
-        self.make_room()?;
-        match end {
+        self.keep_base()?;
+        let turn = match end {
             Some(end) => self.run_turn(end)?,
             None => self.wake_turn(),
-        }
+        };
         self.pass_on();
-        Ok(())
+        Ok(turn)
     }
 
-    /// Makes room for a turn.
-    fn make_room(&mut self) -> Result<(), AllocError>
-        ensures room { OnOk result (HasRoom self.new) }
-        ensures kept { point_of self.new ≡ point_of self.old }
+    /// Keeps the memory that the phase began with, before it is changed.
+    fn keep_base(&mut self) -> Result<(), AllocError>
+        ensures kept { OnOk result (IsSome self.new.phase.base) }
+        ensures point { point_of self.new ≡ point_of self.old }
+        ensures done { self.new.done ≡ self.old.done }
     {
-        self.turns.reserve(1)?;
-        self.changes.reserve(1)?;
         if self.phase.base.is_none() {
             let base = self.shared.memory().try_clone()?;
             self.phase.base = Some(base);
@@ -167,11 +168,13 @@ impl RunInTurn {
 
     /// The turn of a woken thread.
     #[tactic(auto, unfolding(crate::specs::RunInTurn::point_of, crate::specs::Point::after_step, crate::specs::Point::woken_step, crate::specs::Turns::wake_step))]
-    fn wake_turn(&mut self)
+    fn wake_turn(&mut self) -> Turn
         requires due { HasDue (point_of self.old) }
         requires woken { MayTurn (point_of self.old) None }
-        requires room { HasRoom self.old }
-        ensures { point_of self.new ≡ point.after_step (point_of self.old) (point.woken_step (point_of self.old) (point.due_at (point_of self.old))) }
+        requires base { IsSome self.old.phase.base }
+        requires done { (point_of self.old).done + 1 < 2 ^ 64 }
+        ensures turn { result ≡ (point.woken_step (point_of self.old) (point.due_at (point_of self.old))).turn }
+        ensures moved { point_of self.new ≡ point.after_step (point_of self.old) (point.woken_step (point_of self.old) (point.due_at (point_of self.old))) }
     {
         let due = self.due();
         let turn = Turn {
@@ -184,21 +187,23 @@ impl RunInTurn {
         };
         let fresh_from = self.shared.output().len();
         self.shared.wake(due.thread(), due.mutex());
-        self.record(turn, Vec::new(self.alloc), fresh_from);
+        self.count(&turn, fresh_from);
+        turn
     }
 
     /// The turn of a thread whose segment ended.
     #[tactic(auto, unfolding(crate::specs::RunInTurn::point_of, crate::specs::Point::after_step, crate::specs::Point::ran_step))]
-    fn run_turn(&mut self, end: &SegmentEnd) -> Result<(), AllocError>
+    fn run_turn(&mut self, end: &SegmentEnd) -> Result<Turn, AllocError>
         requires due { HasDue (point_of self.old) }
         requires ready { CanRun (point_of self.old) end.now }
-        requires room { HasRoom self.old }
+        requires base { IsSome self.old.phase.base }
+        requires done { (point_of self.old).done + 1 < 2 ^ 64 }
+        ensures turn { IfOk result (λ turn. turn ≡ (point.ran_step (point_of self.old) (point.due_at (point_of self.old)) end.now).turn) }
         ensures moved { OnOk result (point_of self.new ≡ point.after_step (point_of self.old) (point.ran_step (point_of self.old) (point.due_at (point_of self.old)) end.now)) }
         ensures kept { OnErr result (point_of self.new ≡ point_of self.old) }
     {
         let due = self.due();
         let executed = self.base_row(due).executed + end.count;
-        let addresses = changed_addresses(self.alloc, &end.patch)?;
         let fresh_from = self.shared.output().len();
         let base = self.base_number(due);
         let stop = run_on(&mut self.shared, due.thread(), end, executed)?;
@@ -207,20 +212,21 @@ impl RunInTurn {
             thread: due.thread(),
             base,
             stop,
-            changed: addresses.len() as u64,
+            changed: changed(&end.patch),
             ran: end.count,
         };
-        self.record(turn, addresses, fresh_from);
-        Ok(())
+        self.count(&turn, fresh_from);
+        Ok(turn)
     }
 
-    /// Writes a turn down, once the state is the one after it.
-    #[tactic(auto, unfolding(crate::specs::RunInTurn::point_of, crate::specs::Point::recorded))]
-    fn record(&mut self, turn: Turn, addresses: Vec<u32>, fresh_from: usize)
-        requires room { HasRoom self.old }
-        requires thread { turn.thread < length (state_of self.old.shared).threads }
+    /// Counts a turn, once the state is the one after it.
+    #[tactic(auto, unfolding(crate::specs::RunInTurn::point_of, crate::specs::Point::counted))]
+    fn count(&mut self, turn: &Turn, fresh_from: usize)
+        requires base { IsSome self.old.phase.base }
+        requires thread { turn.now.thread < length (state_of self.old.shared).threads }
         requires given { self.old.keeper ≡ None → self.old.phase.given < limit.threads }
-        ensures { point_of self.new ≡ point.recorded (point_of self.old) turn (record { phase = turn.phase; thread = turn.thread; addresses = addresses.items }) fresh_from }
+        requires done { (point_of self.old).done + 1 < 2 ^ 64 }
+        ensures { point_of self.new ≡ point.counted (point_of self.old) turn.now fresh_from }
     {
         if self.keeper.is_none() {
             self.phase.given += 1;
@@ -228,9 +234,7 @@ impl RunInTurn {
         self.keeper = keeper_after(&self.shared, turn.thread, &turn.stop);
         self.outcome = outcome_of_stop(turn.thread, &turn.stop);
         self.fresh_from = fresh_from;
-        let change = TurnChange::new(turn.phase, turn.thread, addresses);
-        push_within(&mut self.changes, change);
-        push_within(&mut self.turns, turn);
+        self.done += 1;
     }
 
     /// Begins the next phase where the list is used up, or ends the run where nobody has a turn.
@@ -250,16 +254,6 @@ impl RunInTurn {
             self.outcome = Some(quiet_outcome(&self.shared));
             return;
         }
-        self.phase
-            .begin(self.turns.len() as u64, self.shared.threads(), list);
+        self.phase.begin(self.done, self.shared.threads(), list);
     }
-}
-
-/// Pushes where there is room.
-fn push_within<T: Drop>(list: &mut Vec<T>, item: T)
-    requires { vec_len list.old < vec_capacity list.old }
-    ensures { list.new.items ≡ list.old.items ++ item ∷ [] }
-{
-    let pushed = list.push(item);
-    let _ = pushed;
 }

@@ -5,7 +5,7 @@ ghost use Rattle.token.specs.Point.{IsEndOf};
 use crate::need::Work;
 use crate::segment_end::SegmentEnd;
 use commit::Patch;
-use hart::run_to_stop;
+use hart::run_coded;
 use paged_memory::Snapshot;
 use std::alloc::AllocError;
 use twins::View;
@@ -17,7 +17,8 @@ impl Work {
     {
         let mut hart = self.hart;
         let mut view = View::open(base.try_clone()?);
-        let (stop, count) = run_to_stop(&mut hart, &mut view, self.left, self.quantum)?;
+        let code = base.code();
+        let (stop, count) = run_coded(code, &mut hart, &mut view, self.left, self.quantum)?;
         let patch = Patch::of(base.allocator(), &view)?;
         Ok(SegmentEnd {
             hart,

@@ -1,97 +1,55 @@
 #![tactic(auto, unfolding(crate::specs::RunInTurn::point_of))]
 
-ghost use Rattle.std.specs.Prelude.{◌≡◌, ◌≤◌, ◌++◌, ◌<◌, [], ◌∷◌, None, Some, OnOk, OnErr, IfOk, IfSome, option_map};
-ghost use Rattle.abi.specs.Limits as limit;
+ghost use Rattle.std.specs.Prelude.{◌≡◌, ◌<◌, [], None, Some, OnOk, OnErr, IfOk, IfErr, option_map};
 
+use crate::kept::Kept;
 use crate::need::Need;
-use crate::outcome::RunOutcome;
-use crate::phase::Phase;
-use crate::run_in_turn::RunInTurn;
-use crate::segment_end::SegmentEnd;
+use crate::recorder::Recorder;
+use crate::run_in_turn::{MOST_TURNS, RunInTurn};
+use crate::segment_end::{SegmentEnd, patch_of};
 use crate::turn::Turn;
 use crate::turn_change::TurnChange;
-use call_table::SharedState;
-use elf32_reader::Image;
+use crate::turn_fault::TurnFault;
 use paged_memory::Snapshot;
-use std::alloc::{AllocError, Global};
 use std::marker::Model;
 use thread_table::Threads;
 
-/// The serial state of a run: what it was given, the turns that it has done, and what stands after them. Its
-/// turns are a legal history. A turn breaks that for a while, and so is done on the `RunInTurn` inside.
+/// The serial state of a run: what it was given, what stands after the turns that it has done, and a recorder of
+/// these turns. They are a legal history, and the recorder has recorded exactly its turns and its changes. A turn
+/// breaks that for a while, and so is done on the `RunInTurn` inside.
 #[derive(Drop)]
-pub struct Serial {
+pub struct Serial<R: Recorder> {
     run: RunInTurn,
+    recorder: R,
 }
 
-impl Model for Serial {
+impl<R: Recorder> Model for Serial<R> {
     ghost use Rattle.token.specs.declared.run_in_turn.RunInTurn.{RunInTurn as Run};
 
     ghost Value = { Run };
 
-    ghost use Rattle.token.specs.Serial.{IsLawful};
+    ghost use Rattle.token.specs.Serial.{IsRecorded};
 
     ghost view = { λ s. s.run };
 
-    ghost invariant = { λ s. IsLawful s.run };
+    ghost invariant = { λ s. IsRecorded R.records s.recorder s.run };
 }
 
-impl Serial {
-    ghost use Rattle.elf32_reader.specs.LoadImage.{memory_of};
+impl<R: Recorder> Serial<R> {
     ghost use Rattle.paged_memory.specs.Snapshot.{cells_of};
-    ghost use Rattle.token.specs.History.{History, IsHeldByKeeper};
+    ghost use Rattle.token.specs.History.{IsHeldByKeeper};
     ghost use Rattle.token.specs.Point.{need_at, moved, step_at};
     ghost use Rattle.token.specs.RunInTurn.{point_of};
-    ghost use Rattle.token.specs.Serial.{IsAskedFor, IsLawful, IsLonger, IsNeeded, fresh_at};
-    ghost use Rattle.token.specs.Setup.{setup_of};
+    ghost use Rattle.token.specs.Serial.{HasRecorded, IsAskedFor, IsLawful, IsLonger, IsNeeded, IsStart, fresh_at};
+    ghost use Rattle.token.specs.declared.turn_fault.TurnFault.TheVariants.{WriteFailed};
 
-    /// A run of a program with this input, in which each thread may execute `bound` instructions, and a
-    /// segment ends after `quantum` instructions at the latest. No turn is done.
-    pub fn open(
-        alloc: Global,
-        image: &Image,
-        input: &[u8],
-        bound: u64,
-        quantum: Option<u64>,
-    ) -> Result<Self, AllocError>
-        requires bound { bound ≤ limit.instructions }
-        requires some { 0 < bound }
-        requires quantum { IfSome quantum (λ quantum. quantum ≤ limit.instructions) }
-        requires some_quantum { IfSome quantum (λ quantum. 0 < quantum) }
-        ensures setup { IfOk result (λ serial. (point_of serial).setup ≡ setup_of image.now input.now bound quantum) }
-        ensures turns { IfOk result (λ serial. (point_of serial).turns ≡ []) }
+    /// The run that begins so.
+    pub(crate) fn from_start(run: RunInTurn, recorder: R) -> Self
+        requires start { IsStart run }
+        requires records { R.records recorder [] [] }
+        ensures { result ≡ run }
     {
-        let first = Snapshot::of_image(alloc, image)?;
-        let input = Vec::from_slice(alloc, input)?;
-        let entry = image.entry();
-        let shared = SharedState::new(alloc, first.try_clone()?, entry, input);
-        let mut threads = Threads::new();
-        threads.copy_from(shared.threads());
-        let list = threads.serial_list();
-        let phase = Phase {
-            number: 1,
-            first: 0,
-            base: None,
-            threads,
-            list,
-            given: 0,
-        };
-        Ok(Serial {
-            run: RunInTurn {
-                alloc,
-                entry,
-                first,
-                bound,
-                quantum,
-                phase,
-                shared,
-                keeper: None,
-                outcome: None,
-                turns: Vec::new(alloc),
-                changes: Vec::new(alloc),
-                fresh_from: 0,
-            },
-        })
+        Serial { run, recorder }
     }
 
     /// What the next turn needs, or how the run ended: the step of a turn with what it needs follows the legal
@@ -140,20 +98,25 @@ impl Serial {
         &self.run.shared.output()[self.run.fresh_from..]
     }
 
-    /// The turns that were done, the first one first. They are those of a legal history.
-    pub fn turns(&self) -> &[Turn]
-        ensures turns { result.now ≡ (point_of self.now).turns }
-        ensures lawful { IsLawful self.now }
+    /// How many turns were done.
+    pub fn done(&self) -> u64
+        ensures { result ≡ (point_of self.now).done }
     {
-        &self.run.turns
+        self.run.done
     }
 
-    /// What each turn changed, in the order of the turns.
-    pub fn changes(&self) -> &[TurnChange]
-        ensures changes { result.now ≡ (point_of self.now).changes }
-        ensures lawful { IsLawful self.now }
+    /// Its recorder, which has recorded the turns and the changes of a legal history after which the run stands.
+    pub fn recorder(&self) -> &R
+        ensures { HasRecorded R.records result.now self.now }
     {
-        &self.run.changes
+        &self.recorder
+    }
+
+    /// Its recorder, which has recorded the turns and the changes of a legal history after which the run stands.
+    pub fn into_recorder(self) -> R
+        ensures { HasRecorded R.records result self }
+    {
+        self.recorder
     }
 
     /// The number of the phase that the next turn is of, from 1.
@@ -191,14 +154,40 @@ impl Serial {
         self.run.quantum
     }
 
-    /// Does the next turn, with the end of the segment that it needs, or with none at a wake. Nothing changes
-    /// when memory runs out.
-    pub fn turn(&mut self, end: Option<&SegmentEnd>) -> Result<(), AllocError>
+    /// Does the next turn, with the end of the segment that it needs, or with none at a wake, and answers it. Where
+    /// memory is refused or the recorder fails, the state is as it was and nothing is recorded.
+    pub fn turn(&mut self, end: Option<&SegmentEnd>) -> Result<Turn, TurnFault>
         requires { IsNeeded self.old (option_map (λ end. end.now) end) }
+        ensures turn { IfOk result (λ turn. turn ≡ (step_at (point_of self.old) (option_map (λ end. end.now) end.entry)).turn) }
         ensures moved { OnOk result (point_of self.new ≡ moved (point_of self.old) (step_at (point_of self.old) (option_map (λ end. end.now) end.entry))) }
         ensures longer { OnOk result (IsLonger (point_of self.old) (point_of self.new)) }
         ensures kept { OnErr result (point_of self.new ≡ point_of self.old) }
+        ensures fault { IfErr result (λ fault. fault ≡ WriteFailed → R.writes) }
     {
-        self.run.turn(end)
+        if self.run.done >= MOST_TURNS {
+            return Err(TurnFault::OutOfMemory);
+        }
+        self.recorder.prepare(patch_of(end))?;
+        let turn = self.run.turn(end)?;
+        self.recorder.record(turn);
+        Ok(turn)
+    }
+}
+
+impl Serial<Kept> {
+    ghost use Rattle.token.specs.Serial.{HasTurns, HasChanges};
+
+    /// The turns that were done, the first one first. They are those of a legal history.
+    pub fn turns(&self) -> &[Turn]
+        ensures { HasTurns result.now self.now }
+    {
+        self.recorder.turns()
+    }
+
+    /// What each turn changed, in the order of the turns of a legal history.
+    pub fn changes(&self) -> &[TurnChange]
+        ensures { HasChanges result.now self.now }
+    {
+        self.recorder.changes()
     }
 }

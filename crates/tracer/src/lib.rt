@@ -15,17 +15,20 @@
 //! wake the mutex that was taken; the end of a quantum the next instruction's pc. Words are eight lower-case
 //! hexadecimal digits; the cause, the mutex and the code of a completed call are decimal.
 //!
-//! - [`line`] is the line of a turn, with the newline that ends it.
+//! - [`line`] is the line of a turn, with the newline that ends it, and [`write_line`] appends it to a text.
 //! - [`trace_text`] is the lines of some turns.
+//! - [`TraceRecorder`] writes the lines of a run's turns to a writer as they are done.
 //!
-//! Both fail only when memory runs out.
+//! The first three fail only when memory runs out.
 #![tactic(auto)]
 
 mod call_name;
 mod reply;
 mod trace;
+mod trace_recorder;
 mod turn_line;
 
 pub use token::Turn;
 pub use trace::trace_text;
-pub use turn_line::line;
+pub use trace_recorder::TraceRecorder;
+pub use turn_line::{line, write_line};

@@ -24,9 +24,13 @@ pub fn line(alloc: Global, turn: &Turn) -> Result<String, AllocError>
     Ok(text)
 }
 
-/// Appends the line of a turn.
+/// Appends the line of a turn, with the newline that ends it.
+///
+/// # Errors
+///
+/// Only out of memory. The text may then have a part of the line.
 #[tactic(auto, unfolding(crate::specs::TraceText::line_of))]
-pub(crate) fn write_line(text: &mut String, turn: &Turn) -> Result<(), AllocError>
+pub fn write_line(text: &mut String, turn: &Turn) -> Result<(), AllocError>
     ensures { OnOk result (string_bytes text.new ≡ string_bytes text.old ++ line_of turn.now) }
 {
     match turn.stop {

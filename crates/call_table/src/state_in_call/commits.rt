@@ -1,11 +1,12 @@
 //! The commit of what a thread changed, alone and with its call.
 #![tactic(auto, unfolding(crate::specs::StateInCall::state_in))]
 
-ghost use Rattle.std.specs.Prelude.{◌≡◌, ◌<◌, true, IfOk, OnOk, OnErr, length, slice_set};
+ghost use Rattle.std.specs.Prelude.{◌≡◌, ◌<◌, true, false, IfOk, OnOk, OnErr, length, slice_set};
 ghost use Rattle.call_table.specs.Called.{commit_then_call};
 ghost use Rattle.call_table.specs.CommitAndWake.{committed_bytes};
 ghost use Rattle.call_table.specs.Effects.{settled};
 ghost use Rattle.call_table.specs.State.{row_of};
+ghost use Rattle.call_table.specs.Room.{changes_memory, HasRoom};
 ghost use Rattle.call_table.specs.StateInCall.{state_in};
 ghost use Rattle.call_table.specs.Waiting.{are_parked};
 ghost use Rattle.commit.specs.Patched.{patched};
@@ -13,8 +14,10 @@ ghost use Rattle.paged_memory.specs.Snapshot.{cells_of};
 ghost use Rattle.thread_table.specs.Status.{is_ready};
 
 use crate::state_in_call::StateInCall;
-use abi::Reply;
+use abi::limits::TRANSFER;
+use abi::{Call, Reply};
 use commit::{Patch, apply};
+use ecalls::call_of;
 use hart::Hart;
 use paged_memory::Snapshot;
 use std::alloc::AllocError;
@@ -38,6 +41,7 @@ impl StateInCall {
         ensures kept { OnErr result (state_in self.new ≡ state_in self.old) }
         ensures parked { are_parked self.new.threads self.new.objects.waiters ≡ true }
         ensures input { self.new.input ≡ self.old.input }
+        ensures output { self.new.output ≡ self.old.output }
     {
         apply(&mut self.memory, patch)?;
         let row = *self.threads.get(thread);
@@ -67,8 +71,50 @@ impl StateInCall {
 
     /// Commits what a ready thread changed, and carries out the call that it then makes with this hart. Nothing
     /// changes when memory runs out.
-    #[tactic(auto)]
     pub(crate) fn commit_and_call(
+        &mut self,
+        thread: u32,
+        patch: &Patch,
+        hart: Hart,
+        executed: u64,
+    ) -> Result<Reply, AllocError>
+        requires made { thread < length self.old.threads }
+        requires ready { is_ready (row_of (state_in self.old) thread).status ≡ true }
+        requires parked { are_parked self.old.threads self.old.objects.waiters ≡ true }
+        ensures reply { IfOk result (λ reply. reply ≡ (commit_then_call (state_in self.old) thread (patched patch.now) hart executed).reply) }
+        ensures settled { OnOk result (state_in self.new ≡ settled thread (commit_then_call (state_in self.old) thread (patched patch.now) hart executed)) }
+        ensures kept { OnErr result (state_in self.new ≡ state_in self.old) }
+        ensures parked { are_parked self.new.threads self.new.objects.waiters ≡ true }
+        ensures input { self.new.input ≡ self.old.input }
+    {
+        let call = call_of(&hart);
+        if changes_memory(call) {
+            return self.commit_and_change(thread, patch, hart, executed);
+        }
+        self.make_room(call)?;
+        self.commit(thread, patch, hart, executed)?;
+        self.call(thread)
+    }
+
+    /// Makes room for what a call that doesn't change the shared memory takes.
+    fn make_room(&mut self, call: Call) -> Result<(), AllocError>
+        requires { changes_memory call ≡ false }
+        ensures room { OnOk result (HasRoom self.new.output call) }
+        ensures state { state_in self.new ≡ state_in self.old }
+        ensures threads { self.new.threads ≡ self.old.threads }
+        ensures objects { self.new.objects ≡ self.old.objects }
+        ensures input { self.new.input ≡ self.old.input }
+    {
+        if let Call::Write { length, .. } = call {
+            self.output.reserve(length.min(TRANSFER) as usize)?;
+        }
+        Ok(())
+    }
+
+    /// Does what `commit_and_call` does for a call that may change the shared memory. A clone of the memory is kept,
+    /// to take the commit back.
+    #[tactic(auto)]
+    fn commit_and_change(
         &mut self,
         thread: u32,
         patch: &Patch,
@@ -95,4 +141,14 @@ impl StateInCall {
             }
         }
     }
+}
+
+/// Whether a call may change the shared memory.
+fn changes_memory(call: Call) -> bool
+    ensures { result ≡ changes_memory call }
+{
+    matches!(
+        call,
+        Call::Read { .. } | Call::Memory { .. } | Call::Release { .. }
+    )
 }

@@ -1,7 +1,7 @@
 //! The calls that append to the output and take from the input.
 #![tactic(auto, unfolding(crate::specs::StateInCall::state_in))]
 
-ghost use Rattle.std.specs.Prelude.{◌≡◌, ◌+◌, ◌-◌, ◌%◌, ◌++◌, ◌^◌, ◌<◌, ◌≤◌, ℕ, Bool, IfOk, OnOk, OnErr, if◌then◌else◌, length, slice_index};
+ghost use Rattle.std.specs.Prelude.{◌≡◌, ◌+◌, ◌-◌, ◌%◌, ◌++◌, ◌^◌, ◌<◌, ◌≤◌, ℕ, Bool, IfOk, IsOk, OnOk, OnErr, if◌then◌else◌, length, min, slice_index, vec_capacity};
 ghost use Rattle.std.specs.Fn.{FnReturnsAt};
 ghost use Rattle.abi.specs.Limits as limit;
 ghost use Rattle.guest_memory.specs.Layout as layout;
@@ -25,6 +25,7 @@ impl StateInCall {
     pub(super) fn write(&mut self, address: u32, count: u32) -> Result<Reply, AllocError>
         ensures done { IfOk result (λ reply. came_to reply self.new ≡ effects.write (state_in self.old) address count) }
         ensures kept { OnErr result (state_in self.new ≡ state_in self.old) }
+        ensures succeeds { length self.old.output.items + min count limit.transfer ≤ vec_capacity self.old.output → IsOk result }
         ensures input { self.new.input ≡ self.old.input }
     {
         if count > TRANSFER {
@@ -115,6 +116,7 @@ fn append(
     ensures done { OnOk result (output.new.items ≡ output.old.items ++ effects.bytes_of (cells_of memory.now) address count) }
     ensures kept { OnErr result (output.new.items ≡ output.old.items) }
     ensures room { length output.new.items ≤ length output.old.items + count }
+    ensures succeeds { length output.old.items + count ≤ vec_capacity output.old → IsOk result }
 {
     let before = output.len();
     let mut done = 0;
@@ -139,6 +141,8 @@ fn append_run(
     requires { address % layout.page_size + count ≤ layout.page_size }
     ensures done { OnOk result (output.new.items ≡ output.old.items ++ effects.bytes_of (cells_of memory.now) address count) }
     ensures kept { OnErr result (output.new.items ≡ output.old.items) }
+    ensures capacity { vec_capacity output.old ≤ vec_capacity output.new }
+    ensures succeeds { length output.old.items + count ≤ vec_capacity output.old → IsOk result }
 {
     let start = (address % PAGE_SIZE) as usize;
     match memory.page(address / PAGE_SIZE) {

@@ -9,6 +9,7 @@ use std::io;
 use std::process::Abort;
 use std::sync::Wait;
 use std::test::Fail;
+use std::thread::Threads;
 
 const RUN: [&str; 7] = [
     "dthreads", "run", "a.elf", "--trace", "trace", "--report", "report",
@@ -77,7 +78,7 @@ fn a_failed_write_stands_alone_beside_a_trap(rt: HostRuntime) -> Result<(), Fail
         "cannot write standard output\n",
     )?;
     files.assert_old(&rt);
-    files.good_writes = 0;
+    files.good_ends = 0;
     let mut stdout = faulty(rt.alloc(), 9, 9, 1);
     check(
         &rt,
@@ -89,7 +90,7 @@ fn a_failed_write_stands_alone_beside_a_trap(rt: HostRuntime) -> Result<(), Fail
     )?;
     assert!(rt; stdout.writer.taken.as_slice() == b"A".as_slice());
     files.assert_old(&rt);
-    files.good_writes = 1;
+    files.good_ends = 1;
     let line = "trap thread=0 pc=00010018 cause=16 value=00000000\n";
     check(&rt, &arguments, &mut files, &mut stdout, 120, line)?;
     assert!(rt;
@@ -106,7 +107,7 @@ fn records_that_cannot_be_written(rt: HostRuntime) -> Result<(), Fail> {
     let program = RACE.file(rt.alloc())?;
     let mut files = MemoryFiles::with_old_files(rt.alloc(), program.as_slice())?;
     let mut stdout = faulty(rt.alloc(), 9, 9, 1);
-    files.good_writes = 0;
+    files.good_ends = 0;
     check(
         &rt,
         &RUN,
@@ -117,7 +118,7 @@ fn records_that_cannot_be_written(rt: HostRuntime) -> Result<(), Fail> {
     )?;
     files.assert_old(&rt);
     let elsewhere = ["dthreads", "run", "a.elf", "--trace", "no/trace"];
-    files.good_writes = 1;
+    files.good_ends = 1;
     check(
         &rt,
         &elsewhere,
@@ -127,7 +128,7 @@ fn records_that_cannot_be_written(rt: HostRuntime) -> Result<(), Fail> {
         "cannot write no/trace\n",
     )?;
     files.assert_old(&rt);
-    files.good_writes = 1;
+    files.good_ends = 1;
     check(
         &rt,
         &RUN,
@@ -142,7 +143,7 @@ fn records_that_cannot_be_written(rt: HostRuntime) -> Result<(), Fail> {
 }
 
 /// Checks what the program answers to these arguments, with this standard output.
-fn check<H: Abort + AllocGlobal + Wait>(
+fn check<H: Abort + AllocGlobal + Threads + Wait + Sync>(
     rt: &H,
     arguments: &[&str],
     files: &mut MemoryFiles<'_>,

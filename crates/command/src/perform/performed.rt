@@ -1,12 +1,13 @@
 //! What a command line did, for tests.
 
-use crate::files::Files;
 use crate::perform::perform;
+use files::Files;
 use runtime::WriteSink;
 use std::convert::AsStr;
 use std::io::Read;
 use std::process::Abort;
 use std::sync::Wait;
+use std::thread::Threads;
 
 /// What a command line gave.
 #[derive(Drop)]
@@ -18,7 +19,7 @@ pub struct Performed {
 
 impl Performed {
     /// Does what the arguments ask for.
-    pub fn new<H: AllocGlobal + Wait, S: AsStr, F: Files, R: Read>(
+    pub fn new<H: AllocGlobal + Threads + Wait + Sync, S: AsStr, F: Files, R: Read>(
         rt: &H,
         arguments: &[S],
         files: &mut F,

@@ -8,6 +8,7 @@ use std::io;
 use std::process::Abort;
 use std::sync::Wait;
 use std::test::Fail;
+use std::thread::Threads;
 
 const RUN: [&str; 7] = [
     "dthreads", "run", "a.elf", "--trace", "trace", "--report", "report",
@@ -104,7 +105,7 @@ fn what_is_over_a_limit_is_refused(rt: HostRuntime) {
 }
 
 /// Checks that these bytes of a file are refused with this line, and that the files for records stay.
-fn check_refused<H: Abort + AllocGlobal + Wait>(
+fn check_refused<H: Abort + AllocGlobal + Threads + Wait + Sync>(
     rt: &H,
     file: &[u8],
     line: &str,

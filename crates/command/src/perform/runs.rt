@@ -9,6 +9,7 @@ use std::alloc::{AllocError, Global};
 use std::process::Abort;
 use std::sync::Wait;
 use std::test::Fail;
+use std::thread::Threads;
 
 /// The arguments of a run whose trace and report are written, with so many workers and its limits.
 fn arguments_of(alloc: Global, run: &Run, workers: u32) -> Result<Vec<String>, AllocError> {
@@ -36,7 +37,7 @@ fn arguments_of(alloc: Global, run: &Run, workers: u32) -> Result<Vec<String>, A
 }
 
 /// Checks all that a run gives with so many workers.
-fn check_run<H: Abort + AllocGlobal + Wait>(
+fn check_run<H: Abort + AllocGlobal + Threads + Wait + Sync>(
     rt: &H,
     file: &[u8],
     trace: &str,
@@ -73,7 +74,10 @@ fn check_run<H: Abort + AllocGlobal + Wait>(
 }
 
 /// Checks all that the runs of a table give with 1, 2 and 64 workers.
-fn check_runs<H: Abort + AllocGlobal + Wait>(rt: &H, runs: &[Run]) -> Result<(), AllocError> {
+fn check_runs<H: Abort + AllocGlobal + Threads + Wait + Sync>(
+    rt: &H,
+    runs: &[Run],
+) -> Result<(), AllocError> {
     for run in runs {
         let file = run.program.file(rt.alloc())?;
         let trace = run.trace_text(rt.alloc())?;

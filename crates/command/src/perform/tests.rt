@@ -6,24 +6,18 @@ use crate::failure::Failure;
 use crate::fakes::{FailingReader, FailingWriter, MemoryFiles};
 use crate::place::Place;
 use elf32_reader::ElfFault;
+use files::FileName;
 use hart::{Cause, Trap};
 use runtime::{RunOutcome, WriteSink};
 use std::io;
-use std::io::ErrorKind;
 use std::sync::Wait;
 use std::test::Fail;
-
-/// A reader whose first read fails.
-const NO_INPUT: FailingReader = FailingReader {
-    good_reads: 0,
-    kind: ErrorKind::Other,
-};
+use std::thread::Threads;
 
 /// Does what the arguments ask for, where no file is wanted and no input can be read.
-fn asked<H: AllocGlobal + Wait>(rt: &H, arguments: &[&str]) -> Performed {
+fn asked<H: AllocGlobal + Threads + Wait + Sync>(rt: &H, arguments: &[&str]) -> Performed {
     let mut files = MemoryFiles::new(rt.alloc(), &[]);
-    let mut stdin = NO_INPUT;
-    Performed::new(rt, arguments, &mut files, &mut stdin)
+    Performed::new(rt, arguments, &mut files, &mut FailingReader)
 }
 
 /// Command lines that make no request, and the text for each.
@@ -132,7 +126,8 @@ Commands:
   replay  Apply a schedule to a program and print the trace (not yet)
 
 Options:
-  -h, --help  Print help
+  -h, --help     Print help
+  -V, --version  Print version
 ";
     for name in ["dthreads", "out/command", ""] {
         let arguments = [name, "--help"];
@@ -149,12 +144,72 @@ Options:
       --workers <N>    How many workers there are, 1 to 64 [default: 4]
       --bound <N>      How many instructions a thread may execute, 1 to 2^40 [default: 1000000000]
       --quantum <N>    After how many instructions a thread's turn ends, 1 to 2^40 [default: none]
-      --trace <FILE>   Write a line for each turn to this file
-      --report <FILE>  Write the sharing of pages to this file
+      --trace <FILE>   Write a line for each turn to this file, or to standard output where it is -
+      --report <FILE>  Write the sharing of pages to this file, or to standard output where it is -
   -h, --help           Print help
 ";
     let arguments = ["dthreads", "run", "--help"];
     asked(&rt, &arguments).assert_is(&rt, 0, text.as_bytes(), "");
+}
+
+#[test]
+fn the_version_is_printed(rt: HostRuntime) {
+    for argument in ["--version", "-V"] {
+        let arguments = ["dthreads", argument];
+        asked(&rt, &arguments).assert_is(&rt, 0, b"dthreads 0.1.0\n", "");
+    }
+}
+
+/// Arguments of a run of which two name one file, and how the two are written.
+static TWICE_NAMED: [(&[&str], &str); 8] = [
+    (&["a.elf", "--trace", "a.elf"], "a.elf and a.elf"),
+    (&["a.elf", "--report", "a.elf"], "a.elf and a.elf"),
+    (&["t.part", "--trace", "t"], "t.part and t.part"),
+    (&["a.elf", "--trace", "t", "--report", "t"], "t and t"),
+    (
+        &["a.elf", "--trace", "t", "--report", "t.part"],
+        "t.part and t.part",
+    ),
+    (
+        &["a.elf", "--trace", "t.part", "--report", "t"],
+        "t.part and t.part",
+    ),
+    (&["/dev", "--trace", "/dev"], "/dev and /dev"),
+    (&["b", "--trace", "a/b", "--report", "a/b"], "a/b and a/b"),
+];
+
+#[test]
+fn two_names_of_one_file_are_refused(rt: HostRuntime) -> Result<(), Fail> {
+    for (arguments, names) in TWICE_NAMED {
+        let mut all = Vec::from_slice(rt.alloc(), &["dthreads", "run"])?;
+        all.extend_from_slice(arguments)?;
+        let line = format!(in rt.alloc(); "error: {names} name one file\n")?;
+        asked(&rt, all.as_slice()).assert_is(&rt, 2, b"", line.as_str());
+    }
+    Ok(())
+}
+
+/// Arguments of a run that name one file which doesn't count, or none.
+static COUNTED_ONCE: [&[&str]; 4] = [
+    &["-", "--trace", "-", "--report", "-"],
+    &["a", "--trace", "/dev/null", "--report", "/dev/null"],
+    &["/dev/stdin", "--trace", "/dev/stdin"],
+    &["a", "--trace", "b", "--report", "c"],
+];
+
+#[test]
+fn some_files_may_be_named_twice(rt: HostRuntime) -> Result<(), Fail> {
+    for arguments in COUNTED_ONCE {
+        let mut all = Vec::from_slice(rt.alloc(), &["dthreads", "run"])?;
+        all.extend_from_slice(arguments)?;
+        let performed = asked(&rt, all.as_slice());
+        assert_eq!(rt; performed.status, 124, "at {arguments:?}");
+        assert!(rt;
+            performed.stderr.as_slice().starts_with(b"cannot read "),
+            "at {arguments:?}"
+        );
+    }
+    Ok(())
 }
 
 #[test]
@@ -169,14 +224,9 @@ fn what_cannot_be_read_is_named(rt: HostRuntime) -> Result<(), Fail> {
     asked(&rt, &arguments).assert_is(&rt, 124, b"", "cannot read a\n");
     let arguments = ["dthreads", "run", "a.elf", "--trace", "trace"];
     let mut files = MemoryFiles::with_old_files(rt.alloc(), &[])?;
-    for good_reads in 0..3 {
-        let mut input = FailingReader {
-            good_reads,
-            kind: ErrorKind::OutOfMemory,
-        };
-        let line = "cannot read standard input\n";
-        Performed::new(&rt, &arguments, &mut files, &mut input).assert_is(&rt, 124, b"", line);
-    }
+    let line = "cannot read standard input\n";
+    let performed = Performed::new(&rt, &arguments, &mut files, &mut FailingReader);
+    performed.assert_is(&rt, 124, b"", line);
     files.assert_old(&rt);
     Ok(())
 }
@@ -233,7 +283,12 @@ fn outcomes_have_a_status_and_a_line(rt: HostRuntime) {
 }
 
 /// Failures, and the status and the line of each.
-static FAILURES: [(Failure<'static>, u8, &str); 8] = [
+static FAILURES: [(Failure<'static>, u8, &str); 9] = [
+    (
+        Failure::OneFile(FileName::At("a b"), FileName::PartOf("a")),
+        2,
+        "error: a b and a.part name one file\n",
+    ),
     (
         Failure::ElfRefused(ElfFault::BadEntry),
         123,

@@ -1,31 +1,15 @@
-use Rattle.std.proofs.Common.{◌≡◌, ◌+◌, ◌<◌, ◌∷◌, [], ◌++◌, length, take, ap, sym, ◌∙◌, arith}
-use Rattle.std.specs.List.Sorted.{IsStrictlyIncreasing}
-use Rattle.std.proofs.lemmas.List.{take_all, take_more}
-use Rattle.paged_memory.specs.PageMap.{memory_of_pages}
+use Rattle.std.proofs.Common.{◌≡◌, ◌<◌, List, [], ◌∷◌, length, refl, ap, sym, ◌∙◌, arith}
 use Rattle.commit.specs.Merge.{with_changes}
-use Rattle.commit.specs.Patched.{patched, numbers_of}
+use Rattle.commit.specs.Patched.{PageChange, patched}
 use Rattle.paged_memory.specs.Snapshot.{cells_of}
-use Rattle.commit.proofs.Growing.{AreBelow-item}
-use Rattle.commit.proofs.Merges.{with_changes-none, with_changes-more}
+use Rattle.commit.proofs.Merges.{with_changes-none}
 use Rattle.commit.proofs.merging.apply.Goals as goal
 
-pub loop-page-init : goal.loop-page-init
-loop-page-init c = ap memory_of_pages c.in_ok-merged.ensures ∙ sym (with_changes-none (cells_of c.args.snapshot.now))
+empty : (patch : List PageChange) → length patch < 1 → patch ≡ []
+empty [] below = refl
+empty (change ∷ patch) below = absurd (omega arith)
 
-pub loop-page-preserved : goal.loop-page-preserved
-loop-page-preserved c =
-    let pages = c.pages-page-items.result.now in
-    let done = c.loop-page.page-index in
-    let within : done < length pages = omega arith in
-    let ascending : IsStrictlyIncreasing (numbers_of pages) = rw c.pages-page-items.ensures.pages c.pages-page-items.ensures.ascending in
-    let more : take (done + 1) pages ≡ take done pages ++ c.page-item.result ∷ [] =
-    take_more pages done c.page-item.result within ∙ ap (λ page. take done pages ++ page ∷ []) (sym c.page-item.is) in
-    c.in_ok-merge_into.ensures ∙ ap (with_changes (patched (c.page-item.result ∷ []))) c.loop-page.invariant
-    ∙ with_changes-more (take done pages) c.page-item.result (cells_of c.args.snapshot.now) (AreBelow-item pages done c.page-item.result ascending within c.page-item.is)
-    ∙ ap (λ prefix. with_changes (patched prefix) (cells_of c.args.snapshot.now)) (sym more)
-
-pub returns-clause-merged : goal.returns-clause-merged
-returns-clause-merged c =
-    let all : take c.loop-page.page-index c.pages-page-items.result.now ≡ c.args.patch.now =
-    take_all c.loop-page.page-index c.pages-page-items.result.now (omega arith) ∙ c.pages-page-items.ensures.pages in
-    c.loop-page.invariant ∙ ap (λ patch. with_changes (patched patch) (cells_of c.args.snapshot.now)) all
+pub returns-in-empty-clause-merged : goal.returns-in-empty-clause-merged
+returns-in-empty-clause-merged c =
+    let none : c.args.patch.now ≡ [] = sym c.pages.ensures.pages ∙ empty c.pages.result.now c.in-empty.len_below in
+    sym (ap (λ (patch : List PageChange). with_changes (patched patch) (cells_of c.args.snapshot.now)) none ∙ with_changes-none (cells_of c.args.snapshot.now))

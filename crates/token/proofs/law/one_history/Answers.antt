@@ -1,6 +1,7 @@
 use Rattle.token.proofs.Complete.{nothing_follows, one_answer}
 use Rattle.token.proofs.GoesOn.{some_follows}
 use Rattle.token.proofs.KeeperHolds.{holder_keeps, none_else_holds}
+use Rattle.token.proofs.OneBeginning.{one_beginning}
 use Rattle.token.proofs.OneHistory.{one_is_prefix}
 use Rattle.token.proofs.law.one_history.Goals as goal
 
@@ -12,3 +13,6 @@ returns-clause-progress c = record { goes_on = some_follows; ends = nothing_foll
 
 pub returns-clause-mutual_exclusion : goal.returns-clause-mutual_exclusion
 returns-clause-mutual_exclusion c = record { holder = holder_keeps; none_else = none_else_holds }
+
+pub returns-clause-one_beginning : goal.returns-clause-one_beginning
+returns-clause-one_beginning c = record { begins = one_beginning }

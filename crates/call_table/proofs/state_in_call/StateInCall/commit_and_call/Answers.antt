@@ -1,73 +1,67 @@
-use Rattle.std.proofs.Common.{◌≡◌, ◌<◌, ℕ, true, Option, length, slice_set, ap, sym, ◌∙◌, subst}
+use Rattle.std.proofs.Common.{◌≡◌, ℕ, Option, Result, Ok, Err, IfOk, ap, sym, ◌∙◌, subst}
+use Rattle.std.specs.Prelude.{IsOk, OnOk, OnErr, Vec}
+use Rattle.std.specs.declared.alloc.Global.{Global}
+use Rattle.abi.specs.declared.call.Call.{Call}
 use Rattle.hart.specs.HartState.{HartState}
-use Rattle.paged_memory.specs.PageMap.{memory_of_pages}
-use Rattle.paged_memory.specs.Snapshot.{cells_of}
-use Rattle.thread_table.specs.Status.{is_ready}
-use Rattle.thread_table.specs.declared.thread.Thread.{Thread}
 use Rattle.ecalls.specs.Request.{call_of}
-use Rattle.call_table.specs.Called.{called, commit_then_call}
 use Rattle.call_table.specs.CommitAndWake.{committed_bytes}
-use Rattle.call_table.specs.Effects.{Effect, effect, settled}
+use Rattle.call_table.specs.Effects.{Effect, settled}
+use Rattle.call_table.specs.Room.{HasRoom}
 use Rattle.call_table.specs.State.{State, row_of}
 use Rattle.call_table.specs.StateInCall.{state_in}
-use Rattle.commit.specs.Patched.{patched}
-use Rattle.call_table.proofs.Committing.{committed_row, committed_len, taken_back}
+use Rattle.call_table.proofs.Committing.{there_after, ready_after, committed_effect, committed_hart}
 use Rattle.call_table.proofs.state_in_call.StateInCall.commit_and_call.Goals as goal
 
--- the thread is there after the commit, and ready
-there_after : (after state : State) (thread : ℕ) (bytes : ℕ → Option ℕ) (hart : HartState) (executed : ℕ) → thread < length state.threads
-    → after ≡ committed_bytes state thread bytes hart executed → thread < length after.threads
-there_after after state thread bytes hart executed below is =
-    subst (λ (after : State). thread < length after.threads) (sym is) (subst (λ n. thread < n) (sym (committed_len state thread bytes hart executed)) below)
+-- the state after the commit, from that before room was made
+after_room : (after roomy state : State) (thread : ℕ) (bytes : ℕ → Option ℕ) (hart : HartState) (executed : ℕ) → after ≡ committed_bytes roomy thread bytes hart executed
+    → roomy ≡ state → after ≡ committed_bytes state thread bytes hart executed
+after_room after roomy state thread bytes hart executed is same = is ∙ ap (λ (before : State). committed_bytes before thread bytes hart executed) same
 
-ready_after : (after state : State) (thread : ℕ) (bytes : ℕ → Option ℕ) (hart : HartState) (executed : ℕ) → thread < length state.threads
-    → is_ready (row_of state thread).status ≡ true → after ≡ committed_bytes state thread bytes hart executed → is_ready (row_of after thread).status ≡ true
-ready_after after state thread bytes hart executed below ready is =
-    ap (λ (after : State). is_ready (row_of after thread).status) is ∙ ap (λ row. is_ready row.status) (committed_row state thread bytes hart executed below) ∙ ready
+if_ok : {A E : Type 0} (result : Result A E) {P Q : A → Type 0} → ((value : A) → P value → Q value) → IfOk result P → IfOk result Q
+if_ok (Ok value) then held = then value held
+if_ok (Err error) then held = tt
+
+on_ok : {A E : Type 0} (result : Result A E) {P Q : Type 0} → (P → Q) → OnOk result P → OnOk result Q
+on_ok (Ok value) then held = then held
+on_ok (Err error) then held = tt
+
+never_err : {A E : Type 0} (result : Result A E) (P : Type 0) → IsOk result → OnErr result P
+never_err (Ok value) P succeeds = tt
+never_err (Err error) P succeeds = absurd (cc)
 
 pub call-requires-clause-made : goal.call-requires-clause-made
 unfolding state_in
-call-requires-clause-made c = there_after (state_in c.commit.new.self) (state_in c.args.self.now) c.args.thread _ _ _ c.requires.made c.in_ok-commit.ensures.committed
+call-requires-clause-made c =
+    there_after (state_in c.commit.new.self) (state_in c.args.self.now) c.args.thread _ _ _ c.requires.made
+    (after_room _ _ _ _ _ _ _ c.in_ok-commit.ensures.committed c.in_ok-make_room.ensures.state)
 
 pub call-requires-clause-ready : goal.call-requires-clause-ready
 unfolding state_in
-call-requires-clause-ready c = ready_after (state_in c.commit.new.self) (state_in c.args.self.now) c.args.thread _ _ _ c.requires.made c.requires.ready c.in_ok-commit.ensures.committed
+call-requires-clause-ready c =
+    ready_after (state_in c.commit.new.self) (state_in c.args.self.now) c.args.thread _ _ _ c.requires.made c.requires.ready
+    (after_room _ _ _ _ _ _ _ c.in_ok-commit.ensures.committed c.in_ok-make_room.ensures.state)
 
-pub restore-requires-clause-made : goal.restore-requires-clause-made
+pub returns-clause-reply : goal.returns-clause-reply
 unfolding state_in
-restore-requires-clause-made c =
-    there_after (state_in c.call.new.self) (state_in c.args.self.now) c.args.thread _ _ _ c.requires.made (c.in-Err.ensures.kept ∙ c.in_ok-commit.ensures.committed)
+returns-clause-reply c =
+    let made = committed_effect (state_in c.commit.new.self) (state_in c.args.self.now) c.args.thread _ _ _ c.requires.made
+    (after_room _ _ _ _ _ _ _ c.in_ok-commit.ensures.committed c.in_ok-make_room.ensures.state) in
+    if_ok c.call.result (λ reply is. is ∙ ap (λ (outcome : Effect). outcome.reply) made) c.call.ensures.reply
 
-pub restore-requires-clause-ready : goal.restore-requires-clause-ready
+pub returns-clause-settled : goal.returns-clause-settled
 unfolding state_in
-restore-requires-clause-ready c =
-    ready_after (state_in c.call.new.self) (state_in c.args.self.now) c.args.thread _ _ _ c.requires.made c.requires.ready (c.in-Err.ensures.kept ∙ c.in_ok-commit.ensures.committed)
+returns-clause-settled c =
+    let made = committed_effect (state_in c.commit.new.self) (state_in c.args.self.now) c.args.thread _ _ _ c.requires.made
+    (after_room _ _ _ _ _ _ _ c.in_ok-commit.ensures.committed c.in_ok-make_room.ensures.state) in
+    on_ok c.call.result (λ is. is ∙ ap (settled c.args.thread) made) c.call.ensures.settled
 
--- what the call comes to, from the state after the commit
-committed_effect : (after : State) (state : State) (thread : ℕ) (bytes : ℕ → Option ℕ) (hart : HartState) (executed : ℕ) → thread < length state.threads
-    → after ≡ committed_bytes state thread bytes hart executed → called after thread ≡ commit_then_call state thread bytes hart executed
-committed_effect after state thread bytes hart executed below is =
-    ap (λ (after : State). called after thread) is
-    ∙ ap (λ (row : Thread). effect (committed_bytes state thread bytes hart executed) thread (call_of row.hart)) (committed_row state thread bytes hart executed below)
-
-pub returns-in-Ok-clause-reply : goal.returns-in-Ok-clause-reply
+pub returns-clause-kept : goal.returns-clause-kept
 unfolding state_in
-returns-in-Ok-clause-reply c =
-    let made = committed_effect (state_in c.commit.new.self) (state_in c.args.self.now) c.args.thread _ _ _ c.requires.made c.in_ok-commit.ensures.committed in
-    c.in-Ok.ensures.reply ∙ ap (λ (outcome : Effect). outcome.reply) made
-
-pub returns-in-Ok-clause-settled : goal.returns-in-Ok-clause-settled
-unfolding state_in
-returns-in-Ok-clause-settled c =
-    let made = committed_effect (state_in c.commit.new.self) (state_in c.args.self.now) c.args.thread _ _ _ c.requires.made c.in_ok-commit.ensures.committed in
-    c.in-Ok.ensures.settled ∙ ap (settled c.args.thread) made
-
-pub returns-in-Err-clause-kept : goal.returns-in-Err-clause-kept
-unfolding state_in
-returns-in-Err-clause-kept c =
-    let state : State = state_in c.args.self.now in
-    let memory : cells_of c.in_ok-memory.memory ≡ state.memory = ap memory_of_pages c.in_ok-memory.ensures in
-    let after : state_in c.call.new.self ≡ committed_bytes state c.args.thread (patched c.args.patch.now) c.args.hart c.args.executed = c.in-Err.ensures.kept ∙ c.in_ok-commit.ensures.committed in
-    c.restore.ensures.restored
-    ∙ ap (λ (now : State). record now { memory = cells_of c.in_ok-memory.memory; threads = slice_set now.threads c.args.thread c.get-row.result.now }) after
-    ∙ taken_back state c.args.thread (patched c.args.patch.now) c.args.hart c.args.executed (cells_of c.in_ok-memory.memory) c.get-row.result.now c.get-row.ensures memory
+returns-clause-kept c =
+    let hart = committed_hart (state_in c.commit.new.self) (state_in c.args.self.now) c.args.thread _ _ _ c.requires.made
+    (after_room _ _ _ _ _ _ _ c.in_ok-commit.ensures.committed c.in_ok-make_room.ensures.state) in
+    let wanted : Call = call_of (row_of (state_in c.commit.new.self) c.args.thread).hart in
+    let same : c.call_of-call.result ≡ wanted = c.call_of-call.ensures ∙ ap call_of (sym hart) in
+    let room : HasRoom c.make_room.new.self.output wanted = subst (HasRoom c.make_room.new.self.output) same c.in_ok-make_room.ensures.room in
+    let left : HasRoom c.commit.new.self.output wanted = subst (λ (output : Vec ℕ Global). HasRoom output wanted) (sym c.in_ok-commit.ensures.output) room in
+    never_err c.call.result _ (c.call.ensures.succeeds left)

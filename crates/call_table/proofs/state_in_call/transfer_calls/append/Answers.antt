@@ -22,6 +22,8 @@ loop-done-preserved c =
       begins = rw (c.in_default.ensures.done, take-append-le) old.begins;
       gathered = rw (c.in_default.ensures.done, append_assoc, ← bytes_of-run memory c.args.address c.loop-done.done run c.args.count within) old.gathered;
       reached = rw c.in_default.ensures.done (omega (arith, length-append output made));
+      done = rw c.in_default.ensures.done (omega (arith, length-append output made, length-bytes_of memory (c.args.address + c.loop-done.done) run));
+      capacity = omega (arith, c.in_default.ensures.capacity);
     }
 
 pub returns-clause-done : goal.returns-clause-done

@@ -2,7 +2,7 @@ use Rattle.std.proofs.Common.{◌≡◌, ℕ, Result, Ok, Err, IsOk, refl}
 use Rattle.guest_memory.specs.Memory.{Memory}
 use Rattle.guest_memory.specs.declared.fault.AccessFault.{AccessFault}
 use Rattle.guest_memory.specs.declared.fault.StoreFault.TheVariants.{OutOfMemory}
-use Rattle.hart.specs.HartState.{HartState}
+use Rattle.hart.specs.HartState.{HartState, with_pc}
 use Rattle.hart.specs.Next.{stores, Goes, written}
 use Rattle.hart.proofs.state.Hart.store.Goals as goal
 
@@ -12,9 +12,9 @@ unfolding stores
 goes_on hart address (Ok memory) ok = (written hart 0 0, memory, refl)
 goes_on hart address (Err fault) ok = absurd (cc)
 
-pub returns-in-Err-OutOfMemory-clause-steps : goal.returns-in-Err-OutOfMemory-clause-steps
-returns-in-Err-OutOfMemory-clause-steps c =
+pub returns-in-Err-OutOfMemory-clause-flows : goal.returns-in-Err-OutOfMemory-clause-flows
+returns-in-Err-OutOfMemory-clause-flows c =
     λ before after wanted answered.
     let fault : c.in-Err-OutOfMemory.field-0 ≡ OutOfMemory c.in-Err-OutOfMemory.error = rw c.in-Err-OutOfMemory.is at c.in-Err-OutOfMemory.field-0-is in
     let refused = rw (c.in-Err-OutOfMemory.is, fault) at answered in
-    (goes_on c.args.self.now c.args.address wanted refused.0, refl, refused.1)
+    (goes_on (with_pc c.args.self.now c.args.pc) c.args.address wanted refused.0, refl, refused.1)

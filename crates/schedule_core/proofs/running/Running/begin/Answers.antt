@@ -1,4 +1,4 @@
-use Rattle.std.proofs.Common.{◌≡◌, ap, sym, ◌∙◌, arith}
+use Rattle.std.proofs.Common.{ap, sym, ◌∙◌, arith}
 use Rattle.paged_memory.specs.PageMap.{memory_of_pages}
 use Rattle.paged_memory.specs.Snapshot.{cells_of}
 use Rattle.schedule_core.proofs.Coming.{begins}

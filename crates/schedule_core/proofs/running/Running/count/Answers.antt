@@ -1,4 +1,4 @@
-use Rattle.std.proofs.Common.{◌≡◌, ◌∙◌, ◌<◌, ap, sym, Some, arith}
+use Rattle.std.proofs.Common.{◌∙◌, ◌<◌, ap, Some, arith}
 use Rattle.schedule_core.proofs.running.Running.count.Goals as goal
 
 pub overflow_add-result : goal.overflow_add-result

@@ -1,4 +1,4 @@
-use Rattle.std.proofs.Common.{Some, subst, sym, ◌≡◌, ◌∙◌}
+use Rattle.std.proofs.Common.{Some, subst, sym, ◌∙◌}
 use Rattle.schedule_core.proofs.Coming.{ends_by}
 use Rattle.schedule_core.specs.Running.{HasCome, memory_of}
 use Rattle.twins.specs.View.{cells_of}

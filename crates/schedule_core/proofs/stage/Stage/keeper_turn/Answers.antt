@@ -1,12 +1,10 @@
-use Rattle.std.proofs.Common.{◌≡◌, ◌∙◌, ◌<◌, Some, None, sym, ap, refl, subst, arith, length}
-use Rattle.std.proofs.lemmas.Grind.{common_steps}
+use Rattle.std.proofs.Common.{Some, subst}
 use Rattle.token.proofs.Needs.{keeper_needed}
-use Rattle.token.specs.Point.{IsEndOf, IsNeededAt}
+use Rattle.token.specs.Point.{IsEndOf}
 use Rattle.token.specs.RunInTurn.{point_of}
 use Rattle.guest_memory.specs.Memory.{Memory}
-use Rattle.schedule_core.proofs.Turning.{kept_desk, turn_done, posted_needed, slot_at, posted_there, must_be_posted}
-use Rattle.schedule_core.specs.Stage.{IsKeeper, IsKeepers, point_at, start_in}
-use Rattle.schedule_core.specs.declared.slot.Slot.TheVariants.{Posted}
+use Rattle.schedule_core.proofs.Turning.{kept_desk, turn_done}
+use Rattle.schedule_core.specs.Stage.{IsKeeper, IsKeepers, point_at}
 use Rattle.schedule_core.proofs.stage.Stage.keeper_turn.Goals as goal
 
 pub settle-requires-clause-desk : goal.settle-requires-clause-desk

@@ -1,4 +1,4 @@
-use Rattle.std.proofs.Common.{◌≡◌, ◌∙◌, ◌≤◌, ℕ, ap, sym, arith, length, vec_len}
+use Rattle.std.proofs.Common.{◌≡◌, ◌∙◌, ◌≤◌, ℕ, ap, arith, length}
 use Rattle.std.proofs.lemmas.Grind.{common_steps}
 use Rattle.thread_table.specs.Threads.{ready_list}
 use Rattle.schedule.specs.Phase.{opened}
@@ -16,6 +16,7 @@ returns-clause-sound c =
     record {
       desk = opened_desk (start_in c.args.self.now) c.len-jobs.result c.len-workers.result _ _ c.add_idle.ensures.items c.add_open.ensures.items jobs few (omega arith);
       keeper = rw c.requires.keeper tt;
+      outcome = c.requires.outcome;
       room = grind (arith, common_steps);
       places = grind (arith, common_steps);
     }

@@ -1,12 +1,10 @@
-use Rattle.std.proofs.Common.{◌≡◌, ◌∙◌, Some, None, true, false, refl, ap, sym, subst, arith, get_or, length, ◌<◌, ◌≤◌, ℕ}
-use Rattle.std.specs.Prelude.{slice_get, slice_index}
-use Rattle.schedule.specs.Phase.{is_draw}
-use Rattle.schedule.specs.declared.event.Event.TheVariants.{Draw, Step, Note, Skip, Post}
-use Rattle.schedule_core.proofs.Desk.{there_at, held_at, must_work, must_be_idle, not_stopped, must_have_stopped, allowed_to, no_draw, enabled_at, counts_draw, counts_step, counts_kept, counts_note, counts_skip, counts_post, seat_changes, seat_draws, slot_changes, few_drawn, posted_end}
+use Rattle.std.proofs.Common.{refl}
+use Rattle.schedule.specs.declared.event.Event.TheVariants.{Post}
+use Rattle.schedule_core.proofs.Desk.{there_at, held_at, must_work, must_have_stopped, counts_post, seat_changes, slot_changes, posted_end}
 use Rattle.schedule_core.specs.Jobs.{verdicts_of}
-use Rattle.schedule_core.specs.Stage.{counts_of, start_in}
-use Rattle.schedule_core.specs.declared.seat.Seat.TheVariants.{Idle, Ended, Working}
-use Rattle.schedule_core.specs.declared.slot.Slot.TheVariants.{Posted, Skipped}
+use Rattle.schedule_core.specs.Stage.{start_in}
+use Rattle.schedule_core.specs.declared.seat.Seat.TheVariants.{Idle, Working}
+use Rattle.schedule_core.specs.declared.slot.Slot.TheVariants.{Posted}
 use Rattle.schedule_core.proofs.stage.Stage.post.Goals as goal
 
 pub returns-in_default : goal.returns-in_default
@@ -28,6 +26,7 @@ returns-clause-sound c =
           (seat_changes (start_in c.args.self.now) c.args.self.now.drawn c.args.self.now.seats.items c.args.self.now.slots.items c.args.worker (Working c.in-Working.held) Idle desk is tt refl)
           (rw desk.jobs held.job) (posted_end (start_in c.args.self.now) c.in-Working.held held c.in_ok-end.end c.in_ok-end.ensures);
       keeper = c.requires.sound.keeper;
+      outcome = c.requires.sound.outcome;
       room = c.requires.sound.room;
       places = c.requires.sound.places;
     }

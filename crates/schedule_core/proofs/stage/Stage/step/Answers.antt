@@ -1,12 +1,9 @@
-use Rattle.std.proofs.Common.{◌≡◌, ◌∙◌, Some, None, true, false, refl, ap, sym, subst, arith, get_or, length, ◌<◌, ◌≤◌, ℕ}
-use Rattle.std.specs.Prelude.{slice_get, slice_index}
-use Rattle.schedule.specs.Phase.{is_draw}
-use Rattle.schedule.specs.declared.event.Event.TheVariants.{Draw, Step, Note, Skip, Post}
-use Rattle.schedule_core.proofs.Desk.{there_at, held_at, must_work, must_be_idle, not_stopped, must_have_stopped, allowed_to, no_draw, enabled_at, counts_draw, counts_step, counts_kept, counts_note, counts_skip, counts_post, seat_changes, seat_draws, slot_changes, few_drawn, ok_then, err_then}
+use Rattle.std.proofs.Common.{refl}
+use Rattle.schedule.specs.declared.event.Event.TheVariants.{Step}
+use Rattle.schedule_core.proofs.Desk.{there_at, held_at, must_work, not_stopped, counts_step, counts_kept, ok_then, err_then}
 use Rattle.schedule_core.specs.Jobs.{verdicts_of}
-use Rattle.schedule_core.specs.Stage.{counts_of, start_in}
-use Rattle.schedule_core.specs.declared.seat.Seat.TheVariants.{Idle, Ended, Working}
-use Rattle.schedule_core.specs.declared.slot.Slot.TheVariants.{Posted, Skipped}
+use Rattle.schedule_core.specs.Stage.{start_in}
+use Rattle.schedule_core.specs.declared.seat.Seat.TheVariants.{Working}
 use Rattle.schedule_core.proofs.stage.Stage.step.Goals as goal
 
 pub go_on-requires-clause-goes : goal.go_on-requires-clause-goes

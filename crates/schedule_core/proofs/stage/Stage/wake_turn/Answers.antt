@@ -1,6 +1,5 @@
-use Rattle.std.proofs.Common.{◌≡◌, ◌∙◌, Some, None, sym, ap, refl}
-use Rattle.schedule_core.proofs.Turning.{kept_desk, turn_done, posted_needed, same_desk, same_keeper}
-use Rattle.schedule_core.specs.Stage.{point_at, start_in}
+use Rattle.schedule_core.proofs.Turning.{kept_desk}
+use Rattle.schedule_core.specs.Stage.{point_at}
 use Rattle.token.specs.RunInTurn.{point_of}
 use Rattle.schedule_core.proofs.stage.Stage.wake_turn.Goals as goal
 

@@ -12,18 +12,18 @@ returns-in-Ended-clause-ended c =
 
 pub returns-in-Ended-clause-outcome : goal.returns-in-Ended-clause-outcome
 returns-in-Ended-clause-outcome c =
-    let lawful = c.turns-turns.ensures.lawful in
+    let asked = c.need.ensures.follows in
     subst (λ (stage : Stage). IsOutcome (point_at stage) (Some c.in-Ended.outcome)) c.self.view_is
-    (outcome_is (point_at c.self.inside.stage) lawful.0 lawful.1 c.one_history.ensures.progress (Some c.in-Ended.outcome)
+    (outcome_is (point_at c.self.inside.stage) asked.0 asked.1 c.one_history.ensures.progress (Some c.in-Ended.outcome)
     (has_ended (point_at c.self.inside.stage) c.in-Ended.outcome (sym c.in-Ended.ensures.need)))
 
 pub returns-in_default : goal.returns-in_default
 returns-in_default c =
-    let lawful = c.turns-turns.ensures.lawful in
+    let asked = c.need.ensures.follows in
     let going : (point_at c.self.inside.stage).ended ≡ None = goes_on (point_at c.self.inside.stage) (λ outcome is. c.in_default.not-Ended outcome (c.need.ensures.need ∙ is)) in
     record {
       ended = subst (λ (stage : Stage). None ≡ (point_at stage).ended) c.self.view_is (sym going);
       outcome =
           subst (λ (stage : Stage). IsOutcome (point_at stage) None) c.self.view_is
-          (outcome_is (point_at c.self.inside.stage) lawful.0 lawful.1 c.one_history.ensures.progress None going);
+          (outcome_is (point_at c.self.inside.stage) asked.0 asked.1 c.one_history.ensures.progress None going);
     }

@@ -7,9 +7,9 @@ use Rattle.token.specs.declared.due.Due.{Due}
 use Rattle.token.proofs.Committing.{wake_there}
 use Rattle.token.proofs.run_in_turn.RunInTurn.wake_turn.Goals as goal
 
-pub record-requires-clause-thread : goal.record-requires-clause-thread
+pub count-requires-clause-thread : goal.count-requires-clause-thread
 unfolding point_of
-record-requires-clause-thread c =
+count-requires-clause-thread c =
     let due : thread_due c.due-due.result < length (state_of c.args.self.now.shared).threads =
     subst (λ (who : Due). thread_due who < length (state_of c.args.self.now.shared).threads) (sym c.due-due.ensures.due) c.requires.due.now_there in
     let below : c.thread-2.result < length (state_of c.args.self.now.shared).threads = subst (λ (n : ℕ). n < length (state_of c.args.self.now.shared).threads) (sym c.thread-2.ensures) due in

@@ -1,0 +1,34 @@
+ghost use Rattle.std.specs.Prelude.{◌≡◌, ◌+◌, ◌%◌, ◌^◌};
+
+use crate::cause::Cause;
+use crate::trap::Trap;
+use std::alloc::AllocError;
+
+/// How a hart goes on after an instruction.
+#[derive(Debug, Drop)]
+pub(crate) enum Flow {
+    /// The instruction was executed, and the next one is at this address, a multiple of 4.
+    Goes(u32),
+    /// It is an ecall. Nothing has changed.
+    Ecall,
+    /// It traps. Nothing has changed.
+    Trap(Trap),
+    /// It is a store for which the memory had to grow and couldn't. Nothing has changed.
+    OutOfMemory(AllocError),
+}
+
+/// Goes on after the instruction at an address.
+#[inline(always)]
+pub(crate) fn go_on(pc: u32) -> Flow
+    ensures { result ≡ Flow.Goes ((pc + 4) % 2 ^ 32) }
+{
+    Flow::Goes(pc.wrapping_add(4))
+}
+
+/// A trap of this cause and value.
+#[inline(always)]
+pub(crate) fn trapped(cause: Cause, value: u32) -> Flow
+    ensures { result ≡ Flow.Trap (record { cause = cause; value = value }) }
+{
+    Flow::Trap(Trap { cause, value })
+}

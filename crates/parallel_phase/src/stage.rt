@@ -1,0 +1,11 @@
+use crate::drawn::Drawn;
+use crate::taken::Taken;
+
+/// What became of a drawn job by now.
+#[derive(Drop)]
+pub enum Stage {
+    /// It goes on.
+    GoesOn(Taken),
+    /// It was run, or skipped.
+    Over(Drawn),
+}

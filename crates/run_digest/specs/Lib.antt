@@ -1,0 +1,3 @@
+pub mod Memories
+pub mod Recording
+pub mod Texts

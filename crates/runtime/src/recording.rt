@@ -1,0 +1,125 @@
+//! Runs with a recorder.
+ghost use Rattle.std.specs.Prelude.{◌≡◌, ◌-◌, ◌^◌, ◌<◌, ◌≤◌, [], IfErr};
+ghost use Rattle.token.specs.RunInTurn.{point_of};
+ghost use Rattle.runtime.specs.Faults.{IsUnderWay};
+ghost use Rattle.runtime.specs.Recorded.{AnswersRecorded, EndsOrRecords};
+ghost use Rattle.runtime.specs.Run.{OpensRun, setup_from};
+ghost use Rattle.runtime.specs.Sending.{CountsFailures, SendsEnd};
+
+use crate::config::Config;
+use crate::limits::MAX_WORKERS;
+use crate::opening::open;
+use crate::recorded_run::RecordedRun;
+use crate::reporting::end_of;
+use crate::run_fault::RunFault;
+use crate::sink::Sink;
+use crate::turns::take_turns;
+use gate::Gate;
+use std::alloc::Global;
+use std::marker::Brand;
+use std::sync::Wait;
+use std::thread::Threads;
+use token::{Recorder, Serial, Start, one_history};
+
+/// Runs a file on an input, sends the output to a sink, and tells a recorder of each turn. The recorder has
+/// recorded no turn before. The output's bytes are offered once their turn is recorded.
+pub fn run_recorded<R: Threads + Wait + Sync, G: Gate + Sync, S: Sink, K: Recorder>(
+    rt: &R,
+    alloc: Global,
+    elf: &[u8],
+    input: &[u8],
+    config: &Config,
+    gate: &G,
+    sink: &mut S,
+    recorder: K,
+) -> RecordedRun<K>
+    requires failures { S.failed sink.old < 2 ^ 64 - 1 }
+    requires none { K.records recorder [] [] }
+    ensures answers { AnswersRecorded K.records K.writes elf.now input.now config.now result.result result.recorder }
+    // What the sink took during the call, where it tells it.
+    ensures sent { SendsEnd (setup_from elf.now input.now config.now) result.result (S.taken sink.old) (S.taken sink.new) }
+    // WriteFailed is answered only where the sink failed, and an end only where it didn't.
+    ensures failures { CountsFailures result.result (S.failed sink.old) (S.failed sink.new) }
+{
+    match open_run(alloc, elf, input, config) {
+        Ok(start) => run_opened(rt, alloc, start, config.workers, gate, sink, recorder),
+        Err(fault) => RecordedRun {
+            result: Err(fault),
+            recorder,
+        },
+    }
+}
+
+/// The run of a file on an input, of which no turn is done. The configuration is looked at first, then the input,
+/// then the file.
+pub fn open_run(alloc: Global, elf: &[u8], input: &[u8], config: &Config) -> Result<Start, RunFault>
+    ensures { OpensRun elf.now input.now config.now result }
+{
+    let image = open(alloc, elf, input, config)?;
+    Ok(Start::open(alloc, &image, input, config.bound, config.quantum)?)
+}
+
+/// Does all turns of a run by so many host threads at most, from 1 to 64, sends the output to a sink, and tells a
+/// recorder of each turn. The recorder has recorded no turn before. The output's bytes are offered once their turn is recorded.
+pub fn run_opened<R: Threads + Wait + Sync, G: Gate + Sync, S: Sink, K: Recorder>(
+    rt: &R,
+    alloc: Global,
+    start: Start,
+    workers: u32,
+    gate: &G,
+    sink: &mut S,
+    recorder: K,
+) -> RecordedRun<K>
+    requires output { (point_of start).state.output ≡ [] }
+    requires failures { S.failed sink.old < 2 ^ 64 - 1 }
+    requires none { K.records recorder [] [] }
+    ensures end { EndsOrRecords K.records (point_of start).setup result.result result.recorder }
+    ensures fault { IfErr result.result IsUnderWay }
+    ensures writes { IfErr result.result (λ fault. fault ≡ RunFault.RecordFailed → K.writes) }
+    ensures sent { SendsEnd (point_of start).setup result.result (S.taken sink.old) (S.taken sink.new) }
+    ensures failures { CountsFailures result.result (S.failed sink.old) (S.failed sink.new) }
+{
+    let workers = workers.max(1).min(MAX_WORKERS);
+    record_serial(rt, alloc, start.recorded_by(recorder), workers, gate, sink)
+}
+
+/// Does all turns of a run that has done none, and answers how it ended.
+fn record_serial<R: Threads + Wait + Sync, G: Gate + Sync, S: Sink, K: Recorder>(
+    rt: &R,
+    alloc: Global,
+    serial: Serial<K>,
+    workers: u32,
+    gate: &G,
+    sink: &mut S,
+) -> RecordedRun<K>
+    requires output { (point_of serial).state.output ≡ [] }
+    requires workers { (0 < workers) × (workers ≤ 64) }
+    requires failures { S.failed sink.old < 2 ^ 64 - 1 }
+    ensures end { EndsOrRecords K.records (point_of serial).setup result.result result.recorder }
+    ensures fault { IfErr result.result IsUnderWay }
+    ensures writes { IfErr result.result (λ fault. fault ≡ RunFault.RecordFailed → K.writes) }
+    ensures sent { SendsEnd (point_of serial).setup result.result (S.taken sink.old) (S.taken sink.new) }
+    ensures failures { CountsFailures result.result (S.failed sink.old) (S.failed sink.new) }
+{
+    let mut serial = serial;
+    one_history();
+    match take_turns::<Brand, _, _, _, _>(rt, alloc, &mut serial, workers, gate, sink) {
+        Ok(outcome) => match end_of(alloc, &serial, outcome) {
+            Ok(end) => RecordedRun {
+                result: Ok(end),
+                recorder: serial.into_recorder(),
+            },
+            Err(refused) => {
+                let fault = RunFault::from(refused);
+                RecordedRun {
+                    result: Err(fault),
+                    recorder: serial.into_recorder(),
+                }
+            }
+        },
+        Err(fault) => RecordedRun {
+            result: Err(fault),
+            recorder: serial.into_recorder(),
+        },
+    }
+}

@@ -1,0 +1,10 @@
+use crate::event_fault::EventFault;
+
+/// The first event of a list that is refused.
+#[derive(Clone, Copy, Debug, PartialEq, Eq)]
+pub struct RefusedEvent {
+    /// Its place in the list, from 0.
+    pub place: usize,
+    /// Why it is refused.
+    pub fault: EventFault,
+}

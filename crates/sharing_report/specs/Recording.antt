@@ -1,0 +1,26 @@
+-- What a recorder of sharing has recorded.
+use Rattle.std.specs.Prelude.{◌≡◌, ℕ, ◌+◌, ◌-◌, ◌^◌, ◌<◌, ◌≤◌, List, All, length}
+use Rattle.std.specs.List.{AllPairs}
+use Rattle.token.specs.Change.{Change}
+use Rattle.sharing_report.specs.ByteChanges.{bytes_of}
+use Rattle.sharing_report.specs.Pages.{AreKnown, HasPages}
+use Rattle.sharing_report.specs.declared.sharing_recorder.SharingRecorder.{SharingRecorder}
+
+-- Changes come in the order of their phases, and each is of one of 256 threads. Those of a legal history do.
+pub record AreInOrder (changes : List Change) : Type 0 where
+  pub phases : AllPairs (λ earlier later. earlier.phase ≤ later.phase) changes
+  pub threads : All (λ change. change.thread < 256) changes
+
+-- there are fewer than 2 ^ 64 - 1 turns and changed bytes together
+abbrev pub AreCountable : List Change → Type 0
+AreCountable changes = length changes + length (bytes_of changes) < 2 ^ 64 - 1
+
+-- What is known of the pages is known of the bytes that these changes have, where they come in order and can be counted.
+pub record Shares (recorder : SharingRecorder) (changes : List Change) : Type 0 where
+  pub turns : AreCountable changes → recorder.turns ≡ length changes
+  pub pages : AreInOrder changes → AreCountable changes → AreKnown recorder.pages (bytes_of changes)
+
+-- the addresses are at hand, and so are their pages
+pub record IsPrepared (recorder : SharingRecorder) (addresses : List ℕ) : Type 0 where
+  pub at_hand : recorder.addresses.items ≡ addresses
+  pub pages : HasPages recorder.pages addresses

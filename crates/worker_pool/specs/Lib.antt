@@ -1,0 +1,4 @@
+pub mod Goings
+pub mod Jobs
+pub mod Posts
+pub mod Sharing

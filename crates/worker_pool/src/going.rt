@@ -1,0 +1,12 @@
+use crate::of_run::OfRun;
+use crate::post::Post;
+use parallel_phase::Taken;
+
+/// What became of a drawn job by now.
+#[derive(Drop)]
+pub(crate) enum Going<B: OfRun> {
+    /// It goes on.
+    On(Taken),
+    /// It is over, and this is to be told.
+    Over(Post<B>),
+}

@@ -1,0 +1,25 @@
+//! One pool of host threads for a whole run: whichever of them executes a job, the caller is given the end of the
+//! segment that the run needs next.
+//!
+//! [`Pool`] is the caller's. Once a phase has work for more host threads it hires a [`Crew`], whose workers draw jobs of
+//! the phases that the caller offers, and send the end of each. What is sent carries its fact: that it is the end of that
+//! thread's segment in that phase of this run.
+#![tactic(auto)]
+
+mod board;
+mod crew;
+mod flags;
+mod going;
+mod line;
+mod of_run;
+mod offer;
+mod opening;
+mod pool;
+mod post;
+mod segment_end;
+mod shared_phase;
+
+pub use crew::Crew;
+pub use of_run::OfRun;
+pub use pool::{MOST_WORKERS, Pool};
+pub use post::Post;

@@ -1,0 +1,15 @@
+ghost use Rattle.token.specs.Setup.{Setup};
+
+use std::marker::Brand;
+
+/// Which run it is, by what the run was given. Each run picks it once, and what its host threads tell each other is
+/// of this run.
+pub trait OfRun {
+    ghost setup: { Setup };
+}
+
+impl OfRun for Brand {
+    ghost use Rattle.std.specs.Prelude.{None, []};
+
+    ghost setup = { record { entry = 0; memory = λ _. None; input = []; bound = 0; quantum = None } };
+}

@@ -1,0 +1,178 @@
+//! A phase of a run is made ready to be shared out.
+ghost use Rattle.std.specs.Prelude.{◌≡◌, ◌<◌, ◌≤◌, ℕ, Some, true, All, length, map, slice_get, vec_len, IfOk, IfSome};
+ghost use Rattle.claim_table.specs.Logs.{most_seats, times};
+ghost use Rattle.paged_memory.specs.Snapshot.{cells_of};
+ghost use Rattle.token.specs.RunInTurn.{point_of};
+ghost use Rattle.token.specs.Serial.{IsAskedFor};
+ghost use Rattle.std.specs.Arc.{arc_value};
+ghost use Rattle.worker_pool.specs.Jobs.{IsBegunIn, job_from, jobs_in};
+ghost use Rattle.worker_pool.specs.Sharing.{IsHeld};
+
+use crate::board::Board;
+use crate::line::Line;
+use crate::of_run::OfRun;
+use crate::shared_phase::SharedPhase;
+use claim_table::DrawSeat;
+use parallel_phase::{Job, Phase, Taken, Underway};
+use std::alloc::{AllocError, Global};
+use std::sync::{Arc, Wait};
+use thread_table::Threads;
+use token::{Recorder, Serial};
+
+/// The jobs of some threads, in their order.
+fn jobs_of(
+    alloc: Global,
+    rows: &Threads,
+    threads: &[u32],
+    bound: u64,
+    quantum: Option<u64>,
+) -> Result<Vec<Job>, AllocError>
+    requires { All (λ thread. thread < length rows.now) threads.now }
+    ensures { IfOk result (λ jobs. jobs.items ≡ map (job_from rows.now bound quantum) threads.now) }
+{
+    let mut jobs = Vec::with_capacity(alloc, threads.len())?;
+    for thread in threads {
+        let row = rows.get(*thread);
+        jobs.push(Job {
+            hart: row.hart,
+            left: bound.saturating_sub(row.executed),
+            quantum,
+        })?;
+    }
+    Ok(jobs)
+}
+
+/// The phase that a run is in, to be shared out to so many seats at most, and its seats.
+pub(crate) fn shared_phase<B: OfRun, K: Recorder>(
+    alloc: Global,
+    serial: &Serial<K>,
+    seats: u32,
+) -> Result<(SharedPhase<B>, Vec<DrawSeat>), AllocError>
+    requires setup { (point_of serial.now).setup ≡ B.setup }
+    requires asked { IsAskedFor serial.now }
+    requires seats { (0 < seats) × (seats ≤ most_seats) }
+    ensures some { IfOk result (λ made. 0 < vec_len made.1) }
+    ensures seats { IfOk result (λ made. All (λ seat. seat.row ≡ made.0.phase.row) made.1.items) }
+    ensures base { IfOk result (λ made. cells_of made.0.phase.base ≡ (point_of serial.now).base) }
+    ensures jobs { IfOk result (λ made. made.0.phase.jobs ≡ jobs_in B.setup (point_of serial.now).base_threads made.0.threads) }
+{
+    let ready = serial.base_threads().ready_list();
+    let threads = Vec::from_slice(alloc, ready.as_slice())?;
+    let jobs = jobs_of(
+        alloc,
+        serial.base_threads(),
+        threads.as_slice(),
+        serial.bound(),
+        serial.quantum(),
+    )?;
+    let (phase, seats) = Phase::open(alloc, jobs.as_slice(), seats, serial.base())?;
+    Ok((SharedPhase::new(serial.phase(), threads, phase), seats))
+}
+
+/// Draws up to a job. Whether the seat drew it.
+fn draw_up_to(phase: &Phase, seat: &mut DrawSeat, number: u32) -> bool
+    requires { seat.old.row ≡ phase.now.row }
+    ensures row { seat.new.row ≡ seat.old.row }
+    ensures drawn { result ≡ true → 0 < times number seat.new.log.drawn }
+{
+    for _ in 0..=number {
+        if phase.draw(seat) == Some(number) {
+            return true;
+        }
+    }
+    false
+}
+
+/// The place of a thread among others.
+fn place_of(threads: &[u32], thread: u32) -> Option<u32>
+    ensures { IfSome result (λ place. slice_get threads.now place ≡ Some thread) }
+{
+    for place in 0..threads.len() {
+        if threads[place] == thread {
+            return u32::try_from(place).ok();
+        }
+    }
+    None
+}
+
+/// A thread's job that has begun already, drawn by this seat. None where it can't be drawn.
+pub(crate) fn adopted<B: OfRun>(
+    shared: &SharedPhase<B>,
+    seat: &mut DrawSeat,
+    thread: u32,
+    job: Underway,
+) -> Option<Taken>
+    requires row { seat.old.row ≡ shared.now.phase.row }
+    requires job { (k : ℕ) → slice_get shared.now.threads k ≡ Some thread → slice_get shared.now.phase.jobs k ≡ Some job.job }
+    requires base { cells_of job.base ≡ cells_of shared.now.phase.base }
+    requires going { job.done < job.job.left }
+    ensures row { seat.new.row ≡ seat.old.row }
+    ensures held { IfSome result (IsHeld shared.now.phase seat.new) }
+{
+    let number = place_of(shared.threads(), thread)?;
+    if draw_up_to(shared.phase(), seat, number) {
+        return Some(Taken { number, job });
+    }
+    None
+}
+
+/// The seat of the caller, which is the first one.
+fn first_seat<B: OfRun>(shared: &SharedPhase<B>, seats: &mut Vec<DrawSeat>) -> DrawSeat
+    requires some { 0 < vec_len seats.old }
+    requires rows { All (λ seat. seat.row ≡ shared.now.phase.row) seats.old.items }
+    ensures row { result.row ≡ shared.now.phase.row }
+    ensures rows { All (λ seat. seat.row ≡ shared.now.phase.row) seats.new.items }
+{
+    seats.remove(0)
+}
+
+/// Offers a phase by these seats.
+fn offer_all<B: OfRun + Send + Sync, R: Wait>(
+    rt: &R,
+    line: &Line<B>,
+    shared: &Arc<SharedPhase<B>>,
+    mut seats: Vec<DrawSeat>,
+)
+    requires { All (λ seat. seat.row ≡ (arc_value shared.now).phase.row) seats.items }
+{
+    line.take_back(rt);
+    while let Some(seat) = seats.pop() {
+        if !line.offer(rt, shared, seat) {
+            return;
+        }
+    }
+}
+
+/// Shares the present phase of a run out to so many host threads at most, the caller counted. None where it has no two
+/// jobs. The job is the thread's, where it has begun.
+pub(crate) fn share_out<B: OfRun + Send + Sync, R: Wait, K: Recorder>(
+    rt: &R,
+    alloc: Global,
+    line: &Line<B>,
+    serial: &Serial<K>,
+    most: u32,
+    thread: u32,
+    job: Option<Underway>,
+) -> Result<Option<Board<B>>, AllocError>
+    requires setup { (point_of serial.now).setup ≡ B.setup }
+    requires asked { IsAskedFor serial.now }
+    requires most { (0 < most) × (most ≤ most_seats) }
+    requires job { IfSome job (IsBegunIn (point_of serial.now) thread) }
+{
+    let jobs = serial.base_threads().ready_list().len();
+    if jobs < 2 {
+        return Ok(None);
+    }
+    let posts = Vec::with_capacity(alloc, jobs)?;
+    let hands = most.min(jobs as u32);
+    let (shared, mut seats) = shared_phase(alloc, serial, hands)?;
+    let mut seat = first_seat(&shared, &mut seats);
+    let mine = match job {
+        Some(job) => adopted(&shared, &mut seat, thread, job),
+        None => None,
+    };
+    let shared = Arc::new(alloc, shared)?;
+    line.flags.want(hands - 1);
+    offer_all(rt, line, &shared, seats);
+    Ok(Some(Board::new(shared, seat, mine, posts)))
+}
