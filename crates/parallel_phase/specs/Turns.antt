@@ -1,5 +1,5 @@
 -- How the jobs of a phase come to a taker of turns.
-use Rattle.std.specs.Prelude.{◌≡◌, ℕ, Bool, true, false, Option, Some, None, Result, Ok, Err, List, length, slice_get}
+use Rattle.std.specs.Prelude.{◌≡◌, ℕ, ◌<◌, Bool, true, false, Option, Some, None, Result, Ok, Err, List, length, slice_get}
 use Rattle.guest_memory.specs.Memory.{Memory}
 use Rattle.parallel_phase.specs.declared.job.Job.{Job}
 use Rattle.parallel_phase.specs.declared.drawn.Drawn.{Drawn}
@@ -21,6 +21,13 @@ IsThrough jobs New = ⊥
 IsThrough jobs (Going taken) = taken ≡ length jobs
 IsThrough jobs (Stopped taken) = Unit {0}
 IsThrough jobs Failed = ⊥
+
+-- memory was refused before it had all turns: it hasn't begun, goes on after some, or a call of it failed
+abbrev pub IsCutShort : List Job → TakerStage → Type 0
+IsCutShort jobs New = Unit {0}
+IsCutShort jobs (Going taken) = taken < length jobs
+IsCutShort jobs (Stopped taken) = ⊥
+IsCutShort jobs Failed = Unit {0}
 
 -- what became of a job: where it was run, it is this one of these jobs, run on this memory
 abbrev pub IsResult : List Job → Memory → ℕ → Outcome → Type 0

@@ -1,9 +1,9 @@
 //! The turns of a phase's jobs, taken in their order while workers run later jobs.
 
-ghost use Rattle.std.specs.Prelude.{◌≡◌, ◌<◌, ◌≤◌, length, All, OnOk};
+ghost use Rattle.std.specs.Prelude.{◌≡◌, ◌<◌, ◌≤◌, length, All, OnOk, OnErr};
 ghost use Rattle.paged_memory.specs.Snapshot.{cells_of};
 ghost use Rattle.claim_table.specs.Logs.{most_jobs, most_seats};
-ghost use Rattle.parallel_phase.specs.Turns.{IsTakerOf, IsThrough};
+ghost use Rattle.parallel_phase.specs.Turns.{IsCutShort, IsTakerOf, IsThrough};
 ghost use Rattle.parallel_phase.specs.declared.taker_stage.TakerStage.TheVariants.{New};
 ghost use denote.Param.Send.{IsSend, IsSync};
 
@@ -44,11 +44,12 @@ impl Phase {
         ensures row { seat.new.row ≡ self.now.row }
         ensures same { (T.turns_of taker.new ≡ T.turns_of taker.old) × (T.begins_with taker.new ≡ T.begins_with taker.old) }
         ensures through { OnOk result (IsThrough self.now.jobs (T.taker_stage taker.new)) }
+        ensures short { OnErr result (IsCutShort self.now.jobs (T.taker_stage taker.new)) }
     {
+        let mut desk = self.desk()?;
         if !taker.begin()? {
             return Ok(());
         }
-        let mut desk = self.desk()?;
         for number in 0..self.jobs.len() as u32 {
             let ran = self.result_of(rt, &mut desk, seat, gate, results, number)?;
             if !taker.take(number, ran)? {
@@ -72,6 +73,7 @@ impl Phase {
         requires taker { IsTakerOf self.now.jobs (cells_of self.now.base) (T.turns_of taker.old) (T.begins_with taker.old) (T.taker_stage taker.old) New }
         ensures same { (T.turns_of taker.new ≡ T.turns_of taker.old) × (T.begins_with taker.new ≡ T.begins_with taker.old) }
         ensures through { OnOk result (IsThrough self.now.jobs (T.taker_stage taker.new)) }
+        ensures short { OnErr result (IsCutShort self.now.jobs (T.taker_stage taker.new)) }
     {
         let taken = self.take_turns(rt, seat, gate, results, taker);
         self.draw_rest(seat);
@@ -92,6 +94,7 @@ impl Phase {
         requires taker { IsTakerOf self.now.jobs (cells_of self.now.base) (T.turns_of taker.old) (T.begins_with taker.old) (T.taker_stage taker.old) New }
         ensures same { (T.turns_of taker.new ≡ T.turns_of taker.old) × (T.begins_with taker.new ≡ T.begins_with taker.old) }
         ensures through { OnOk result (IsThrough self.now.jobs (T.taker_stage taker.new)) }
+        ensures short { OnErr result (IsCutShort self.now.jobs (T.taker_stage taker.new)) }
     {
         let (sender, receiver) = bounded::<Message<J>, Global>(
             self.base.allocator(),
@@ -105,7 +108,7 @@ impl Phase {
         { self.send_by_all::<J, G, R>(rt, others.as_mut_slice(), gate, &sender) };
         let mut take = || -> Result<(), AllocError>
             requires { (seat.row ≡ self.now.row) × (J.jobs ≡ self.now.jobs) × (J.memory ≡ cells_of self.now.base) × IsTakerOf self.now.jobs (cells_of self.now.base) (T.turns_of taker.now) (T.begins_with taker.now) (T.taker_stage taker.now) New }
-            ensures { (T.turns_of taker.exit.now ≡ T.turns_of taker.entry.now) × (T.begins_with taker.exit.now ≡ T.begins_with taker.entry.now) × OnOk result (IsThrough self.entry.now.jobs (T.taker_stage taker.exit.now)) }
+            ensures { (T.turns_of taker.exit.now ≡ T.turns_of taker.entry.now) × (T.begins_with taker.exit.now ≡ T.begins_with taker.entry.now) × OnOk result (IsThrough self.entry.now.jobs (T.taker_stage taker.exit.now)) × OnErr result (IsCutShort self.entry.now.jobs (T.taker_stage taker.exit.now)) }
         { self.take_turns_only(rt, &mut seat, gate, &receiver, taker) };
         let (_, taken) = join_mut(rt, &mut send, &mut take);
         taken
@@ -114,7 +117,8 @@ impl Phase {
 
 /// Runs the jobs of a phase, at most 256, on a memory by 1 to 64 workers, of which the caller's thread is one, and lets
 /// a taker take their turns in order, while later jobs run. `Ok` where the taker took all turns or answered false; it is
-/// then over at once, but for jobs that have begun.
+/// then over at once, but for jobs that have begun. `Err` where memory was refused before the taker had all turns: it
+/// then hasn't begun, goes on after the turns of some first jobs, or failed itself.
 ///
 /// The taker hasn't begun, and it takes the turns of these jobs on this memory. No more threads are started than there
 /// are jobs but one. Where a thread can't be started, the others run its jobs.
@@ -131,6 +135,7 @@ pub fn run_in_order<G: Gate + Sync, R: Threads + Wait + Sync, T: TurnTaker>(
     requires taker { IsTakerOf jobs.now (cells_of base.now) (T.turns_of taker.old) (T.begins_with taker.old) (T.taker_stage taker.old) New }
     ensures same { (T.turns_of taker.new ≡ T.turns_of taker.old) × (T.begins_with taker.new ≡ T.begins_with taker.old) }
     ensures through { OnOk result (IsThrough jobs.now (T.taker_stage taker.new)) }
+    ensures short { OnErr result (IsCutShort jobs.now (T.taker_stage taker.new)) }
 {
     let (phase, mut seats) = Phase::open(alloc, jobs, seats_for(jobs.len(), workers), base)?;
     let seat = seats.remove(0);
