@@ -7,7 +7,7 @@ use Rattle.std.proofs.lemmas.List.Elements.{All-append, All-head, All-map, All-n
 use Rattle.token.specs.Change.{Change}
 use Rattle.sharing_report.specs.ByteChanges.{byte_change, bytes_of, bytes_of_turn}
 use Rattle.sharing_report.specs.Pages.{AreUpTo}
-use Rattle.sharing_report.specs.Recording.{AreCountable, AreInOrder}
+use Rattle.sharing_report.specs.Recording.{AreInOrder}
 use Rattle.sharing_report.specs.declared.byte_change.ByteChange.{ByteChange}
 
 enumerate_from-snoc : {X : Type 0} (n : ℕ) (xs : List X) (x : X) → enumerate_from n (xs ++ x ∷ []) ≡ enumerate_from n xs ++ (n + length xs, x) ∷ []
@@ -60,8 +60,3 @@ module _ (changes : List Change) (change : Change) (order : AreInOrder (changes 
   pub thread_small : change.thread < 256
   thread_small =
       subst (λ (one : Change). one.thread < 256) (get_or_at changes change [] change (length changes) refl) (order.threads (length changes) change (omega (arith, length-append changes (change ∷ []))))
-
-pub fewer : (changes : List Change) (change : Change) → AreCountable (changes ++ change ∷ []) → AreCountable changes
-fewer changes change few =
-    let bytes = ap length (bytes_of-snoc changes change) in
-    omega (arith, length-append changes (change ∷ []), length-append (bytes_of changes) (bytes_of_turn (length changes) change), bytes)

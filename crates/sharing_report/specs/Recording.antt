@@ -11,16 +11,15 @@ pub record AreInOrder (changes : List Change) : Type 0 where
   pub phases : AllPairs (λ earlier later. earlier.phase ≤ later.phase) changes
   pub threads : All (λ change. change.thread < 256) changes
 
--- there are fewer than 2 ^ 64 - 1 turns and changed bytes together
-abbrev pub AreCountable : List Change → Type 0
-AreCountable changes = length changes + length (bytes_of changes) < 2 ^ 64 - 1
-
--- What is known of the pages is known of the bytes that these changes have, where they come in order and can be counted.
+-- What is known of the pages is known of the bytes that these changes have, where they come in order. The turns and the changed bytes
+-- are counted.
 pub record Shares (recorder : SharingRecorder) (changes : List Change) : Type 0 where
-  pub turns : AreCountable changes → recorder.turns ≡ length changes
-  pub pages : AreInOrder changes → AreCountable changes → AreKnown recorder.pages (bytes_of changes)
+  pub turns : recorder.turns ≡ length changes
+  pub counted : recorder.counted ≡ length changes + length (bytes_of changes)
+  pub pages : AreInOrder changes → AreKnown recorder.pages (bytes_of changes)
 
--- the addresses are at hand, and so are their pages
+-- the addresses are at hand, and so are their pages, and a turn that changes them can be counted
 pub record IsPrepared (recorder : SharingRecorder) (addresses : List ℕ) : Type 0 where
   pub at_hand : recorder.addresses.items ≡ addresses
   pub pages : HasPages recorder.pages addresses
+  pub room : recorder.counted + length addresses + 1 < 2 ^ 64 - 1

@@ -1,4 +1,4 @@
-ghost use Rattle.std.specs.Prelude.{◌≡◌, ℕ, ◌-◌, ◌+◌, ◌^◌, ◌<◌, List, [], IfOk, length};
+ghost use Rattle.std.specs.Prelude.{◌≡◌, ℕ, List, [], IfOk};
 
 use crate::page_row::PageRow;
 use crate::page_states::{PageStates, add_pages, note_turn};
@@ -6,6 +6,10 @@ use commit::{Patch, changed_addresses};
 use std::alloc::{AllocError, Global};
 use std::collections::BTreeMap;
 use token::{Recorder, Turn, TurnFault};
+
+/// More turns and changed bytes than this together are refused as if memory ran out. No run comes near it: that would
+/// take thousands of years.
+const MOST_COUNTED: u64 = 1 << 62;
 
 /// Keeps the sharing report up to date, turn by turn. It has what is counted of each page that was ever changed, and
 /// no list of turns.
@@ -16,12 +20,14 @@ pub struct SharingRecorder {
     pages: PageStates,
     /// How many turns were recorded.
     turns: u64,
+    /// How many turns were recorded and how many bytes they changed, together.
+    counted: u64,
     /// What the turn changed that it is prepared for.
     addresses: Vec<u32>,
 }
 
 impl SharingRecorder {
-    ghost use Rattle.sharing_report.specs.Recording.{AreCountable, AreInOrder, Shares};
+    ghost use Rattle.sharing_report.specs.Recording.{AreInOrder, Shares};
     ghost use Rattle.sharing_report.specs.Sharing.{IsSharing};
     ghost use Rattle.token.specs.Change.{Change};
 
@@ -33,6 +39,7 @@ impl SharingRecorder {
             alloc,
             pages: BTreeMap::new(alloc),
             turns: 0,
+            counted: 0,
             addresses: Vec::new(alloc),
         }
     }
@@ -44,7 +51,7 @@ impl SharingRecorder {
     ///
     /// Only out of memory.
     pub fn rows(&self) -> Result<Vec<PageRow>, AllocError>
-        ensures { IfOk result (λ rows. (changes : List Change) → Shares self.now changes → AreInOrder changes → AreCountable changes → IsSharing changes rows.items) }
+        ensures { IfOk result (λ rows. (changes : List Change) → Shares self.now changes → AreInOrder changes → IsSharing changes rows.items) }
     {
         let mut rows = Vec::with_capacity(self.alloc, self.pages.len())?;
         for (page, state) in &self.pages {
@@ -70,6 +77,9 @@ impl Recorder for SharingRecorder {
             Some(patch) => changed_addresses(self.alloc, patch)?,
             None => Vec::new(self.alloc),
         };
+        if self.counted >= MOST_COUNTED || self.addresses.len() as u64 >= MOST_COUNTED {
+            return Err(TurnFault::OutOfMemory);
+        }
         add_pages(self.alloc, &mut self.pages, &self.addresses)?;
         Ok(())
     }
@@ -85,5 +95,9 @@ impl Recorder for SharingRecorder {
             &self.addresses,
         );
         self.turns = self.turns.saturating_add(1);
+        self.counted = self
+            .counted
+            .saturating_add(self.addresses.len() as u64)
+            .saturating_add(1);
     }
 }

@@ -1,4 +1,5 @@
 pub mod Begins
+pub mod ChangesInOrder
 pub mod Committing
 pub mod Complete
 pub mod Dues

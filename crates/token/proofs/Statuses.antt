@@ -1,5 +1,6 @@
 -- A turn leaves the other threads their turns.
-use Rattle.std.proofs.Common.{◌≡◌, ◌≢◌, ℕ, zero, suc, ◌<◌, ◌≤◌, ◌%◌, Bool, true, false, ◌==◌, if◌then◌else◌, Option, Some, None, List, [], ◌∷◌, ◌++◌, length, map, slice_get, unwrap_or, refl, ap, sym, ◌∙◌, subst, arith, length-append}
+use Rattle.std.proofs.Common.{◌≡◌, ◌≢◌, ℕ, zero, suc, ◌<◌, ◌≤◌, ◌%◌, Bool, true, false, ◌==◌, nat_lt, if◌then◌else◌, Option, Some, None, List, [], ◌∷◌, ◌++◌, length, map, slice_get, unwrap_or, refl, ap, sym, ◌∙◌, subst, arith, length-append}
+use Rattle.std.proofs.lemmas.Bool.{ltb-true}
 use Rattle.std.proofs.lemmas.List.{length-map}
 use Rattle.abi.specs.declared.call.Call.{Call}
 use Rattle.abi.specs.declared.call.Call.TheVariants as call
@@ -20,11 +21,11 @@ use Rattle.thread_table.specs.declared.status.Status.TheVariants.{Ready, Blocked
 use Rattle.thread_table.specs.declared.thread.Thread.{Thread}
 use Rattle.ecalls.specs.Request.{call_of}
 use Rattle.guest_memory.specs.Memory.{Memory}
-use Rattle.token.specs.Setup.{Setup}
+use Rattle.token.specs.Setup.{Setup, first_state}
 use Rattle.call_table.specs.State.{State, hart_at, with_thread, with_thread_by, row_of}
 use Rattle.token.specs.Due.{PrivateRun, thread_due}
 use Rattle.token.specs.History.{History, present, version}
-use Rattle.token.specs.Legal.{Follows, step_of}
+use Rattle.token.specs.Legal.{Follows, IsLegal, step_of}
 use Rattle.token.specs.Turns.{Ran, Step, after_stop, committed, run_step, wake_step}
 use Rattle.call_table.specs.Effects.{Effect, after_reply, by_objects, create, create_numbered, effect, join, let_pass, new_pages, read, release, settled, thread_exit, wake_up, write}
 use Rattle.token.specs.declared.due.Due.{Due}
@@ -44,16 +45,18 @@ turn_at threads n = has_turn (status_at threads n)
 abbrev pub HasTurn : List Thread → ℕ → Type 0
 HasTurn threads n = (n < length threads) × (turn_at threads n ≡ true)
 
--- a thread that has a turn among some threads has one among others, and there are no fewer of them
+-- A thread that has a turn among some threads has one among others. There are no fewer of them, and not more than 256 where there
+-- weren't.
 pub record Keeps (n : ℕ) (threads others : List Thread) : Type 0 where
   pub kept : turn_at threads n ≡ true → turn_at others n ≡ true
   pub grows : length threads ≤ length others
+  pub few : length threads ≤ 256 → length others ≤ 256
 
 as_it_was : (n : ℕ) (threads : List Thread) → Keeps n threads threads
-as_it_was n threads = record { kept = λ has. has; grows = omega arith }
+as_it_was n threads = record { kept = λ has. has; grows = omega arith; few = λ few. few }
 
 then_kept : (n : ℕ) (first second third : List Thread) → Keeps n first second → Keeps n second third → Keeps n first third
-then_kept n first second third one other = record { kept = λ has. other.kept (one.kept has); grows = omega arith }
+then_kept n first second third one other = record { kept = λ has. other.kept (one.kept has); grows = omega arith; few = λ few. other.few (one.few few) }
 
 -- what is made of a thread whose status passes a test passes it
 abbrev pub Allows : (Status → Bool) → (Thread → Thread) → Type 0
@@ -82,7 +85,11 @@ status_of_others test (suc n) (suc m) (row ∷ threads) made allows has =
 
 -- one thread is changed: another, or to one that has a turn if it had one
 changed_kept : (n m : ℕ) (threads : List Thread) (made : Thread → Thread) → (n ≡ m → Allows has_turn made) → Keeps n threads (with_thread threads m made)
-changed_kept n m threads made allows = record { kept = status_of_others has_turn n m threads made allows; grows = omega (arith, length-with_thread threads m made) }
+changed_kept n m threads made allows = record {
+  kept = status_of_others has_turn n m threads made allows;
+  grows = omega (arith, length-with_thread threads m made);
+  few = λ few. omega (arith, length-with_thread threads m made);
+}
 
 with_status_is : (threads : List Thread) (m : ℕ) (status : Status) → with_thread threads m (λ row. record row { status = status }) ≡ with_status threads m status
 unfolding with_thread with_status
@@ -117,7 +124,9 @@ turn_of_let_go (suc n) m (row ∷ threads) has = turn_of_let_go n m threads has
 
 ended_kept : (n m value : ℕ) (threads : List Thread) → n ≢ m → Keeps n threads (ended threads m value)
 ended_kept n m value threads other =
-    then_kept n threads _ _ (record { kept = turn_of_let_go n m threads; grows = omega (arith, length-map threads (let_go m)) }) (status_kept n m _ _ (λ same. absurd (other same)))
+    then_kept n threads _ _
+    (record { kept = turn_of_let_go n m threads; grows = omega (arith, length-map threads (let_go m)); few = λ few. omega (arith, length-map threads (let_go m)) })
+    (status_kept n m _ _ (λ same. absurd (other same)))
 
 pub status_of_more : (test : Status → Bool) (n : ℕ) (threads : List Thread) (row : Thread) → test row.status ≡ true → test (status_at threads n) ≡ true
     → test (status_at (threads ++ row ∷ []) n) ≡ true
@@ -143,15 +152,27 @@ unfolding thread_exit
 thread_exit_kept n state thread value other =
     then_kept n state.threads _ _ (ended_kept n thread value state.threads other) (let_pass_kept n value (joiners state.threads thread) _)
 
-numbered_kept : (n : ℕ) (state : State) (entry argument stack_pointer : ℕ) (number : Option ℕ) → Keeps n state.threads (create_numbered state entry argument stack_pointer number).state.threads
-numbered_kept n state entry argument stack_pointer None = as_it_was n state.threads
-numbered_kept n state entry argument stack_pointer (Some number) = record { kept = status_of_more has_turn n state.threads _ refl; grows = omega (arith, length-append state.threads (started (hart_at entry stack_pointer argument number) ∷ [])) }
+-- a thread that has a number is made where there are fewer than 256
+room_for_one : (threads : List Thread) (number : ℕ) → new_number threads ≡ Some number → length threads < 256
+room_for_one threads number is = by_test (nat_lt (length threads) 256) refl is
+  where
+    by_test : (test : Bool) → nat_lt (length threads) 256 ≡ test → (if test then Some (length threads) else None) ≡ Some number → length threads < 256
+    by_test true below made = ltb-true (length threads) 256 below
+    by_test false below made = cc
+
+numbered_kept : (n : ℕ) (state : State) (entry argument stack_pointer : ℕ) (number : Option ℕ) → new_number state.threads ≡ number
+    → Keeps n state.threads (create_numbered state entry argument stack_pointer number).state.threads
+numbered_kept n state entry argument stack_pointer None is = as_it_was n state.threads
+numbered_kept n state entry argument stack_pointer (Some number) is =
+    let longer = length-append state.threads (started (hart_at entry stack_pointer argument number) ∷ []) in
+    let room = room_for_one state.threads number is in
+    record { kept = status_of_more has_turn n state.threads _ refl; grows = omega (arith, longer); few = λ few. omega (arith, longer, room) }
 
 create_kept : (n : ℕ) (state : State) (entry argument stack_pointer : ℕ) → Keeps n state.threads (create state entry argument stack_pointer).state.threads
 unfolding create
 create_kept n state entry argument stack_pointer =
     either_kept n state.threads (entry % 4 == 0) (create_numbered state entry argument stack_pointer (new_number state.threads)) _
-    (numbered_kept n state entry argument stack_pointer (new_number state.threads)) (as_it_was n state.threads)
+    (numbered_kept n state entry argument stack_pointer (new_number state.threads) refl) (as_it_was n state.threads)
 
 write_kept : (n : ℕ) (state : State) (address count : ℕ) → Keeps n state.threads (write state address count).state.threads
 unfolding write
@@ -245,6 +266,12 @@ made_kept setup before step n follows other =
 -- no thread is lost
 pub threads_grow : (setup : Setup) (before : History) (step : Step) → Follows setup before step → length (present setup before).threads ≤ length step.after.threads
 threads_grow setup before step follows = (made_kept setup before step (suc step.turn.thread) follows (λ same. omega arith)).grows
+
+-- there are never more than 256 threads
+pub few_threads : (setup : Setup) (history : History) → IsLegal setup history → length (present setup history).threads ≤ 256
+unfolding IsLegal present first_state
+few_threads setup [] legal = omega arith
+few_threads setup (step ∷ before) legal = (made_kept setup before step (suc step.turn.thread) legal.0 (λ same. omega arith)).few (few_threads setup before legal.1)
 
 -- a thread that there is has a turn in the last version
 abbrev pub HasTurnIn : Setup → History → ℕ → Type 0

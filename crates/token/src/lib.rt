@@ -3,6 +3,7 @@
 
 mod both;
 pub mod due;
+mod is_wanted;
 pub mod kept;
 pub mod law;
 pub mod need;
@@ -21,9 +22,11 @@ pub mod turn;
 pub mod turn_change;
 pub mod turn_fault;
 mod verdict;
+pub mod wanted;
 
 pub use both::Both;
 pub use due::Due;
+pub use is_wanted::IsWanted;
 pub use kept::Kept;
 pub use law::one_history;
 pub use need::{Need, Work};
@@ -37,3 +40,4 @@ pub use start::Start;
 pub use turn::{Turn, TurnStop};
 pub use turn_change::TurnChange;
 pub use turn_fault::TurnFault;
+pub use wanted::Wanted;

@@ -10,6 +10,7 @@ use Rattle.sharing_report.proofs.sharing_recorder.SharingRecorder.new.Goals as g
 pub returns : goal.returns
 unfolding bytes_of bytes_of_page
 returns c = record {
-  turns = λ few. refl;
-  pages = λ order few page. subst (λ (entries : List (ℕ × PageState)). IsKnown (lookup (is_at (nat_cmp page)) entries) page []) (sym c.new.ensures.empty) refl;
+  turns = refl;
+  counted = refl;
+  pages = λ order page. subst (λ (entries : List (ℕ × PageState)). IsKnown (lookup (is_at (nat_cmp page)) entries) page []) (sym c.new.ensures.empty) refl;
 }

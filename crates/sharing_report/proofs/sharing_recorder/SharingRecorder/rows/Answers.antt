@@ -10,9 +10,9 @@ use Rattle.sharing_report.proofs.RowsKept.{rows_sharing}
 use Rattle.sharing_report.proofs.sharing_recorder.SharingRecorder.rows.Goals as goal
 
 pub returns : goal.returns
-returns c changes has order few =
+returns c changes has order =
     let pages = c.args.self.now.pages in
     let made : List PageRow = c.loop-page.rows.items in
     let done = rest_all deref_pair c.loop-page.page-iterator c.next.new.self c.next.result c.in-None.is c.next.ensures.steps in
     let rows : made ≡ rows_of pages.entries = sym (append-nil made) ∙ ap (λ (entries : List (ℕ × PageState)). made ++ rows_of entries) (sym done) ∙ c.loop-page.invariant in
-    subst (IsSharing changes) (sym rows) (rows_sharing changes pages c.len.ensures.ordered (has.pages order few))
+    subst (IsSharing changes) (sym rows) (rows_sharing changes pages c.len.ensures.ordered (has.pages order))
