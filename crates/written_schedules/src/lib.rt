@@ -1,0 +1,24 @@
+//! Written schedules for runs of the guest programs, and what their replays must give: worked out by hand from what each event does
+//! and from the runs' own traces. A schedule stands here as the text that the program reads.
+#![tactic(auto)]
+
+mod race;
+mod refused;
+mod replay_end;
+mod schedule;
+mod small;
+
+pub use race::{EARLY_TURN, SCHEDULES as RACE_SCHEDULES};
+pub use refused::SCHEDULES as REFUSED_SCHEDULES;
+pub use replay_end::ReplayEnd;
+pub use schedule::Schedule;
+pub use small::SCHEDULES as SMALL_SCHEDULES;
+
+/// The schedules, in tables by topic.
+pub fn schedules() -> [&'static [Schedule]; 3] {
+    [
+        RACE_SCHEDULES.as_slice(),
+        SMALL_SCHEDULES.as_slice(),
+        REFUSED_SCHEDULES.as_slice(),
+    ]
+}

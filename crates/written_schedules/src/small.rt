@@ -1,0 +1,121 @@
+//! Schedules for runs of single threads, and for the ends of runs.
+
+use crate::replay_end::ReplayEnd;
+use crate::schedule::Schedule;
+
+pub static SCHEDULES: [Schedule; 12] = [
+    Schedule {
+        name: "seven",
+        run: "seven",
+        is_sample: false,
+        workers: 1,
+        text: &["draw 0\nstep 0\nstep 0\nstep 0\npost 0\nturn\n"],
+        end: ReplayEnd::WithTheRun,
+    },
+    Schedule {
+        name: "a stop by the bound",
+        run: "seven, bound 2",
+        is_sample: false,
+        workers: 1,
+        text: &["draw 0\nstep 0\nstep 0\nstep 0\npost 0\nturn\n"],
+        end: ReplayEnd::WithTheRun,
+    },
+    Schedule {
+        name: "the bound before the quantum",
+        run: "seven, quantum 2 and bound 2",
+        is_sample: false,
+        workers: 1,
+        text: &["draw 0\nstep 0\nstep 0\nstep 0\npost 0\nturn\n"],
+        end: ReplayEnd::WithTheRun,
+    },
+    Schedule {
+        name: "segments of one instruction",
+        run: "seven, quantum 1",
+        is_sample: false,
+        workers: 1,
+        text: &[
+            "draw 0\nstep 0\nstep 0\npost 0\nturn\ndraw 0\nstep 0\nstep 0\npost 0\nturn\ndraw 0\nstep 0\npost 0\nturn\n",
+        ],
+        end: ReplayEnd::WithTheRun,
+    },
+    Schedule {
+        name: "a letter",
+        run: "letter",
+        is_sample: false,
+        workers: 1,
+        text: &[
+            "draw 0\nstep 0\nstep 0\nstep 0\nstep 0\nstep 0\nstep 0\npost 0\nturn\ndraw 0\nstep 0\nstep 0\npost 0\nturn\n",
+        ],
+        end: ReplayEnd::WithTheRun,
+    },
+    Schedule {
+        name: "an input",
+        run: "echo",
+        is_sample: false,
+        workers: 1,
+        text: &[
+            "draw 0\nstep 0\nstep 0\nstep 0\nstep 0\npost 0\nturn\ndraw 0\nstep 0\nstep 0\nstep 0\npost 0\nturn\ndraw 0\nstep 0\nstep 0\nstep 0\npost 0\nturn\n",
+        ],
+        end: ReplayEnd::WithTheRun,
+    },
+    Schedule {
+        name: "a deadlock",
+        run: "mutual-join",
+        is_sample: false,
+        workers: 2,
+        text: &[
+            "draw 0\nstep 0\nstep 0\nstep 0\nstep 0\npost 0\nturn\ndraw 1\ndraw 0\nstep 0\nstep 0\npost 0\nstep 1\nstep 1\nstep 1\npost 1\nturn\nturn\n",
+        ],
+        end: ReplayEnd::WithTheRun,
+    },
+    Schedule {
+        name: "a signal",
+        run: "signal",
+        is_sample: false,
+        workers: 2,
+        text: &[
+            "draw 0\nstep 0\nstep 0\nstep 0\nstep 0\npost 0\nturn\ndraw 0\ndraw 1\nstep 1\nstep 0\nstep 1\nstep 0\npost 1\npost 0\nturn\nturn\nhold\nhold\nhold\nturn\ndraw 1\nstep 1\nstep 1\npost 1\nturn\ndraw 0\nstep 0\nstep 0\nstep 0\npost 0\nturn\nturn\nhold\nhold\nturn\ndraw 0\nstep 0\nstep 0\npost 0\nturn\ndraw 1\nstep 1\nstep 1\npost 1\nturn\n",
+        ],
+        end: ReplayEnd::WithTheRun,
+    },
+    Schedule {
+        name: "a skip",
+        run: "endless",
+        is_sample: false,
+        workers: 2,
+        text: &[
+            "draw 0\nstep 0\nstep 0\nstep 0\nstep 0\npost 0\nturn\ndraw 0\ndraw 1\nstep 1\nstep 0\nstep 0\nstep 0\nnote 0\nskip 1\npost 0\nturn\n",
+        ],
+        end: ReplayEnd::WithTheRun,
+    },
+    Schedule {
+        name: "a skip after more steps, and no draw left",
+        run: "endless",
+        is_sample: false,
+        workers: 2,
+        text: &[
+            "draw 0\nstep 0\nstep 0\nstep 0\nstep 0\npost 0\nturn\ndraw 0\ndraw 1\nstep 1\nstep 0\nstep 0\nstep 0\nnote 0\nstep 1\nstep 1\nstep 1\nstep 1\nstep 1\nskip 1\ndraw 1\npost 0\nturn\n",
+        ],
+        end: ReplayEnd::WithTheRun,
+    },
+    Schedule {
+        name: "an end that isn't noted",
+        run: "endless",
+        is_sample: false,
+        workers: 2,
+        text: &[
+            "draw 0\nstep 0\nstep 0\nstep 0\nstep 0\npost 0\nturn\ndraw 0\ndraw 1\nstep 1\nstep 0\nstep 0\nstep 0\npost 0\nturn\n",
+        ],
+        end: ReplayEnd::WithTheRun,
+    },
+    Schedule {
+        name: "an end beside a job that has begun",
+        run: "endless",
+        is_sample: false,
+        workers: 2,
+        text: &[
+            "draw 0\nstep 0\nstep 0\nstep 0\nstep 0\npost 0\nturn\ndraw 0\ndraw 1\nstep 1\nstep 0\nstep 0\nstep 0\nnote 0\npost 0\nturn\n",
+        ],
+        end: ReplayEnd::WithTheRun,
+    },
+];
