@@ -1,13 +1,15 @@
+use crate::encoding::encode;
 use crate::field::{FenceField, ShiftAmount};
 use crate::register::Register;
 use crate::signed_word::{BranchOffset, Immediate, JumpOffset, UpperImmediate};
+use std::fmt;
 
 /// An instruction of RV32IM: the base RV32I and the extension M for multiplication and division, as the
 /// RISC-V Unprivileged ISA, document version 20191213, lists them in chapters 2 and 7.
 ///
 /// `rd` is the register that an instruction writes, `rs1` and `rs2` are those that it reads. Sums are modulo
 /// 2^32. What each instruction does is said here in short; the ISA has it whole.
-#[derive(Clone, Copy, Debug, PartialEq, Eq)]
+#[derive(Clone, Copy, PartialEq, Eq)]
 pub enum Instr {
     /// LUI: the immediate into `rd`.
     Lui {
@@ -289,4 +291,11 @@ pub enum Instr {
     Ecall,
     /// EBREAK: a breakpoint.
     Ebreak,
+}
+
+/// Its word. Written by hand, since the derived impl of this many cases takes longer to prove than most of the crate.
+impl fmt::Debug for Instr {
+    fn fmt<W: fmt::Write>(&self, f: &mut fmt::Formatter<W>) -> fmt::Result {
+        write!(f, "Instr({:#010x})", encode(self))
+    }
 }

@@ -1,12 +1,12 @@
 ghost use Rattle.std.specs.Prelude.{◌≡◌};
 ghost use Rattle.elf32_reader.specs.Faults.{number_of, name_of};
 
-use thiserror::Error;
+use std::error::Error;
+use std::fmt;
 
 /// Why a file isn't read. Of the refusals, number 1 to 20, the first that applies is given, in the order of
 /// their numbers, but 13 to 18 are tested for one program header after the other.
-#[derive(Clone, Copy, Debug, PartialEq, Eq, Error)]
-#[error("{} {}", self.number(), self.name())]
+#[derive(Clone, Copy, PartialEq, Eq)]
 pub enum ElfFault {
     /// The file has over 67,108,864 bytes.
     TooLarge,
@@ -111,3 +111,19 @@ impl ElfFault {
         }
     }
 }
+
+/// Its name alone. Written by hand, as `Display` is, since the derived impls of this many variants take longer to
+/// prove than the rest of the crate.
+impl fmt::Debug for ElfFault {
+    fn fmt<W: fmt::Write>(&self, f: &mut fmt::Formatter<W>) -> fmt::Result {
+        f.write_str(self.name())
+    }
+}
+
+impl fmt::Display for ElfFault {
+    fn fmt<W: fmt::Write>(&self, f: &mut fmt::Formatter<W>) -> fmt::Result {
+        write!(f, "{} {}", self.number(), self.name())
+    }
+}
+
+impl Error for ElfFault {}
