@@ -13,3 +13,9 @@ mod gates;
 mod many_hands;
 #[cfg(test)]
 mod one_thread;
+#[cfg(test)]
+mod overlap;
+#[cfg(test)]
+mod phase_turns;
+#[cfg(test)]
+mod whole_runs;
