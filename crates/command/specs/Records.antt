@@ -11,7 +11,7 @@ use Rattle.tracer.specs.TraceText.{text_of as trace_text_of}
 use Rattle.command.specs.Destination.{Carries, CanPrint, IsApart, IsFileOf, IsFiled, IsPartFor, IsPlaceOf, printed_to}
 use Rattle.command.specs.declared.destination.Destination.{Destination}
 use Rattle.command.specs.declared.failure.Failure.{Failure}
-use Rattle.command.specs.declared.failure.Failure.TheVariants.{NotText, OneFile, OutsideRange, NotYet, ElfRefused, InputTooLarge, CannotRead, CannotWrite, OutOfMemory}
+use Rattle.command.specs.declared.failure.Failure.TheVariants.{NotText, OneFile, OutsideRange, ElfRefused, InputTooLarge, CannotRead, CannotWrite, OutOfMemory}
 use Rattle.command.specs.declared.outputs.Outputs.{Outputs}
 use Rattle.command.specs.declared.records.Records.{Records}
 
@@ -27,7 +27,6 @@ IsUnwrittenTo destination (CannotRead place) = ⊥
 IsUnwrittenTo destination OutsideRange = ⊥
 IsUnwrittenTo destination InputTooLarge = ⊥
 IsUnwrittenTo destination (ElfRefused fault) = ⊥
-IsUnwrittenTo destination NotYet = ⊥
 IsUnwrittenTo destination NotText = ⊥
 IsUnwrittenTo destination (OneFile one other) = ⊥
 

@@ -20,12 +20,10 @@ use Rattle.token.specs.declared.outcome.RunOutcome.{RunOutcome}
 use Rattle.token.specs.declared.run_in_turn.RunInTurn.{RunInTurn}
 use Rattle.command.specs.Records.{AreFiled, AreTextsOf, AreUnwritten, CanPrintAll, IsUnwritten, KeepsButParts, NamesNone, Texts, printed}
 use Rattle.command.specs.declared.failure.Failure.{Failure}
-use Rattle.command.specs.declared.failure.Failure.TheVariants.{NotText, OneFile, OutsideRange, NotYet, ElfRefused, InputTooLarge, CannotRead, CannotWrite, OutOfMemory}
+use Rattle.command.specs.declared.failure.Failure.TheVariants.{NotText, OneFile, OutsideRange, ElfRefused, InputTooLarge, CannotRead, CannotWrite, OutOfMemory}
 use Rattle.command.specs.declared.place.Place.{Place}
 use Rattle.command.specs.declared.place.Place.TheVariants.{Path, StandardInput, StandardOutput}
 use Rattle.command.specs.declared.records.Records.{Records}
-use Rattle.command.specs.declared.request.Request.{Request}
-use Rattle.command.specs.declared.request.Request.TheVariants.{Run, Disasm, Replay}
 
 -- whether a place is the file at a path
 abbrev pub IsAt : List ℕ → Place → Type 0
@@ -45,7 +43,6 @@ IsRefused elf input config (ElfRefused fault) = Refuses elf input config (run.El
 IsRefused elf input config OutOfMemory = IsRunnable input config
 IsRefused elf input config (CannotWrite place) = ⊥
 IsRefused elf input config (CannotRead place) = ⊥
-IsRefused elf input config NotYet = ⊥
 IsRefused elf input config NotText = ⊥
 IsRefused elf input config (OneFile one other) = ⊥
 
@@ -56,7 +53,6 @@ IsUnread path OutOfMemory = Unit {0}
 IsUnread path OutsideRange = ⊥
 IsUnread path InputTooLarge = ⊥
 IsUnread path (ElfRefused fault) = ⊥
-IsUnread path NotYet = ⊥
 IsUnread path NotText = ⊥
 IsUnread path (OneFile one other) = ⊥
 IsUnread path (CannotWrite place) = ⊥
@@ -85,7 +81,6 @@ Lists bytes_of path content (Err (CannotRead place)) = IsAt path place
 Lists bytes_of path content (Err OutOfMemory) = Unit {0}
 Lists bytes_of path content (Err OutsideRange) = ⊥
 Lists bytes_of path content (Err InputTooLarge) = ⊥
-Lists bytes_of path content (Err NotYet) = ⊥
 Lists bytes_of path content (Err NotText) = ⊥
 Lists bytes_of path content (Err (OneFile one other)) = ⊥
 Lists bytes_of path content (Err (CannotWrite place)) = ⊥
@@ -110,7 +105,6 @@ IsStopped setup old new (CannotRead place) = ⊥
 IsStopped setup old new OutsideRange = ⊥
 IsStopped setup old new InputTooLarge = ⊥
 IsStopped setup old new (ElfRefused fault) = ⊥
-IsStopped setup old new NotYet = ⊥
 IsStopped setup old new NotText = ⊥
 IsStopped setup old new (OneFile one other) = ⊥
 
@@ -141,18 +135,6 @@ RunsInto tells files files' input output output' path config records (Err failur
     ((AreOneFile failure ⊎ IsUnrun path (files path) input config failure) × (files' ≡ files))
     ⊎ ((IsBegun (files path) input config (IsHalted records output output' failure) × KeepsButParts records files files')
     ⊎ IsBegun (files path) input config (IsLeftOut records files files' failure))
-
--- What a request for a run or a replay answers, by the files' content and standard output before and after it; replays aren't made yet.
-abbrev pub Serves : Type 0 → (files files' : Content) (input output output' : Option (List ℕ)) → Request → Result RunOutcome Failure → Type 0
-Serves tells files files' input output output' (Run file config records) answer = RunsInto tells files files' input output output' file.now config records answer
-Serves tells files files' input output output' (Disasm file) answer = answer ≡ Err NotYet
-Serves tells files files' input output output' (Replay file schedule config) answer = answer ≡ Err NotYet
-
--- a request names no file to write to
-abbrev pub NamesNoRecord : Request → Type 0
-NamesNoRecord (Run file config records) = NamesNone records
-NamesNoRecord (Disasm file) = Unit {0}
-NamesNoRecord (Replay file schedule config) = Unit {0}
 
 -- The listing of the file at a path was put after what standard output held before.
 abbrev pub Prints : Option (List ℕ) → Option (List ℕ) → Option (List ℕ) → Type 0

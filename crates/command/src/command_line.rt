@@ -49,7 +49,7 @@ fn disasm_command<'a>(alloc: Global) -> Result<Command<'a>, AllocError> {
 
 fn replay_command<'a>(alloc: Global) -> Result<Command<'a>, AllocError> {
     let command = Command::new(alloc, "replay")
-        .about("Apply a schedule to a program and print the trace (not yet)")
+        .about("Apply a schedule to a program and print the trace")
         .arg(file(alloc))?
         .arg(schedule(alloc))?
         .arg(workers(alloc).required(true))?;

@@ -19,9 +19,6 @@ pub enum Failure<'a> {
     /// A number of the run is outside its range.
     #[error("error: a number is outside its range")]
     OutsideRange,
-    /// This part of the program is not made yet.
-    #[error("not yet")]
-    NotYet,
     /// The file is not a program that can be run.
     #[error("elf refused: {0}")]
     ElfRefused(ElfFault),
@@ -63,7 +60,7 @@ impl<'a> Failure<'a> {
 impl Failure<'_> {
     ghost use Rattle.command.specs.Status.{failure_status};
 
-    /// The status that the program ends with: 2 for wrong arguments, and else 123 to 126.
+    /// The status that the program ends with: 2 for wrong arguments, and else 123 to 125.
     pub fn status(&self) -> u8
         ensures { result ≡ failure_status self.now }
     {
@@ -72,7 +69,6 @@ impl Failure<'_> {
             Failure::ElfRefused(_) => 123,
             Failure::InputTooLarge | Failure::CannotRead(_) | Failure::CannotWrite(_) => 124,
             Failure::OutOfMemory => 125,
-            Failure::NotYet => 126,
         }
     }
 }

@@ -9,16 +9,20 @@ use std::process::Abort;
 /// The path of the program of `MemoryFiles`.
 pub const PROGRAM: &str = "a.elf";
 
+/// The path of the schedule of `MemoryFiles`.
+pub const SCHEDULE: &str = "schedule";
+
 /// The path of the file of `MemoryFiles` for a trace.
 pub const TRACE: &str = "trace";
 
 /// The path of the file of `MemoryFiles` for a report.
 pub const REPORT: &str = "report";
 
-/// A program, and files in memory for a trace and a report. No other path has a file, and none can be written.
+/// A program, a schedule, and files in memory for a trace and a report. No other path has a file, and none can be written.
 #[derive(Drop)]
 pub struct MemoryFiles<'a> {
     pub program: &'a [u8],
+    pub schedule: &'a [u8],
     pub trace: Vec<u8>,
     pub report: Vec<u8>,
     /// How many bytes each output takes before its writes fail.
@@ -32,6 +36,7 @@ impl<'a> MemoryFiles<'a> {
     pub fn new(alloc: Global, program: &'a [u8]) -> Self {
         MemoryFiles {
             program,
+            schedule: &[],
             trace: Vec::new(alloc),
             report: Vec::new(alloc),
             room: usize::MAX,
@@ -69,10 +74,11 @@ impl Files for MemoryFiles<'_> {
     type Output = MemoryOutput;
 
     fn read(&self, alloc: Global, path: &str, limit: usize) -> Result<Vec<u8>, ReadFault> {
-        if path != PROGRAM {
-            return Err(ReadFault::ReadFailed);
-        }
-        let mut bytes = self.program;
+        let mut bytes = match path {
+            PROGRAM => self.program,
+            SCHEDULE => self.schedule,
+            _ => return Err(ReadFault::ReadFailed),
+        };
         read_upto(alloc, &mut bytes, limit)
     }
 

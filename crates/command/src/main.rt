@@ -14,6 +14,8 @@ mod perform;
 mod place;
 mod publishing;
 mod records;
+mod replay_failure;
+mod replaying;
 mod request;
 mod running;
 

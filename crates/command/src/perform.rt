@@ -4,7 +4,7 @@ ghost use Rattle.files.specs.Content.{Tells};
 ghost use Rattle.files.specs.Taken.{TakesAtMost};
 ghost use Rattle.runtime.specs.Limits as limit;
 ghost use Rattle.command.specs.Records.{NamesNone};
-ghost use Rattle.command.specs.Serves.{NamesNoRecord, RunsInto, Serves};
+ghost use Rattle.command.specs.Serves.{RunsInto};
 ghost use Rattle.command.specs.Status.{answer_status, failure_status, outcome_status};
 
 use crate::command_line::parse;
@@ -15,6 +15,7 @@ use crate::outputs::{abandon, begin};
 use crate::place::Place;
 use crate::publishing::write_records;
 use crate::records::Records;
+use crate::replaying::{conclude_replay, replay};
 use crate::request::Request;
 use crate::running::{open_file, run_start};
 use clap::Error;
@@ -51,33 +52,27 @@ pub fn perform<H: Threads + Wait + Sync, S: AsStr, F: Files, R: Read, W: Write, 
             disasm(alloc, file, files, stdout),
             stderr,
         ),
-        Ok(request) => conclude(answer(rt, alloc, &request, files, stdin, stdout), stderr),
+        Ok(
+            Request::Replay {
+                file,
+                schedule,
+                config,
+            },
+        ) => conclude_replay(
+            replay(alloc, file, schedule, &config, files, stdin, stdout),
+            stderr,
+        ),
+        Ok(
+            Request::Run {
+                file,
+                config,
+                records,
+            },
+        ) => conclude(
+            run_apart(rt, alloc, file, &config, &records, files, stdin, stdout),
+            stderr,
+        ),
         Err(error) => refuse(&error, &mut stdout.writer, stderr),
-    }
-}
-
-/// Does what a request for a run or a replay asks for.
-fn answer<'a, H: Threads + Wait + Sync, F: Files, R: Read, W: Write>(
-    rt: &H,
-    alloc: Global,
-    request: &Request<'a>,
-    files: &mut F,
-    stdin: &mut R,
-    stdout: &mut WriteSink<W>,
-) -> Result<RunOutcome, Failure<'a>>
-    requires { stdout.old.failures < 2 ^ 64 - 1 }
-    ensures input { TakesAtMost (limit.input + 1) (R.remaining stdin.old) (R.remaining stdin.new) }
-    ensures answer { Serves (Tells F.Output.contents) (F.content files.old) (F.content files.new) (R.remaining stdin.old)
-        (W.contents stdout.old.writer) (W.contents stdout.new.writer) request.now result }
-    ensures unnamed { NamesNoRecord request.now → files.new ≡ files.old }
-{
-    match *request {
-        Request::Run {
-            file,
-            config,
-            records,
-        } => run_apart(rt, alloc, file, &config, &records, files, stdin, stdout),
-        _ => Err(Failure::NotYet),
     }
 }
 
@@ -238,6 +233,8 @@ mod listings;
 mod performed;
 #[cfg(test)]
 mod refusals;
+#[cfg(test)]
+mod replays;
 #[cfg(test)]
 mod runs;
 #[cfg(test)]

@@ -51,7 +51,7 @@ pub fn open_file<'a, F: Files, R: Read>(
 }
 
 /// The run of the program that the bytes of a file are, of which no turn is done.
-fn open_bytes<'a>(
+pub fn open_bytes<'a>(
     alloc: Global,
     elf: &[u8],
     input: &[u8],

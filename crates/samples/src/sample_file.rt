@@ -1,5 +1,6 @@
 use guest_programs::{MEASURED, Program, Run, runs};
 use std::alloc::{AllocError, Global};
+use written_schedules::{Schedule, schedules};
 
 /// A file of `samples/`.
 #[derive(Drop)]
@@ -8,7 +9,7 @@ pub struct SampleFile {
     pub bytes: Vec<u8>,
 }
 
-/// The files of all samples: of each its program and its listing, and of each that ends its trace and its report.
+/// The files of all samples: of each its program and its listing, of each that ends its trace and its report, and the schedules.
 pub fn sample_files(alloc: Global) -> Result<Vec<SampleFile>, AllocError> {
     let mut files = Vec::new(alloc);
     for program in &MEASURED {
@@ -17,7 +18,23 @@ pub fn sample_files(alloc: Global) -> Result<Vec<SampleFile>, AllocError> {
     for table in runs() {
         push_samples(alloc, &mut files, table)?;
     }
+    for table in schedules() {
+        push_schedules(alloc, &mut files, table)?;
+    }
     Ok(files)
+}
+
+/// Appends the schedules that are samples.
+fn push_schedules(
+    alloc: Global,
+    files: &mut Vec<SampleFile>,
+    schedules: &[Schedule],
+) -> Result<(), AllocError> {
+    for schedule in schedules.iter().filter(|schedule| schedule.is_sample) {
+        let text = schedule.whole_text(alloc)?;
+        push_text(alloc, files, schedule.name, "schedule", text.as_str())?;
+    }
+    Ok(())
 }
 
 /// Appends the files of the runs that are samples.

@@ -123,7 +123,7 @@ Usage: dthreads <COMMAND>
 Commands:
   run     Run a program, with standard input as its input
   disasm  Print the instructions of a program
-  replay  Apply a schedule to a program and print the trace (not yet)
+  replay  Apply a schedule to a program and print the trace
 
 Options:
   -h, --help     Print help
@@ -213,12 +213,6 @@ fn some_files_may_be_named_twice(rt: HostRuntime) -> Result<(), Fail> {
 }
 
 #[test]
-fn a_replay_is_not_made_yet_and_reads_nothing(rt: HostRuntime) {
-    let arguments = ["dthreads", "replay", "a", "s", "--workers", "64"];
-    asked(&rt, &arguments).assert_is(&rt, 126, b"", "not yet\n");
-}
-
-#[test]
 fn what_cannot_be_read_is_named(rt: HostRuntime) -> Result<(), Fail> {
     let arguments = ["dthreads", "run", "a", "--trace", "trace"];
     asked(&rt, &arguments).assert_is(&rt, 124, b"", "cannot read a\n");
@@ -283,7 +277,7 @@ fn outcomes_have_a_status_and_a_line(rt: HostRuntime) {
 }
 
 /// Failures, and the status and the line of each.
-static FAILURES: [(Failure<'static>, u8, &str); 9] = [
+static FAILURES: [(Failure<'static>, u8, &str); 8] = [
     (
         Failure::OneFile(FileName::At("a b"), FileName::PartOf("a")),
         2,
@@ -316,7 +310,6 @@ static FAILURES: [(Failure<'static>, u8, &str); 9] = [
         "cannot write standard output\n",
     ),
     (Failure::OutOfMemory, 125, "out of memory\n"),
-    (Failure::NotYet, 126, "not yet\n"),
 ];
 
 #[test]
