@@ -1,6 +1,7 @@
 /* A library to be loaded ahead of the C library's (LD_PRELOAD): it refuses requests for memory.
    REFUSE=N refuses the Nth request of the process, counted from 1; REFUSE_FROM=N that one and all after it.
-   Where REQUESTS names a file, the number of requests is written there when the process ends. */
+   Where REQUESTS names a file, the number of requests and how many of them were refused are written there when
+   the process ends. */
 #define _GNU_SOURCE
 #include <dlfcn.h>
 #include <errno.h>
@@ -12,7 +13,7 @@ extern void *__libc_calloc(size_t, size_t);
 extern void *__libc_realloc(void *, size_t);
 extern void *__libc_memalign(size_t, size_t);
 
-static long requests, refused_one, refused_from;
+static long requests, refusals, refused_one, refused_from;
 static int counts;
 
 static long number(const char *name)
@@ -35,7 +36,7 @@ __attribute__((destructor)) static void end(void)
     if (path) {
         FILE *file = fopen(path, "w");
         if (file) {
-            fprintf(file, "%ld\n", requests);
+            fprintf(file, "%ld %ld\n", requests, refusals);
             fclose(file);
         }
     }
@@ -46,7 +47,10 @@ static int is_refused(void)
     if (!counts)
         return 0;
     long request = __sync_add_and_fetch(&requests, 1);
-    return request == refused_one || (refused_from && request >= refused_from);
+    int is_this = request == refused_one || (refused_from && request >= refused_from);
+    if (is_this)
+        __sync_add_and_fetch(&refusals, 1);
+    return is_this;
 }
 
 #define UNLESS_REFUSED(call) do { if (is_refused()) { errno = ENOMEM; return 0; } return call; } while (0)

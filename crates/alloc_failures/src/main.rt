@@ -16,6 +16,7 @@ mod retry;
 mod runs;
 mod snapshots;
 mod standing;
+mod tables;
 mod views;
 
 use answer::Answer;
@@ -30,17 +31,27 @@ fn main(rt: HostRuntime) -> io::Result<()> {
         print_answer(&rt, name, perform(rt.alloc(), case))?;
     }
     match quiet_after_set_up(rt.alloc()) {
-        Ok(mut quiet) => print_quiet(&rt, &mut quiet),
+        Ok(mut quiet) => print_quiet(&rt, rt.alloc(), &mut quiet),
         Err(failed) => println!(rt; "{failed}"),
     }
 }
 
-/// Prints what the calls come to that take no memory. From here on no memory is asked for.
-fn print_quiet<R: Print>(rt: &R, quiet: &mut Quiet) -> io::Result<()> {
+/// Prints what the calls come to that take no memory. One request for memory is made before them and one
+/// after them, so that who refuses all from the first on can see that these and no others were made.
+fn print_quiet<R: Print>(rt: &R, alloc: Global, quiet: &mut Quiet) -> io::Result<()> {
+    print_request(rt, alloc, "before them")?;
     for (name, case) in QUIET_CASES {
         print_answer(rt, name, quiet.perform(case))?;
     }
-    Ok(())
+    print_request(rt, alloc, "after them")
+}
+
+/// Asks for memory once, and prints whether it was given.
+fn print_request<R: Print>(rt: &R, alloc: Global, place: &str) -> io::Result<()> {
+    match Box::new(alloc, 0u64) {
+        Ok(_) => println!(rt; "a request {place}: given"),
+        Err(_) => println!(rt; "a request {place}: refused"),
+    }
 }
 
 /// Prints what a case came to.

@@ -4,6 +4,7 @@ use crate::failed::Failed;
 use crate::programs::image_of;
 use crate::runs::BOUND;
 use crate::snapshots::snapshot_with_heap;
+use crate::tables;
 use commit::{Patch, changed, count_page, merge_page};
 use guest_memory::GuestMemory;
 use guest_memory::layout::{IMAGE_START, STACK_POINTER};
@@ -32,17 +33,29 @@ pub enum QuietCase {
     Loads,
     Stores,
     Open,
+    Cells,
     Pages,
+    Words,
+    Names,
+    Harts,
+    Threads,
+    Objects,
     Segment,
     Run,
 }
 
 /// The groups with their names.
-pub const QUIET_CASES: [(&str, QuietCase); 6] = [
+pub const QUIET_CASES: [(&str, QuietCase); 12] = [
     ("loads and fetches", QuietCase::Loads),
     ("stores to private pages", QuietCase::Stores),
     ("View::open", QuietCase::Open),
+    ("byte and perm", QuietCase::Cells),
     ("count_page and merge_page", QuietCase::Pages),
+    ("decode and encode", QuietCase::Words),
+    ("numbers and names of calls", QuietCase::Names),
+    ("harts and their calls", QuietCase::Harts),
+    ("threads by themselves", QuietCase::Threads),
+    ("objects by themselves", QuietCase::Objects),
     ("step and run_to_stop", QuietCase::Segment),
     ("what a run lends", QuietCase::Run),
 ];
@@ -69,7 +82,13 @@ impl Quiet {
             QuietCase::Loads => self.loads(),
             QuietCase::Stores => self.stores(),
             QuietCase::Open => self.open(),
+            QuietCase::Cells => Ok(self.cells()),
             QuietCase::Pages => Ok(pages()),
+            QuietCase::Words => Ok(tables::words()),
+            QuietCase::Names => Ok(tables::names()),
+            QuietCase::Harts => Ok(tables::harts()),
+            QuietCase::Threads => Ok(tables::threads()),
+            QuietCase::Objects => Ok(tables::objects()),
             QuietCase::Segment => self.segment(),
             QuietCase::Run => Ok(self.run()),
         }
@@ -124,6 +143,25 @@ impl Quiet {
             value: view.load32(IMAGE_START).unwrap_or(0),
             digest: changed(&self.patch),
         })
+    }
+
+    /// Bytes and permissions of a snapshot: of the image, of data, of the stack, and where nothing is mapped.
+    fn cells(&self) -> Answer {
+        let memory = self.serial.now();
+        let mut digest = 0;
+        let mut mapped: u64 = 0;
+        for address in [IMAGE_START, DATA, STACK_POINTER, 0] {
+            digest = mixed(digest, u64::from(memory.byte(address).unwrap_or(0)));
+            if let Some(perm) = memory.perm(address) {
+                mapped = mapped.wrapping_add(1);
+                digest = mixed(digest, u64::from(perm.write));
+            }
+        }
+        Answer {
+            count: mapped,
+            value: u32::from(memory.byte(IMAGE_START).unwrap_or(0)),
+            digest,
+        }
     }
 
     /// A program's first instruction, and then all up to its first call.

@@ -104,18 +104,35 @@ fn assert_recorded(rt: &impl Abort, alloc: Global, run: &Run) -> Result<(), Fail
     Ok(())
 }
 
-#[test]
-fn recorders_have_the_texts_of_runs(rt: HostRuntime) -> Result<(), Fail> {
-    for table in [
-        ONE_THREAD.as_slice(),
-        SHARED_BYTES.as_slice(),
-        THREADS.as_slice(),
-        OBJECTS.as_slice(),
-        LIMITS.as_slice(),
-    ] {
-        for run in table {
-            assert_recorded(&rt, rt.alloc(), run)?;
-        }
+/// Asserts it of each of some runs.
+fn assert_all_recorded(rt: &impl Abort, alloc: Global, runs: &[Run]) -> Result<(), Fail> {
+    for run in runs {
+        assert_recorded(rt, alloc, run)?;
     }
     Ok(())
+}
+
+#[test]
+fn recorders_of_one_thread(rt: HostRuntime) -> Result<(), Fail> {
+    assert_all_recorded(&rt, rt.alloc(), &ONE_THREAD)
+}
+
+#[test]
+fn recorders_of_shared_bytes(rt: HostRuntime) -> Result<(), Fail> {
+    assert_all_recorded(&rt, rt.alloc(), &SHARED_BYTES)
+}
+
+#[test]
+fn recorders_of_two_threads(rt: HostRuntime) -> Result<(), Fail> {
+    assert_all_recorded(&rt, rt.alloc(), &THREADS)
+}
+
+#[test]
+fn recorders_of_threads_that_meet(rt: HostRuntime) -> Result<(), Fail> {
+    assert_all_recorded(&rt, rt.alloc(), &OBJECTS)
+}
+
+#[test]
+fn recorders_at_limits(rt: HostRuntime) -> Result<(), Fail> {
+    assert_all_recorded(&rt, rt.alloc(), &LIMITS)
 }
