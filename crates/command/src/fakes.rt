@@ -34,9 +34,14 @@ pub struct MemoryFiles<'a> {
 impl<'a> MemoryFiles<'a> {
     /// Empty files beside this program.
     pub fn new(alloc: Global, program: &'a [u8]) -> Self {
+        MemoryFiles::with_schedule(alloc, program, &[])
+    }
+
+    /// Empty files beside this program and this schedule.
+    pub fn with_schedule(alloc: Global, program: &'a [u8], schedule: &'a [u8]) -> Self {
         MemoryFiles {
             program,
-            schedule: &[],
+            schedule,
             trace: Vec::new(alloc),
             report: Vec::new(alloc),
             room: usize::MAX,

@@ -43,8 +43,7 @@ fn check_replay<H: Abort + AllocGlobal + Threads + Wait + Sync>(
     let file = run.program.file(alloc)?;
     let text = schedule.whole_text(alloc)?;
     let trace = schedule.trace_text(alloc, run)?;
-    let mut files = MemoryFiles::new(alloc, file.as_slice());
-    files.schedule = text.as_bytes();
+    let mut files = MemoryFiles::with_schedule(alloc, file.as_slice(), text.as_bytes());
     let mut input = run.input;
     let performed = Performed::new(rt, &arguments, &mut files, &mut input);
     let name = schedule.name;
@@ -84,8 +83,7 @@ fn check_line<H: Abort + AllocGlobal + Threads + Wait + Sync, R: Read>(
     status: u8,
     line: &str,
 ) {
-    let mut memory = MemoryFiles::new(rt.alloc(), files.0);
-    memory.schedule = files.1;
+    let mut memory = MemoryFiles::with_schedule(rt.alloc(), files.0, files.1);
     Performed::new(rt, &REPLAY, &mut memory, stdin).assert_is(rt, status, b"", line);
 }
 
@@ -122,25 +120,33 @@ fn what_cannot_be_read_is_named(rt: HostRuntime) {
     performed.assert_is(&rt, 124, b"", "cannot read schedule\n");
 }
 
+/// Checks the answer to a replay whose trace can't be printed.
+fn check_unprinted<H: Abort + AllocGlobal + Threads + Wait + Sync>(
+    rt: &H,
+    program: &[u8],
+    schedule: &str,
+) {
+    let alloc = rt.alloc();
+    let mut files = MemoryFiles::with_schedule(alloc, program, schedule.as_bytes());
+    let mut stderr = Vec::new(alloc);
+    let status = perform(
+        rt,
+        alloc,
+        &REPLAY,
+        &mut files,
+        &mut io::empty(),
+        &mut WriteSink::new(FailingWriter),
+        &mut stderr,
+    );
+    assert_eq!(rt; status, 124);
+    assert!(rt; stderr.as_slice() == b"cannot write standard output\n".as_slice());
+}
+
 #[test]
 fn a_trace_that_cannot_be_printed_is_a_failure(rt: HostRuntime) -> Result<(), Fail> {
-    let alloc = rt.alloc();
-    let race = RACE.file(alloc)?;
+    let race = RACE.file(rt.alloc())?;
     for schedule in ["draw 0\nstep 0\nstep 0\nstep 0\npost 0\nturn\n", "turn\n"] {
-        let mut files = MemoryFiles::new(alloc, race.as_slice());
-        files.schedule = schedule.as_bytes();
-        let mut stderr = Vec::new(alloc);
-        let status = perform(
-            &rt,
-            alloc,
-            &REPLAY,
-            &mut files,
-            &mut io::empty(),
-            &mut WriteSink::new(FailingWriter),
-            &mut stderr,
-        );
-        assert_eq!(rt; status, 124);
-        assert!(rt; stderr.as_slice() == b"cannot write standard output\n".as_slice());
+        check_unprinted(&rt, race.as_slice(), schedule);
     }
     Ok(())
 }
