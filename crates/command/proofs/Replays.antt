@@ -1,5 +1,5 @@
 -- What a replay answers, put together of its parts.
-use Rattle.std.proofs.Common.{◌≡◌, ◌∙◌, ◌⊎◌, inl, inr, ℕ, Option, Result, Ok, Err, List, IfErr, IfOk, ◌<◌, ◌≤◌, ◌&&◌, true, ap, length, nat_le}
+use Rattle.std.proofs.Common.{◌≡◌, ◌∙◌, inl, inr, ℕ, Option, Result, Ok, Err, List, IfErr, IfOk, ◌<◌, ◌≤◌, ◌&&◌, true, ap, length, nat_le}
 use Rattle.std.proofs.lemmas.Bool.{and_parts, leb-true}
 use Rattle.std.specs.Io.KnownBytes.{Appends}
 use Rattle.std.specs.Option.{option_map_or}
@@ -19,7 +19,7 @@ use Rattle.schedule_core.specs.declared.event_fault.EventFault.{EventFault}
 use Rattle.token.specs.Point.{Point}
 use Rattle.token.specs.Setup.{Setup}
 use Rattle.token.specs.declared.outcome.RunOutcome.{RunOutcome}
-use Rattle.command.specs.Replays.{AreOf, IsBeginning, IsCut, IsPrinted, IsReplayed, IsReplayedTo, IsTraceAt, IsUnprinted, Replays, failure_at}
+use Rattle.command.specs.Replays.{AreOf, IsBeginning, IsCut, IsPrinted, IsReplayed, IsTraceAt, IsUnprinted, Replays, failure_at}
 use Rattle.command.specs.declared.failure.Failure.{Failure}
 use Rattle.command.specs.declared.replay_failure.ReplayFailure.{ReplayFailure}
 use Rattle.command.specs.declared.replay_failure.ReplayFailure.TheVariants.{Plain}

@@ -1,5 +1,6 @@
 pub mod Destination
 pub mod Failure
+pub mod Recorders
 pub mod Records
 pub mod Replays
 pub mod Serves

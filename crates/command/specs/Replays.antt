@@ -23,7 +23,7 @@ use Rattle.command.specs.Serves.{AreRead, IsAt, IsRefused, IsUnread}
 use Rattle.command.specs.Status.{failure_status, outcome_status}
 use Rattle.command.specs.declared.failure.Failure.{Failure}
 use Rattle.command.specs.declared.failure.Failure.TheVariants.{CannotRead, CannotWrite, InputTooLarge, OutOfMemory}
-use Rattle.command.specs.declared.place.Place.TheVariants.{Path, StandardOutput}
+use Rattle.command.specs.declared.place.Place.TheVariants.{StandardOutput}
 use Rattle.command.specs.declared.replay_failure.ReplayFailure.{ReplayFailure}
 use Rattle.command.specs.declared.replay_failure.ReplayFailure.TheVariants.{Plain, NotAnEvent, Refused}
 

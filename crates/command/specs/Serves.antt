@@ -2,6 +2,7 @@
 -- known.
 use Rattle.std.specs.Prelude.{◌≡◌, ◌⊎◌, ℕ, ◌+◌, Option, None, Some, Result, Ok, Err, List, ◌++◌, IfSome, take}
 use Rattle.std.specs.Io.KnownBytes.{Appends}
+use Rattle.std.specs.Result.{IsErrAnd}
 use Rattle.disassembler.specs.Listings.{listing_of}
 use Rattle.elf32_reader.specs.Segments.{image_of}
 use Rattle.elf32_reader.specs.Refusals.{first_refusal}
@@ -18,7 +19,9 @@ use Rattle.token.specs.RunInTurn.{point_of}
 use Rattle.token.specs.Setup.{Setup}
 use Rattle.token.specs.declared.outcome.RunOutcome.{RunOutcome}
 use Rattle.token.specs.declared.run_in_turn.RunInTurn.{RunInTurn}
-use Rattle.command.specs.Records.{AreFiled, AreTextsOf, AreUnwritten, CanPrintAll, IsUnwritten, KeepsButParts, NamesNone, Texts, printed}
+use Rattle.command.specs.Destination.{IsPlaceOf}
+use Rattle.command.specs.Records.{AreFiled, AreTextsOf, AreUnwritten, CanPrintAll, IsUnwritten, KeepsButParts, Texts, printed}
+use Rattle.command.specs.declared.destination.Destination.{Destination}
 use Rattle.command.specs.declared.failure.Failure.{Failure}
 use Rattle.command.specs.declared.failure.Failure.TheVariants.{NotText, OneFile, OutsideRange, ElfRefused, InputTooLarge, CannotRead, CannotWrite, OutOfMemory}
 use Rattle.command.specs.declared.place.Place.{Place}
@@ -89,33 +92,43 @@ Lists bytes_of path content (Err (CannotWrite place)) = ⊥
 pub record IsAnswerOf (setup : Setup) (history : History) (records : Records) (ends : RunOutcome) (output : List ℕ) (texts : Texts) : Type 0 where
   pub ends_so : outcome setup history ≡ Some ends
   pub output_is : (present setup history).output ≡ output
-  pub texts_are : AreTextsOf records (turns_of history) (changes_of history) texts
+  pub texts_are : AreTextsOf records (turns_of history) (changes_of history) ends output (present setup history).memory texts
 
 -- There is a complete history that ends so, with this output and these texts, and so it is with every complete history.
 pub record ComesTo (setup : Setup) (records : Records) (ends : RunOutcome) (output : List ℕ) (texts : Texts) : Type 0 where
   pub some : (history : History) × IsComplete setup history × IsAnswerOf setup history records ends output texts
   pub every : (history : History) → IsComplete setup history → IsAnswerOf setup history records ends output texts
 
--- Why a run that began has no answer, and what standard output holds: memory was refused, or standard output failed. A prefix of the
--- output of some legal history is put out.
-abbrev pub IsStopped : Setup → Option (List ℕ) → Option (List ℕ) → Failure → Type 0
-IsStopped setup old new (CannotWrite place) = (place ≡ StandardOutput) × SendsPrefix setup old new
-IsStopped setup old new OutOfMemory = SendsPrefix setup old new
-IsStopped setup old new (CannotRead place) = ⊥
-IsStopped setup old new OutsideRange = ⊥
-IsStopped setup old new InputTooLarge = ⊥
-IsStopped setup old new (ElfRefused fault) = ⊥
-IsStopped setup old new NotText = ⊥
-IsStopped setup old new (OneFile one other) = ⊥
+-- Why a run that began has no answer, and what standard output holds: memory was refused, or standard output failed, or a write of the
+-- trace to this destination. A prefix of the output of some legal history is put out.
+abbrev pub IsStopped : Option Destination → Setup → Option (List ℕ) → Option (List ℕ) → Failure → Type 0
+IsStopped trace setup old new (CannotWrite place) = ((place ≡ StandardOutput) ⊎ IsPlaceOf trace place) × SendsPrefix setup old new
+IsStopped trace setup old new OutOfMemory = SendsPrefix setup old new
+IsStopped trace setup old new (CannotRead place) = ⊥
+IsStopped trace setup old new OutsideRange = ⊥
+IsStopped trace setup old new InputTooLarge = ⊥
+IsStopped trace setup old new (ElfRefused fault) = ⊥
+IsStopped trace setup old new NotText = ⊥
+IsStopped trace setup old new (OneFile one other) = ⊥
 
 -- Why a run has no answer although nothing refuses it: the output of a text couldn't be begun, and nothing was put out; or the run
 -- was stopped.
 abbrev pub IsHalted : Records → Option (List ℕ) → Option (List ℕ) → Failure → Setup → Type 0
-IsHalted records old new failure setup = (IsUnwritten records failure × (new ≡ old)) ⊎ IsStopped setup old new failure
+IsHalted records old new failure setup = (IsUnwritten records failure × (new ≡ old)) ⊎ IsStopped records.trace setup old new failure
 
 -- There is a complete history, and one of its texts didn't get to where it is to be.
 abbrev pub IsLeftOut : Records → Content → Content → Failure → Setup → Type 0
-IsLeftOut records old new failure setup = (history : History) × IsComplete setup history × AreUnwritten records (turns_of history) old new failure
+IsLeftOut records old new failure setup =
+    (history : History) × IsComplete setup history × AreUnwritten records (turns_of history) (changes_of history) old new failure
+
+-- What a run that nothing refuses answers: its outcome, where the output is out and each text is where it is to be. Or it has no answer,
+-- and the files are as they were but for the parts; or a text didn't get to where it is to be.
+abbrev pub Concludes : Type 0 → Records → (files files' : Content) (output output' : Option (List ℕ)) → Setup → Result RunOutcome Failure → Type 0
+Concludes tells records files files' output output' setup (Ok ends) =
+    (put : List ℕ) × (texts : Texts) × ComesTo setup records ends put texts
+    × AreFiled records texts files' × (CanPrintAll tells records → Appends output output' (put ++ printed records texts))
+Concludes tells records files files' output output' setup (Err failure) =
+    (IsHalted records output output' failure setup × KeepsButParts records files files') ⊎ IsLeftOut records files files' failure setup
 
 -- the file and the input were read, nothing refuses their run, and such is what it is given
 abbrev pub IsBegun : Option (List ℕ) → Option (List ℕ) → Config → (Setup → Type 0) → Type 0
@@ -125,16 +138,12 @@ IsBegun content input config Is = AreRun content input (λ elf given. IsAccepted
 abbrev pub AreOneFile : Failure → Type 0
 AreOneFile failure = (one : _) × (other : _) × (failure ≡ OneFile one other)
 
--- What a run answers: its outcome, where the output is out and each text is where it is to be. Or no run begins, and the files are as
--- they were; or it has no answer, and the files are as they were but for the parts; or a text didn't get to where it is to be.
+-- What a run answers, by the files' content and standard output before and after it: it concludes; or no run begins, and the files are
+-- as they were.
 abbrev pub RunsInto : Type 0 → (files files' : Content) (input output output' : Option (List ℕ)) → List ℕ → Config → Records → Result RunOutcome Failure → Type 0
-RunsInto tells files files' input output output' path config records (Ok ends) =
-    (put : List ℕ) × (texts : Texts) × IsBegun (files path) input config (λ setup. ComesTo setup records ends put texts)
-    × AreFiled records texts files' × (CanPrintAll tells records → Appends output output' (put ++ printed records texts))
-RunsInto tells files files' input output output' path config records (Err failure) =
-    ((AreOneFile failure ⊎ IsUnrun path (files path) input config failure) × (files' ≡ files))
-    ⊎ ((IsBegun (files path) input config (IsHalted records output output' failure) × KeepsButParts records files files')
-    ⊎ IsBegun (files path) input config (IsLeftOut records files files' failure))
+RunsInto tells files files' input output output' path config records answer =
+    IsBegun (files path) input config (λ setup. Concludes tells records files files' output output' setup answer)
+    ⊎ (IsErrAnd answer (λ failure. AreOneFile failure ⊎ IsUnrun path (files path) input config failure) × (files' ≡ files))
 
 -- The listing of the file at a path was put after what standard output held before.
 abbrev pub Prints : Option (List ℕ) → Option (List ℕ) → Option (List ℕ) → Type 0

@@ -1,11 +1,13 @@
 ghost use Rattle.std.specs.Prelude.{◌≡◌};
 
+use crate::destination::Destination;
 use crate::place::Place;
 use elf32_reader::ElfFault;
 use files::{FileName, ReadFault, WriteFault};
 use runtime::RunFault;
 use std::alloc::AllocError;
 use thiserror::Error;
+use token::TurnFault;
 
 /// Why a request was not done. Its text is the line for the user.
 #[derive(Clone, Copy, Debug, PartialEq, Eq, Error)]
@@ -34,6 +36,8 @@ pub enum Failure<'a> {
 }
 
 impl<'a> Failure<'a> {
+    ghost use Rattle.command.specs.Failure.{failure_of_run};
+
     /// The failure that a fault of a read from this place is.
     pub fn of_read(place: Place<'a>, fault: ReadFault) -> Self
         ensures failed { fault ≡ ReadFault.ReadFailed → result ≡ Failure.CannotRead place.entry }
@@ -53,6 +57,27 @@ impl<'a> Failure<'a> {
         match fault {
             WriteFault::WriteFailed => Failure::CannotWrite(place),
             WriteFault::OutOfMemory => Failure::OutOfMemory,
+        }
+    }
+
+    /// The failure that a fault of a recorder is which writes to this place.
+    pub fn of_turn(place: Place<'a>, fault: TurnFault) -> Self
+        ensures failed { fault ≡ TurnFault.WriteFailed → result ≡ Failure.CannotWrite place.entry }
+        ensures memory { fault ≡ TurnFault.OutOfMemory → result ≡ Failure.OutOfMemory }
+    {
+        match fault {
+            TurnFault::WriteFailed => Failure::CannotWrite(place),
+            TurnFault::OutOfMemory => Failure::OutOfMemory,
+        }
+    }
+
+    /// The failure that a fault of a run is whose trace goes to this destination, where there is one.
+    pub fn of_run(fault: RunFault, trace: Option<Destination<'a>>) -> Self
+        ensures { result ≡ failure_of_run trace.entry fault }
+    {
+        match trace {
+            Some(trace) if fault == RunFault::RecordFailed => Failure::CannotWrite(trace.place()),
+            _ => Failure::from(fault),
         }
     }
 }

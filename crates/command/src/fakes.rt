@@ -18,13 +18,18 @@ pub const TRACE: &str = "trace";
 /// The path of the file of `MemoryFiles` for a report.
 pub const REPORT: &str = "report";
 
-/// A program, a schedule, and files in memory for a trace and a report. No other path has a file, and none can be written.
+/// The path of the file of `MemoryFiles` for a digest.
+pub const DIGEST: &str = "digest";
+
+/// A program, a schedule, and files in memory for a trace, a report and a digest. No other path has a file, and none can be
+/// written.
 #[derive(Drop)]
 pub struct MemoryFiles<'a> {
     pub program: &'a [u8],
     pub schedule: &'a [u8],
     pub trace: Vec<u8>,
     pub report: Vec<u8>,
+    pub digest: Vec<u8>,
     /// How many bytes each output takes before its writes fail.
     pub room: usize,
     /// How many more outputs there are that can be put in their files' places.
@@ -44,6 +49,7 @@ impl<'a> MemoryFiles<'a> {
             schedule,
             trace: Vec::new(alloc),
             report: Vec::new(alloc),
+            digest: Vec::new(alloc),
             room: usize::MAX,
             good_ends: u32::MAX,
         }
@@ -54,12 +60,13 @@ impl<'a> MemoryFiles<'a> {
         let mut files = MemoryFiles::new(alloc, program);
         files.trace.resize(1000, b'x')?;
         files.report.resize(1000, b'x')?;
+        files.digest.resize(1000, b'x')?;
         Ok(files)
     }
 
     /// Fails the test unless the files are still those of `with_old_files`.
     pub fn assert_old(&self, rt: &impl Abort) {
-        for file in [&self.trace, &self.report] {
+        for file in [&self.trace, &self.report, &self.digest] {
             assert_eq!(rt; file.len(), 1000);
             assert!(rt; file.as_slice().ends_with(b"x"));
         }
@@ -70,6 +77,7 @@ impl<'a> MemoryFiles<'a> {
         match path {
             TRACE => Some(&mut self.trace),
             REPORT => Some(&mut self.report),
+            DIGEST => Some(&mut self.digest),
             _ => None,
         }
     }
@@ -98,7 +106,7 @@ impl Files for MemoryFiles<'_> {
 
     fn begin(&mut self, alloc: Global, path: &str) -> Result<MemoryOutput, WriteFault> {
         match path {
-            TRACE | REPORT => Ok(MemoryOutput::new(alloc, self.room)),
+            TRACE | REPORT | DIGEST => Ok(MemoryOutput::new(alloc, self.room)),
             _ => Err(WriteFault::WriteFailed),
         }
     }

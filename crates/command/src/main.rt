@@ -8,6 +8,7 @@ mod disasm;
 mod failure;
 #[cfg(test)]
 mod fakes;
+mod made_outputs;
 mod naming;
 mod outputs;
 mod perform;
@@ -18,6 +19,7 @@ mod replay_failure;
 mod replaying;
 mod request;
 mod running;
+mod text_recorders;
 
 use arguments::arguments_of;
 use failure::Failure;

@@ -35,6 +35,7 @@ fn names_of<'a>(
     }
     add_names(records.trace, &mut names)?;
     add_names(records.report, &mut names)?;
+    add_names(records.digest, &mut names)?;
     Ok(names)
 }
 

@@ -1,34 +1,37 @@
-ghost use Rattle.std.specs.Prelude.{◌≡◌, ◌≢◌, ◌⊎◌, ◌+◌, ◌-◌, ◌^◌, ◌<◌, IfErr, OnOk};
+ghost use Rattle.std.specs.Prelude.{◌≡◌, ◌≢◌, ◌⊎◌, ◌+◌, ◌-◌, ◌^◌, ◌<◌, [], IfErr, OnOk};
 ghost use Rattle.clap.specs.Values.{kind_of};
 ghost use Rattle.files.specs.Content.{Tells};
 ghost use Rattle.files.specs.Taken.{TakesAtMost};
 ghost use Rattle.runtime.specs.Limits as limit;
 ghost use Rattle.command.specs.Records.{NamesNone};
-ghost use Rattle.command.specs.Serves.{RunsInto};
+ghost use Rattle.token.specs.RunInTurn.{point_of};
+ghost use Rattle.command.specs.Serves.{Concludes, RunsInto};
 ghost use Rattle.command.specs.Status.{answer_status, failure_status, outcome_status};
 
 use crate::command_line::parse;
 use crate::disasm::disasm;
 use crate::failure::Failure;
 use crate::naming::named_twice;
-use crate::outputs::{abandon, begin};
+use crate::outputs::{Outputs, abandon, begin};
 use crate::place::Place;
 use crate::publishing::write_records;
 use crate::records::Records;
 use crate::replaying::{conclude_replay, replay};
 use crate::request::Request;
-use crate::running::{open_file, run_start};
+use crate::running::{Ran, open_file, run_start};
+use crate::text_recorders::TextRecorders;
 use clap::Error;
 use clap::error::ErrorKind;
 use files::Files;
 use hart::Trap;
-use runtime::{Config, RunOutcome, WriteSink};
+use runtime::{Config, RunOutcome, Start, WriteSink};
 use std::alloc::Global;
 use std::convert::AsStr;
 use std::io;
 use std::io::{Read, Write};
 use std::sync::Wait;
 use std::thread::Threads;
+use token::one_history;
 
 /// The status of a command line that could not be read.
 const WRONG_ARGUMENTS: u8 = 2;
@@ -69,37 +72,15 @@ pub fn perform<H: Threads + Wait + Sync, S: AsStr, F: Files, R: Read, W: Write, 
                 records,
             },
         ) => conclude(
-            run_apart(rt, alloc, file, &config, &records, files, stdin, stdout),
+            run_file(rt, alloc, file, &config, &records, files, stdin, stdout),
             stderr,
         ),
         Err(error) => refuse(&error, &mut stdout.writer, stderr),
     }
 }
 
-/// Runs the program of a file, unless two arguments name one file.
-fn run_apart<'a, H: Threads + Wait + Sync, F: Files, R: Read, W: Write>(
-    rt: &H,
-    alloc: Global,
-    file: &'a str,
-    config: &Config,
-    records: &Records<'a>,
-    files: &mut F,
-    stdin: &mut R,
-    stdout: &mut WriteSink<W>,
-) -> Result<RunOutcome, Failure<'a>>
-    requires { stdout.old.failures < 2 ^ 64 - 1 }
-    ensures input { TakesAtMost (limit.input + 1) (R.remaining stdin.old) (R.remaining stdin.new) }
-    ensures answer { RunsInto (Tells F.Output.contents) (F.content files.old) (F.content files.new) (R.remaining stdin.old)
-        (W.contents stdout.old.writer) (W.contents stdout.new.writer) file.now config.now records.now result }
-    ensures unnamed { NamesNone records.now → files.new ≡ files.old }
-{
-    match named_twice(alloc, file, records, files)? {
-        Some((one, other)) => Err(Failure::OneFile(one, other)),
-        None => run_file(rt, alloc, file, config, records, files, stdin, stdout),
-    }
-}
-
-/// Runs the program of a file, and puts its output and its texts where they are to be.
+/// Runs the program of a file, and puts its output and its texts where they are to be, unless two arguments name one
+/// file.
 fn run_file<'a, H: Threads + Wait + Sync, F: Files, R: Read, W: Write>(
     rt: &H,
     alloc: Global,
@@ -116,22 +97,58 @@ fn run_file<'a, H: Threads + Wait + Sync, F: Files, R: Read, W: Write>(
         (W.contents stdout.old.writer) (W.contents stdout.new.writer) file.now config.now records.now result }
     ensures unnamed { NamesNone records.now → files.new ≡ files.old }
 {
+    if let Some((one, other)) = named_twice(alloc, file, records, files)? {
+        return Err(Failure::OneFile(one, other));
+    }
     let start = open_file(alloc, file, config, files, stdin)?;
-    let outputs = begin(alloc, records, files)?;
-    match run_start(rt, alloc, start, config.workers, stdout) {
-        Ok(ran) => {
+    run_opened_file(rt, alloc, start, config.workers, records, files, stdout)
+}
+
+/// Does all turns of a run, and puts its output and its texts where they are to be.
+fn run_opened_file<'a, H: Threads + Wait + Sync, F: Files, W: Write>(
+    rt: &H,
+    alloc: Global,
+    start: Start,
+    workers: u32,
+    records: &Records<'a>,
+    files: &mut F,
+    stdout: &mut WriteSink<W>,
+) -> Result<RunOutcome, Failure<'a>>
+    requires output { (point_of start).state.output ≡ [] }
+    requires failures { stdout.old.failures < 2 ^ 64 - 1 }
+    ensures answer { Concludes (Tells F.Output.contents) records.now (F.content files.old) (F.content files.new)
+        (W.contents stdout.old.writer) (W.contents stdout.new.writer) (point_of start).setup result }
+    ensures unnamed { NamesNone records.now → files.new ≡ files.old }
+{
+    one_history();
+    let Outputs { trace, made } = begin(alloc, records, files)?;
+    let recorders = TextRecorders::new(alloc, records, trace);
+    let Ran { result, recorders } = run_start(
+        rt,
+        alloc,
+        start,
+        workers,
+        records.trace,
+        recorders,
+        stdout,
+    );
+    match result {
+        Ok(end) => {
+            let outcome = end.outcome;
             write_records(
                 alloc,
                 records,
-                outputs,
-                &ran.kept,
+                recorders,
+                made,
+                end,
                 files,
                 &mut stdout.writer,
             )?;
-            Ok(ran.end.outcome)
+            Ok(outcome)
         }
         Err(failure) => {
-            abandon(records, outputs, files);
+            let trace = recorders.into_trace_output();
+            abandon(records, Outputs { trace, made }, files);
             Err(failure)
         }
     }
@@ -225,6 +242,8 @@ fn write_help<W: Write>(help: &Error, stdout: &mut W) -> io::Result<()> {
 
 #[cfg(test)]
 mod destinations;
+#[cfg(test)]
+mod digests;
 #[cfg(test)]
 mod failing_writes;
 #[cfg(test)]

@@ -1,148 +1,194 @@
 //! A run's texts, put where they are to be.
-ghost use Rattle.std.specs.Prelude.{◌≡◌, ℕ, List, [], IfErr, IfOk, IsNone, IsSome, OnOk, Some};
+ghost use Rattle.std.specs.Prelude.{◌≡◌, ℕ, List, [], IfErr, IfOk, IfSome, IsNone, IsOk, OnOk, Some, is_some};
 ghost use Rattle.std.specs.String.{string_bytes};
 ghost use Rattle.files.specs.Content.{Has, Tells};
-ghost use Rattle.sharing_report.specs.Sharing.{IsSharing};
-ghost use Rattle.sharing_report.specs.Texts.{text_of as report_text_of};
-ghost use Rattle.token.specs.Kept.{kept_changes, kept_turns};
+ghost use Rattle.paged_memory.specs.Snapshot.{cells_of};
+ghost use Rattle.run_digest.specs.Recording.{Digests};
+ghost use Rattle.run_digest.specs.Texts.{digest_text};
+ghost use Rattle.sharing_report.specs.Recording.{AreInOrder, Shares};
+ghost use Rattle.token.specs.Change.{Change};
+ghost use Rattle.token.specs.declared.turn.Turn.{Turn as TurnRecord};
+ghost use Rattle.tracer.specs.Recording.{Traces};
 ghost use Rattle.tracer.specs.TraceText.{text_of as trace_text_of};
 ghost use Rattle.command.specs.Destination.{Carries, IsFiled, KeepsButFileOf, Prints};
-ghost use Rattle.command.specs.Records.{AreBegun, AreOut, AreTextsOf, AreUnwritten, IsUnwrittenTo, NamesNone, Texts};
+ghost use Rattle.command.specs.Recorders.{AreFor, AreTold};
+ghost use Rattle.command.specs.Records.{AreBegunLast, AreOut, AreOutLast, AreTextsOf, AreUnwritten, AreUnwrittenLast, IsReportOf, IsUnwrittenTo, KeepsButMade, NamesNone, Texts};
 
 use crate::destination::Destination;
 use crate::failure::Failure;
-use crate::outputs::{Outputs, abandon_output};
+use crate::made_outputs::MadeOutputs;
+use crate::outputs::{abandon_made, abandon_output};
 use crate::place::Place;
 use crate::records::Records;
+use crate::text_recorders::TextRecorders;
 use files::Files;
-use runtime::Kept;
-use sharing_report::{PageRow, report, report_text};
+use run_digest::DigestRecorder;
+use runtime::RunEnd;
+use sharing_report::{SharingRecorder, report_text};
 use std::alloc::{AllocError, Global};
 use std::io::Write;
-use token::{Turn, TurnChange};
-use tracer::trace_text;
+use tracer::TraceRecorder;
 
-/// Puts the texts of a run where they are to be, the trace first. After a failure nothing more is written.
+/// Puts the texts of a run that ended so where they are to be, the trace first. After a failure nothing more is written.
 pub fn write_records<'a, F: Files, W: Write>(
     alloc: Global,
     records: &Records<'a>,
-    outputs: Outputs<F::Output>,
-    kept: &Kept,
+    recorders: TextRecorders<F::Output>,
+    made: MadeOutputs<F::Output>,
+    end: RunEnd,
     files: &mut F,
     writer: &mut W,
 ) -> Result<(), Failure<'a>>
-    requires { AreBegun F.Output.contents records.now outputs }
-    ensures out { OnOk result ((texts : Texts) × AreTextsOf records.now (kept_turns kept.now) (kept_changes kept.now) texts
+    requires wanted { AreFor records.now recorders }
+    requires begun { AreBegunLast F.Output.contents records.now made }
+    ensures out { OnOk result ((turns : List TurnRecord) (changes : List Change) → AreTold F.Output.contents recorders turns changes → AreInOrder changes
+        → (texts : Texts) × AreTextsOf records.now turns changes end.outcome end.output.items (cells_of end.memory) texts
         × AreOut (Tells F.Output.contents) records.now texts (F.content files.new) (W.contents writer.old) (W.contents writer.new)) }
     ensures unnamed { NamesNone records.now → files.new ≡ files.old }
-    ensures failed { IfErr result (AreUnwritten records.now (kept_turns kept.now) (F.content files.old) (F.content files.new)) }
+    ensures failed { IfErr result (λ failure. (turns : List TurnRecord) (changes : List Change) → AreTold F.Output.contents recorders turns changes → AreInOrder changes
+        → AreUnwritten records.now turns changes (F.content files.old) (F.content files.new) failure) }
 {
-    let Outputs { trace, report } = outputs;
-    match write_trace(alloc, records.trace, trace, kept.turns(), files, writer) {
-        Ok(()) => {
-            let rows = wanted_rows(alloc, records.report, kept.changes())?;
-            write_report(
-                alloc,
-                records.report,
-                report,
-                rows.as_slice(),
-                files,
-                writer,
-            )
-        }
+    let TextRecorders {
+        trace,
+        sharing,
+        digest,
+    } = recorders;
+    match write_trace(records.trace, trace, files, writer) {
+        Ok(()) => write_made(alloc, records, sharing, digest, made, end, files, writer),
         Err(failure) => {
-            abandon_output(records.report, report, files);
+            abandon_made(records, made, files);
             Err(failure)
         }
     }
 }
 
-/// The rows of shared pages, where they are wanted.
-fn wanted_rows(
+/// Puts the texts that are made when a run has ended where they are to be, the report first.
+fn write_made<'a, F: Files, W: Write>(
     alloc: Global,
-    destination: Option<Destination<'_>>,
-    changes: &[TurnChange],
-) -> Result<Vec<PageRow>, AllocError>
-    ensures { IfOk result (λ rows. IsSome destination.entry → IsSharing changes.now rows.items) }
+    records: &Records<'a>,
+    sharing: Option<SharingRecorder>,
+    digest: Option<DigestRecorder>,
+    made: MadeOutputs<F::Output>,
+    end: RunEnd,
+    files: &mut F,
+    writer: &mut W,
+) -> Result<(), Failure<'a>>
+    requires report { is_some sharing ≡ is_some records.now.report }
+    requires digest { is_some digest ≡ is_some records.now.digest }
+    requires begun { AreBegunLast F.Output.contents records.now made }
+    ensures out { OnOk result ((turns : List TurnRecord) (changes : List Change) → IfSome sharing (λ sharing. Shares sharing changes) → IfSome digest (λ digest. Digests digest turns)
+        → AreInOrder changes → (texts : Texts) × (texts.trace ≡ trace_text_of turns) × AreTextsOf records.now turns changes end.outcome end.output.items (cells_of end.memory) texts
+        × AreOutLast (Tells F.Output.contents) records.now texts (F.content files.new) (W.contents writer.old) (W.contents writer.new)) }
+    ensures others { KeepsButMade records.now (F.content files.old) (F.content files.new) }
+    ensures unnamed { NamesNone records.now → files.new ≡ files.old }
+    ensures failed { IfErr result (λ failure. (changes : List Change) → IfSome sharing (λ sharing. Shares sharing changes) → AreInOrder changes
+        → AreUnwrittenLast records.now changes (F.content files.new) failure) }
 {
-    match destination {
-        None => Ok(Vec::new(alloc)),
-        Some(_) => report(alloc, changes),
+    let text = report_of(alloc, &sharing);
+    match write_text(records.report, made.report, text, files, writer) {
+        Ok(()) => {
+            let text = digest_of(alloc, digest, end);
+            write_text(records.digest, made.digest, text, files, writer)
+        }
+        Err(failure) => {
+            abandon_output(records.digest, made.digest, files);
+            Err(failure)
+        }
     }
 }
 
-/// Puts the text of a trace where it is to be.
+/// The text of the report, where it is wanted.
+fn report_of(alloc: Global, sharing: &Option<SharingRecorder>) -> Result<String, AllocError>
+    ensures { IfOk result (λ text. IfSome sharing.now (λ sharing. (changes : List Change) → Shares sharing changes → AreInOrder changes → IsReportOf changes (string_bytes text))) }
+{
+    match sharing {
+        Some(sharing) => report_text(alloc, &sharing.rows()?),
+        None => Ok(String::new(alloc)),
+    }
+}
+
+/// The text of the digest of a run that ended so, where it is wanted.
+fn digest_of(
+    alloc: Global,
+    digest: Option<DigestRecorder>,
+    end: RunEnd,
+) -> Result<String, AllocError>
+    ensures { IfOk result (λ text. IfSome digest (λ digest. (turns : List TurnRecord) → Digests digest turns
+        → string_bytes text ≡ digest_text end.outcome end.output.items (cells_of end.memory) (trace_text_of turns))) }
+{
+    match digest {
+        Some(digest) => digest.finish(alloc, end.outcome, end.output.as_slice(), &end.memory),
+        None => Ok(String::new(alloc)),
+    }
+}
+
+/// Writes out the rest of a trace, and puts it where it is to be.
 fn write_trace<'a, F: Files, W: Write>(
-    alloc: Global,
     destination: Option<Destination<'a>>,
-    output: Option<F::Output>,
-    turns: &[Turn],
+    recorder: Option<TraceRecorder<F::Output>>,
     files: &mut F,
     writer: &mut W,
 ) -> Result<(), Failure<'a>>
-    requires { Carries F.Output.contents destination output [] }
-    ensures filed { OnOk result (IsFiled destination.entry (trace_text_of turns.now) (F.content files.new)) }
-    ensures printed { OnOk result (Prints (Tells F.Output.contents) destination.entry (trace_text_of turns.now) (W.contents writer.old) (W.contents writer.new)) }
+    requires { is_some recorder ≡ is_some destination }
+    ensures filed { OnOk result ((turns : List TurnRecord) → IfSome recorder (λ recorder. Traces F.Output.contents recorder turns)
+        → IsFiled destination.entry (trace_text_of turns) (F.content files.new)) }
+    ensures printed { OnOk result ((turns : List TurnRecord) → IfSome recorder (λ recorder. Traces F.Output.contents recorder turns)
+        → Prints (Tells F.Output.contents) destination.entry (trace_text_of turns) (W.contents writer.old) (W.contents writer.new)) }
     ensures others { KeepsButFileOf destination.entry (F.content files.old) (F.content files.new) }
     ensures unnamed { IsNone destination.entry → files.new ≡ files.old }
     ensures failed { IfErr result (IsUnwrittenTo destination.entry) }
 {
-    match destination {
-        None => Ok(()),
-        Some(_) => {
-            let text = trace_text(alloc, turns)?;
-            write_text(destination, output, &text, files, writer)
+    let Some(recorder) = recorder else {
+        return Ok(());
+    };
+    let Some(destination) = destination else {
+        return Ok(());
+    };
+    let mut recorder = recorder;
+    match recorder.finish() {
+        Ok(()) => publish(
+            Some(destination),
+            Some(recorder.into_writer()),
+            files,
+            writer,
+        ),
+        Err(fault) => {
+            abandon_output(Some(destination), Some(recorder.into_writer()), files);
+            Err(Failure::of_turn(destination.place(), fault))
         }
     }
 }
 
-/// Puts the text of the rows of shared pages where it is to be.
-fn write_report<'a, F: Files, W: Write>(
-    alloc: Global,
-    destination: Option<Destination<'a>>,
-    output: Option<F::Output>,
-    rows: &[PageRow],
-    files: &mut F,
-    writer: &mut W,
-) -> Result<(), Failure<'a>>
-    requires { Carries F.Output.contents destination output [] }
-    ensures filed { OnOk result (IsFiled destination.entry (report_text_of rows.now) (F.content files.new)) }
-    ensures printed { OnOk result (Prints (Tells F.Output.contents) destination.entry (report_text_of rows.now) (W.contents writer.old) (W.contents writer.new)) }
-    ensures others { KeepsButFileOf destination.entry (F.content files.old) (F.content files.new) }
-    ensures unnamed { IsNone destination.entry → files.new ≡ files.old }
-    ensures failed { IfErr result (IsUnwrittenTo destination.entry) }
-{
-    match destination {
-        None => Ok(()),
-        Some(_) => {
-            let text = report_text(alloc, rows)?;
-            write_text(destination, output, &text, files, writer)
-        }
-    }
-}
-
-/// Puts a text where it is to be.
+/// Puts a text where it is to be, which was made where it is wanted.
 fn write_text<'a, F: Files, W: Write>(
     destination: Option<Destination<'a>>,
     output: Option<F::Output>,
-    text: &String,
+    text: Result<String, AllocError>,
     files: &mut F,
     writer: &mut W,
 ) -> Result<(), Failure<'a>>
     requires { Carries F.Output.contents destination output [] }
-    ensures filed { OnOk result (IsFiled destination.entry (string_bytes text.now) (F.content files.new)) }
-    ensures printed { OnOk result (Prints (Tells F.Output.contents) destination.entry (string_bytes text.now) (W.contents writer.old) (W.contents writer.new)) }
+    ensures made { OnOk result (IsOk text) }
+    ensures filed { OnOk result (IfOk text (λ text. IsFiled destination.entry (string_bytes text) (F.content files.new))) }
+    ensures printed { OnOk result (IfOk text (λ text. Prints (Tells F.Output.contents) destination.entry (string_bytes text) (W.contents writer.old) (W.contents writer.new))) }
     ensures others { KeepsButFileOf destination.entry (F.content files.old) (F.content files.new) }
     ensures unnamed { IsNone destination.entry → files.new ≡ files.old }
     ensures failed { IfErr result (IsUnwrittenTo destination.entry) }
 {
+    let text = match text {
+        Ok(text) => text,
+        Err(refused) => {
+            abandon_output(destination, output, files);
+            return Err(Failure::from(refused));
+        }
+    };
     let Some(output) = output else {
         return Ok(());
     };
     let Some(destination) = destination else {
         return Ok(());
     };
-    put(destination, output, text, files, writer)
+    put(destination, output, &text, files, writer)
 }
 
 /// Puts a text into the output that was begun for it, and that where it is to be.

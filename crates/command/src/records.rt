@@ -7,4 +7,6 @@ pub struct Records<'a> {
     pub trace: Option<Destination<'a>>,
     /// For the sharing report.
     pub report: Option<Destination<'a>>,
+    /// For the digest.
+    pub digest: Option<Destination<'a>>,
 }

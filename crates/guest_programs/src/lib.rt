@@ -5,6 +5,7 @@
 #![tactic(auto)]
 
 mod answer;
+mod digests;
 mod elf_file;
 mod ending;
 mod ends;
@@ -25,6 +26,7 @@ mod threads;
 mod transfers;
 
 pub use answer::Answer;
+pub use digests::digest_of;
 pub use elf_file::{CODE, DATA, ProgramHeader, file_of, file_of_headers};
 pub use ending::Ending;
 pub use ends::RUNS as ENDS;

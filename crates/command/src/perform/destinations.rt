@@ -2,7 +2,7 @@
 
 use super::performed::Performed;
 use crate::fakes::{EndlessReader, FailingReader, MemoryFiles};
-use guest_programs::{LETTER, ONE_THREAD, RACE, Run, SHARED_BYTES};
+use guest_programs::{COUNTER, LETTER, ONE_THREAD, RACE, Run, SHARED_BYTES};
 use std::alloc::AllocError;
 use std::io;
 use std::io::Read;
@@ -140,6 +140,14 @@ fn a_write_that_fails_in_the_middle_leaves_the_old_files(rt: HostRuntime) -> Res
     let race = RACE.file(rt.alloc())?;
     for room in [0, 1, 100, 568] {
         let mut files = MemoryFiles::with_old_files(rt.alloc(), race.as_slice())?;
+        files.room = room;
+        let performed = Performed::new(&rt, &arguments, &mut files, &mut io::empty());
+        performed.assert_is(&rt, 124, b"", "cannot write trace\n");
+        files.assert_old(&rt);
+    }
+    let counter = COUNTER.file(rt.alloc())?;
+    for room in [0, 8192, 100_000, 240_164] {
+        let mut files = MemoryFiles::with_old_files(rt.alloc(), counter.as_slice())?;
         files.room = room;
         let performed = Performed::new(&rt, &arguments, &mut files, &mut io::empty());
         performed.assert_is(&rt, 124, b"", "cannot write trace\n");

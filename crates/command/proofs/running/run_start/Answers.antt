@@ -1,16 +1,20 @@
-use Rattle.std.proofs.Common.{refl}
+use Rattle.std.proofs.Common.{inl, refl}
 use Rattle.std.proofs.KnownBytes.{Appends-kept}
-use Rattle.std.specs.Io.KnownBytes.{Appends}
-use Rattle.runtime.specs.Recorded.{Ends}
-use Rattle.token.specs.Kept.{Keeps}
 use Rattle.token.specs.RunInTurn.{point_of}
-use Rattle.command.proofs.Runs.{all_sent}
+use Rattle.command.specs.Recorders.{AreTold}
+use Rattle.command.proofs.Runs.{all_sent, stopped_by}
 use Rattle.command.proofs.running.run_start.Goals as goal
+use Rattle.command.proofs.running.run_start.Goals.{in-Ok+in-Ok-finish, in-Ok+in-Err-finish, in-Err}
 
 -- all of the output was put out before the last flush failed
-pub returns-in-Err-clause-stopped : goal.returns-in-Err-clause-stopped
-returns-in-Err-clause-stopped g c =
-    let ends : Ends Keeps (point_of c.args.start).setup c.in_ok-end.end c.run_opened-run.result.recorder = rw c.in_ok-end.was at c.run_opened-run.ensures.end in
-    let sent : Appends (g.W.Write.contents c.args.stdout.now.writer) (g.W.Write.contents c.run_opened-run.new.sink.writer) c.in_ok-end.end.output.items =
-    rw c.in_ok-end.was at c.run_opened-run.ensures.sent in
-    (refl, all_sent _ _ _ _ _ ends (Appends-kept _ _ _ _ sent c.finish.ensures))
+pub returns-clause-stopped : goal.returns-clause-stopped
+returns-clause-stopped g c = elim c.match-result.branch [
+  | in-Ok+in-Ok-finish w ↦ rw w.result-is tt
+  | in-Ok+in-Err-finish w ↦ rw (w.result-is, w.stdout-is) (
+    inl refl,
+    all_sent (AreTold g.O.Write.contents) (point_of c.args.start).setup w.in-Ok.end c.run_wanted-run.result.recorder _ _
+        (rw w.in-Ok.is at c.run_wanted-run.ensures.ended) (Appends-kept _ _ _ _ (rw w.in-Ok.is at c.run_wanted-run.ensures.sent) w.finish.ensures),
+  )
+  | in-Err w ↦ rw (w.result-is, w.stdout-is, w.of_run.ensures)
+      (stopped_by c.args.trace (point_of c.args.start).setup w.in-Err.fault _ _ (rw w.in-Err.is at c.run_wanted-run.ensures.fault) (rw w.in-Err.is at c.run_wanted-run.ensures.sent))
+]
