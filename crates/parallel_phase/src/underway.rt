@@ -1,6 +1,8 @@
 ghost use Rattle.std.specs.Prelude.{◌<◌, IfOk};
+ghost use Rattle.hart.specs.Segment.{Segment};
 ghost use Rattle.hart.specs.Slice.{IsThere};
 ghost use Rattle.paged_memory.specs.Snapshot.{cells_of};
+ghost use Rattle.parallel_phase.specs.Job.{IsJobEnd};
 ghost use Rattle.parallel_phase.specs.Underway.{IsProgress, IsProgressBy, IsWithin};
 ghost use Rattle.twins.specs.View as views;
 
@@ -8,7 +10,7 @@ use crate::job::Job;
 use crate::job_end::JobEnd;
 use crate::progress::Progress;
 use commit::Patch;
-use hart::{Hart, SliceEnd, run_coded_slice};
+use hart::{Hart, SliceEnd, Stop, run_coded_slice};
 use paged_memory::Snapshot;
 use std::alloc::AllocError;
 use std::marker::Model;
@@ -19,7 +21,7 @@ use twins::View;
 pub struct Underway {
     job: Job,
     hart: Hart,
-    view: View,
+    view: Box<View>,
     /// How many instructions it has executed.
     done: u64,
 }
@@ -30,9 +32,9 @@ impl Model for Underway {
 
     ghost Value = { UnderwayState };
 
-    ghost view = { λ u. record { job = u.job; base = base_of u.view; done = u.done } };
+    ghost view = { λ u. record { job = u.job; base = base_of u.view.value; done = u.done } };
 
-    ghost invariant = { λ u. Stands u.job u.done u.hart u.view };
+    ghost invariant = { λ u. Stands u.job u.done u.hart u.view.value };
 }
 
 /// How far a job goes on by a slice of so many instructions, where so much is done of what is left.
@@ -57,7 +59,7 @@ impl Underway {
         let mut view = View::open(base.try_clone()?);
         let code = base.code();
         let end = run_coded_slice(code, &mut hart, &mut view, job.left, job.quantum, 0, slice)?;
-        progress(job, hart, view, end)
+        first_progress(job, hart, view, end)
     }
 
     /// Goes on with the job by at most so many instructions. Where memory is refused the job is gone.
@@ -77,7 +79,7 @@ impl Underway {
         let end = run_coded_slice(
             code,
             &mut hart,
-            &mut view,
+            &mut *view,
             job.left,
             job.quantum,
             done,
@@ -87,12 +89,50 @@ impl Underway {
     }
 }
 
-/// Where a job stands whose slice ended so.
+/// The end of a job that stopped so on a view.
+fn job_end(job: &Job, hart: Hart, stop: Stop, count: u64, view: &View) -> Result<JobEnd, AllocError>
+    requires { Segment job.now.hart (cells_of (views.base_of view.now)) job.now.left job.now.quantum stop count hart (views.cells_of view.now) }
+    ensures { IfOk result (IsJobEnd (cells_of (views.base_of view.now)) job.now) }
+{
+    let patch = Patch::of(view.base().allocator(), view)?;
+    Ok(JobEnd {
+        hart,
+        stop,
+        count,
+        patch,
+    })
+}
+
+/// Where a job stands whose first slice ended so. Its view is put aside only where the job goes on, since it is large.
 #[inline(always)]
-fn progress(job: Job, hart: Hart, view: View, end: SliceEnd) -> Result<Progress, AllocError>
+fn first_progress(job: Job, hart: Hart, view: View, end: SliceEnd) -> Result<Progress, AllocError>
     requires there { IsThere job.hart (cells_of (views.base_of view)) job.left job.quantum end hart (views.cells_of view) }
     requires within { IsWithin job end }
     ensures { IfOk result (IsProgressBy (cells_of (views.base_of view)) job end) }
+{
+    match end {
+        SliceEnd::Unfinished(done) => {
+            let alloc = view.base().allocator();
+            let view = Box::new(alloc, view)?;
+            Ok(Progress::GoesOn(Underway {
+                job,
+                hart,
+                view,
+                done,
+            }))
+        }
+        SliceEnd::Stopped(stop, count) => {
+            Ok(Progress::Over(job_end(&job, hart, stop, count, &view)?))
+        }
+    }
+}
+
+/// Where a job stands whose further slice ended so.
+#[inline(always)]
+fn progress(job: Job, hart: Hart, view: Box<View>, end: SliceEnd) -> Result<Progress, AllocError>
+    requires there { IsThere job.hart (cells_of (views.base_of view.value)) job.left job.quantum end hart (views.cells_of view.value) }
+    requires within { IsWithin job end }
+    ensures { IfOk result (IsProgressBy (cells_of (views.base_of view.value)) job end) }
 {
     match end {
         SliceEnd::Unfinished(done) => Ok(Progress::GoesOn(Underway {
@@ -102,13 +142,7 @@ fn progress(job: Job, hart: Hart, view: View, end: SliceEnd) -> Result<Progress,
             done,
         })),
         SliceEnd::Stopped(stop, count) => {
-            let patch = Patch::of(view.base().allocator(), &view)?;
-            Ok(Progress::Over(JobEnd {
-                hart,
-                stop,
-                count,
-                patch,
-            }))
+            Ok(Progress::Over(job_end(&job, hart, stop, count, &view)?))
         }
     }
 }

@@ -12,8 +12,8 @@ pub run_coded_slice-requires-clause-code : goal.run_coded_slice-requires-clause-
 run_coded_slice-requires-clause-code c =
     subst (λ (memory : Memory). HasCode c.code-code.result.start c.code-code.result.entries.now memory) (sym (ap memory_of_pages (c.open-view.ensures.pages ∙ c.in_ok-try_clone.ensures))) c.code-code.ensures
 
-pub progress-requires-clause-there : goal.progress-requires-clause-there
-progress-requires-clause-there c =
+pub first_progress-requires-clause-there : goal.first_progress-requires-clause-there
+first_progress-requires-clause-there c =
     let opened = c.open-view.ensures in
     let base : views.cells_of c.open-view.result ≡ cells_of (views.base_of c.run_coded_slice.new.memory) =
     ap memory_of_pages opened.pages ∙ sym (ap cells_of opened.base) ∙ sym c.run_coded_slice.ensures.base in
