@@ -1,4 +1,4 @@
-use Rattle.std.proofs.Common.{◌≡◌, ◌≢◌, ℕ, ◌+◌, ◌-◌, ◌^◌, ◌<◌, ◌≤◌, true, false, List, [], ◌∷◌, ◌++◌, length, eqb, eqb-true, refl, sym, ◌∙◌, ap, arith, inl, inr, length-append}
+use Rattle.std.proofs.Common.{◌≡◌, ◌≢◌, ℕ, zero, suc, ◌+◌, ◌-◌, ◌^◌, ◌<◌, ◌≤◌, true, false, List, [], ◌∷◌, ◌++◌, length, eqb, eqb-true, eq-eqb, cond, refl, sym, ◌∙◌, ap, arith, inl, inr, length-append}
 use Rattle.std.specs.Prelude.{slice_index, slice_index_or}
 use Rattle.std.specs.List.{list_any, IsDistinct}
 use Rattle.std.proofs.lemmas.Bool.{cases_eq, cases_lt, ne_eqb}
@@ -7,7 +7,7 @@ use Rattle.std.proofs.lemmas.List.Folds.{Any-from_list_any}
 use Rattle.std.proofs.lemmas.Map.Keys.{IsDistinct-from_apart}
 use Rattle.std.proofs.lemmas.Map.Steps.{length-le_from_distinct_below}
 use Rattle.std.proofs.lemmas.Grind.{get_or_default_zero}
-use Rattle.twins.specs.Listed.{AreListed}
+use Rattle.twins.specs.Listed.{AreListed, next_place, place_among}
 
 -- no number is listed
 pub AreListed-none : (place : ℕ → ℕ) → ((number : ℕ) → place number ≡ 0) → AreListed place []
@@ -127,3 +127,43 @@ module _ (place : ℕ → ℕ) (numbers : List ℕ) (listed : AreListed place nu
             rw same (earlier (place other - 1) (omega arith) ∙ listed.listed other there))
       ]);
     }
+
+-- the place of a number, by where it first stands
+place_among-cons : (first : ℕ) (rest : List ℕ) (number : ℕ) → place_among (first ∷ rest) number ≡ cond (eqb first number) 1 (next_place (place_among rest number))
+unfolding place_among
+place_among-cons first rest number = refl
+
+pub place_among-nothing : (number : ℕ) → place_among [] number ≡ 0
+unfolding place_among
+place_among-nothing number = refl
+
+pub place_among-first : (numbers : List ℕ) (index number : ℕ) → index < length numbers → slice_index numbers index ≡ number →
+    ((earlier : ℕ) → earlier < index → slice_index numbers earlier ≢ number) → place_among numbers number ≡ index + 1
+place_among-first [] index number inside here absent = absurd (omega arith)
+place_among-first (first ∷ rest) zero number inside here absent = place_among-cons first rest number ∙ rw (eq-eqb first number here) refl
+place_among-first (first ∷ rest) (suc index) number inside here absent =
+    let apart : first ≢ number = absent 0 (omega arith) in
+    let later : place_among rest number ≡ index + 1 = place_among-first rest index number (omega arith) here (λ earlier before. absent (suc earlier) (omega arith)) in
+    place_among-cons first rest number ∙ rw (ne_eqb first number apart, later) (omega arith)
+
+pub place_among-absent : (numbers : List ℕ) (number : ℕ) → ((index : ℕ) → index < length numbers → slice_index numbers index ≢ number) → place_among numbers number ≡ 0
+place_among-absent [] number absent = place_among-nothing number
+place_among-absent (first ∷ rest) number absent =
+    let apart : first ≢ number = absent 0 (omega arith) in
+    place_among-cons first rest number ∙ rw (ne_eqb first number apart, place_among-absent rest number (λ index inside. absent (suc index) (omega arith))) refl
+
+-- one more number moves no other
+pub place_among-other : (numbers : List ℕ) (number other : ℕ) → other ≢ number → place_among (numbers ++ number ∷ []) other ≡ place_among numbers other
+place_among-other [] number other apart =
+    place_among-cons number [] other ∙ rw (ne_eqb number other (λ same. apart (sym same)), place_among-nothing other) refl
+place_among-other (first ∷ rest) number other apart =
+    place_among-cons first (rest ++ number ∷ []) other
+    ∙ rw (place_among-other rest number other apart) (sym (place_among-cons first rest other))
+
+-- one more number stands at the end
+pub place_among-pushed : (numbers : List ℕ) (number : ℕ) → ((index : ℕ) → index < length numbers → slice_index numbers index ≢ number) →
+    place_among (numbers ++ number ∷ []) number ≡ length numbers + 1
+place_among-pushed numbers number absent =
+    let size : length (numbers ++ number ∷ []) ≡ length numbers + 1 = length-append numbers (number ∷ []) in
+    place_among-first (numbers ++ number ∷ []) (length numbers) number (omega arith) (get_or_push numbers number 0 (length numbers) refl)
+    (λ earlier before same. absent earlier before (sym (get_or_append_left numbers (number ∷ []) 0 earlier before) ∙ same))
