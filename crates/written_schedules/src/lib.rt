@@ -8,11 +8,11 @@ mod replay_end;
 mod schedule;
 mod small;
 
-pub use race::{EARLY_TURN, SCHEDULES as RACE_SCHEDULES};
+pub use race::{EARLY_TURN, SCHEDULES as RACE_SCHEDULES, THREE_WORKERS};
 pub use refused::SCHEDULES as REFUSED_SCHEDULES;
 pub use replay_end::ReplayEnd;
 pub use schedule::Schedule;
-pub use small::SCHEDULES as SMALL_SCHEDULES;
+pub use small::{KEPT_STORE, SCHEDULES as SMALL_SCHEDULES, SIGNAL, SKIP};
 
 /// The schedules, in tables by topic.
 pub fn schedules() -> [&'static [Schedule]; 3] {

@@ -64,7 +64,7 @@ turn
 ";
 
 /// Phase 2 by workers 0, 1 and 2 in turn, the highest first, and all turns at the end.
-const THREE_WORKERS: &str = "\
+const MIXED_PHASE: &str = "\
 draw 0
 draw 1
 draw 2
@@ -177,6 +177,27 @@ post 1
 turn
 ";
 
+/// Phase 1 with a worker that finds no job left while the phase's last thread keeps the token.
+const LATE_DRAW: &str = "\
+draw 0
+step 0
+step 0
+step 0
+post 0
+turn
+draw 0
+hold
+hold
+hold
+turn
+hold
+hold
+turn
+hold
+hold
+turn
+";
+
 /// The whole run with a quantum of two instructions, which a thread that keeps the token doesn't have.
 const SHORT_TURNS: &str = "\
 draw 0
@@ -249,6 +270,16 @@ post 0
 turn
 ";
 
+/// Three threads whose instructions are mixed.
+pub const THREE_WORKERS: Schedule = Schedule {
+    name: "race-three-workers",
+    run: "race",
+    is_sample: true,
+    workers: 3,
+    text: &[FIRST_PHASE, MIXED_PHASE, LAST_PHASES],
+    end: ReplayEnd::WithTheRun,
+};
+
 /// A turn beside a half-run job.
 pub const EARLY_TURN: Schedule = Schedule {
     name: "race-early-turn",
@@ -259,7 +290,7 @@ pub const EARLY_TURN: Schedule = Schedule {
     end: ReplayEnd::WithTheRun,
 };
 
-pub static SCHEDULES: [Schedule; 10] = [
+pub static SCHEDULES: [Schedule; 11] = [
     Schedule {
         name: "race-one-worker",
         run: "race",
@@ -268,14 +299,7 @@ pub static SCHEDULES: [Schedule; 10] = [
         text: &[FIRST_PHASE, ONE_WORKER, LAST_PHASES],
         end: ReplayEnd::WithTheRun,
     },
-    Schedule {
-        name: "race-three-workers",
-        run: "race",
-        is_sample: true,
-        workers: 3,
-        text: &[FIRST_PHASE, THREE_WORKERS, LAST_PHASES],
-        end: ReplayEnd::WithTheRun,
-    },
+    THREE_WORKERS,
     EARLY_TURN,
     Schedule {
         name: "64 workers",
@@ -291,6 +315,14 @@ pub static SCHEDULES: [Schedule; 10] = [
         is_sample: false,
         workers: 2,
         text: &[ENDED_WORKER, LAST_PHASES],
+        end: ReplayEnd::WithTheRun,
+    },
+    Schedule {
+        name: "a draw while the last thread of the list keeps the token",
+        run: "race",
+        is_sample: false,
+        workers: 1,
+        text: &[LATE_DRAW, ONE_WORKER, LAST_PHASES],
         end: ReplayEnd::WithTheRun,
     },
     Schedule {

@@ -4,7 +4,7 @@ use crate::race::FIRST_PHASE;
 use crate::replay_end::ReplayEnd;
 use crate::schedule::Schedule;
 
-pub static SCHEDULES: [Schedule; 43] = [
+pub static SCHEDULES: [Schedule; 49] = [
     Schedule {
         name: "a turn without a result",
         run: "race",
@@ -147,6 +147,82 @@ pub static SCHEDULES: [Schedule; 43] = [
             turns: 0,
             status: 124,
             line: "schedule line 3: refused 2 NotEnabled",
+        },
+    },
+    Schedule {
+        name: "a note of a worker that has ended",
+        run: "race",
+        is_sample: false,
+        workers: 2,
+        text: &["draw 0\ndraw 1\nnote 1\n"],
+        end: ReplayEnd::Otherwise {
+            turns: 0,
+            status: 124,
+            line: "schedule line 3: refused 2 NotEnabled",
+        },
+    },
+    Schedule {
+        name: "a skip of a worker that has ended",
+        run: "race",
+        is_sample: false,
+        workers: 2,
+        text: &["draw 0\ndraw 1\nskip 1\n"],
+        end: ReplayEnd::Otherwise {
+            turns: 0,
+            status: 124,
+            line: "schedule line 3: refused 2 NotEnabled",
+        },
+    },
+    Schedule {
+        name: "a post of a worker that has ended",
+        run: "race",
+        is_sample: false,
+        workers: 2,
+        text: &["draw 0\ndraw 1\npost 1\n"],
+        end: ReplayEnd::Otherwise {
+            turns: 0,
+            status: 124,
+            line: "schedule line 3: refused 2 NotEnabled",
+        },
+    },
+    Schedule {
+        name: "a second draw while the last thread of the list keeps the token",
+        run: "race",
+        is_sample: false,
+        workers: 1,
+        text: &["draw 0\nstep 0\nstep 0\nstep 0\npost 0\nturn\ndraw 0\ndraw 0\n"],
+        end: ReplayEnd::Otherwise {
+            turns: 1,
+            status: 124,
+            line: "schedule line 8: refused 2 NotEnabled",
+        },
+    },
+    Schedule {
+        name: "a step of a job that was skipped",
+        run: "endless",
+        is_sample: false,
+        workers: 2,
+        text: &[
+            "draw 0\nstep 0\nstep 0\nstep 0\nstep 0\npost 0\nturn\ndraw 0\ndraw 1\nstep 1\nstep 0\nstep 0\nstep 0\nnote 0\nskip 1\nstep 1\n",
+        ],
+        end: ReplayEnd::Otherwise {
+            turns: 1,
+            status: 124,
+            line: "schedule line 16: refused 2 NotEnabled",
+        },
+    },
+    Schedule {
+        name: "a hold before the wake",
+        run: "signal",
+        is_sample: false,
+        workers: 2,
+        text: &[
+            "draw 0\nstep 0\nstep 0\nstep 0\nstep 0\npost 0\nturn\ndraw 0\ndraw 1\nstep 1\nstep 0\nstep 1\nstep 0\npost 1\npost 0\nturn\nturn\nhold\nhold\nhold\nturn\ndraw 1\nstep 1\nstep 1\npost 1\nturn\ndraw 0\nstep 0\nstep 0\nstep 0\npost 0\nturn\nhold\n",
+        ],
+        end: ReplayEnd::Otherwise {
+            turns: 6,
+            status: 124,
+            line: "schedule line 33: refused 2 NotEnabled",
         },
     },
     Schedule {
