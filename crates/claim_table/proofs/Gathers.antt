@@ -1,12 +1,11 @@
 -- A log is taken from the end of a list of seats.
-use Rattle.std.proofs.Common.{◌≡◌, ℕ, zero, suc, ◌+◌, ◌<◌, List, [], ◌∷◌, ◌++◌, map, length, sym, refl, ap, ◌∙◌, subst, arith, length-append}
+use Rattle.std.proofs.Common.{◌≡◌, ◌<◌, List, [], ◌∷◌, ◌++◌, map, length, get_or, sym, refl, ap, ◌∙◌, subst, arith, length-append}
 use Rattle.std.proofs.lemmas.List.{map-append, get_or_append_left, get_or_push}
-use Rattle.std.proofs.lemmas.Grind.{common_steps}
-use Rattle.std.specs.Prelude.{All}
+use Rattle.std.specs.Prelude.{All, OnOk, Result, Ok, Err}
 use Rattle.atomic_table.specs.Seated.{TableId}
 use Rattle.claim_table.specs.declared.log.Log.{Log}
 use Rattle.claim_table.specs.Logs.{Tally, tally, both, IsSame}
-use Rattle.claim_table.specs.Seat.{SeatState}
+use Rattle.claim_table.specs.Seat.{Row, SeatState}
 use Rattle.claim_table.proofs.Steps.{begins_last, takes_last}
 
 abbrev logs_of : List SeatState → List Log
@@ -31,3 +30,12 @@ rows_split table all rest last is each =
       λ k d below. ap (λ (seat : SeatState). seat.row.table) (sym (get_or_append_left rest (last ∷ []) d k below)) ∙ both k d (let e = length-append rest (last ∷ []) in omega arith),
       ap (λ (seat : SeatState). seat.row.table) (sym (get_or_push rest last last (length rest) refl)) ∙ both (length rest) last (let e = length-append rest (last ∷ []) in omega arith),
     )
+
+-- the numbers of a row's seats are below how many it has
+pub all_numbered : (row : Row) (seats : List SeatState) → All (λ (seat : SeatState). seat.row ≡ row) seats → All (λ (seat : SeatState). seat.number < seat.row.size.seats) seats
+    → All (λ (seat : SeatState). seat.number < row.size.seats) seats
+all_numbered row seats are numbered = λ place d below. subst (λ (r : Row). (get_or seats place d).number < r.size.seats) (are place d below) (numbered place d below)
+
+pub on_ok : {A E P Q : Type 0} (result : Result A E) → (P → Q) → OnOk result P → OnOk result Q
+on_ok (Ok value) then held = then held
+on_ok (Err error) then held = held

@@ -1,11 +1,10 @@
 -- What a seat keeps stays true of what it knows after each step.
-use Rattle.std.proofs.Common.{◌≡◌, ◌≢◌, ℕ, ◌+◌, ◌<◌, ◌≤◌, ◌⊎◌, ⊎_elim, Bool, true, false, nat_lt, ◌==◌, List, [], ◌∷◌, ◌++◌, length, get_or, slice_index_or, set, replicate, sym, refl, ap, ◌∙◌, subst, arith, length-set, filter}
+use Rattle.std.proofs.Common.{◌≡◌, ◌≢◌, ℕ, ◌<◌, ◌≤◌, ⊎_elim, Bool, true, false, nat_lt, ◌==◌, List, [], ◌∷◌, ◌++◌, length, slice_index_or, set, replicate, sym, refl, ap, ◌∙◌, subst, arith, length-set}
 use Rattle.std.proofs.lemmas.Bool.{cases_lt}
 use Rattle.std.proofs.lemmas.Bool.Decides.{nat_tests}
 use Rattle.std.proofs.lemmas.List.{get_or-set_other, get_or-replicate}
 use Rattle.std.proofs.lemmas.Grind.{get_or-set_at}
 use Rattle.std.proofs.lemmas.List.{length-replicate}
-use Rattle.std.specs.List.{range_with_len}
 use mathlib.Core.Logic.{dite}
 use native.Mathlib.Decide.{ℕ_discrete}
 use Rattle.atomic_table.specs.Table.{Me}
@@ -39,9 +38,10 @@ marked marks numbers new long are number below =
     (λ (other : number ≢ new). let none = none_here new number other in let e : times number numbers ≡ times number (numbers ++ new ∷ []) = omega arith in
     get_or-set_other marks new number true false other ∙ are number below ∙ ap (λ (k : ℕ). nat_lt 0 k) e)
 
-pub seat_new : {S : Type 0} (me : Me S View) → me.1 ≡ [] → me.0.log ≡ new_log 1 → IsSeat me [] (replicate JOBS false) (replicate JOBS false) false
-seat_new me slots is = record {
+pub seat_new : {S : Type 0} (me : Me S View) (own : ℕ) → me.1 ≡ [] → me.0.log ≡ new_log 1 → own < me.0.size.seats → IsSeat me own [] (replicate JOBS false) (replicate JOBS false) false
+seat_new me own slots is below = record {
   slots = slots;
+  numbered = below;
   one = ap (λ (l : Log). l.seats) is;
   drawn_is = ap (λ (l : Log). l.drawn) (sym is);
   noted_is = λ number below. nothing_marked number below ∙ ap (λ (l : Log). nat_lt 0 (times number l.noted)) (sym is);
@@ -52,15 +52,16 @@ seat_new me slots is = record {
   room = (length-replicate JOBS false, length-replicate JOBS false);
 }
 
-module _ {S : Type 0} (me new : Me S View) (drawn : List ℕ) (noted seen : List Bool) (ended : Bool) (was : IsSeat me drawn noted seen ended) (slots : new.1 ≡ me.1) where
+module _ {S : Type 0} {own : ℕ} (me new : Me S View) (drawn : List ℕ) (noted seen : List Bool) (ended : Bool) (was : IsSeat me own drawn noted seen ended) (slots : new.1 ≡ me.1) where
   with_log : (log : Log) → new.0 ≡ record me.0 { log = log } → (drawn' : List ℕ) (noted' seen' : List Bool) (ended' : Bool)
-      → IsSeat {S = S} (record me.0 { log = log }, me.1) drawn' noted' seen' ended' → IsSeat new drawn' noted' seen' ended'
-  with_log log is drawn' noted' seen' ended' fits = subst (λ (m : Me S View). IsSeat m drawn' noted' seen' ended') (λ i. (sym is i, sym slots i)) fits
+      → IsSeat {S = S} (record me.0 { log = log }, me.1) own drawn' noted' seen' ended' → IsSeat new own drawn' noted' seen' ended'
+  with_log log is drawn' noted' seen' ended' fits = subst (λ (m : Me S View). IsSeat m own drawn' noted' seen' ended') (λ i. (sym is i, sym slots i)) fits
 
-  pub seat_drew : (number : ℕ) → new.0 ≡ record me.0 { log = with_drawn me.0.log number } → number < me.0.size.jobs → IsSeat new (drawn ++ number ∷ []) noted seen ended
+  pub seat_drew : (number : ℕ) → new.0 ≡ record me.0 { log = with_drawn me.0.log number } → number < me.0.size.jobs → IsSeat new own (drawn ++ number ∷ []) noted seen ended
   seat_drew number is below = with_log (with_drawn me.0.log number) is _ _ _ _ (record {
     slots = was.slots;
     one = was.one;
+    numbered = was.numbered;
     drawn_is = ap (λ (xs : List ℕ). xs ++ number ∷ []) was.drawn_is;
     noted_is = was.noted_is;
     seen_is = was.seen_is;
@@ -71,10 +72,11 @@ module _ {S : Type 0} (me new : Me S View) (drawn : List ℕ) (noted seen : List
     room = was.room;
   })
 
-  pub seat_ended : new.0 ≡ record me.0 { log = with_end me.0.log } → IsSeat new drawn noted seen true
+  pub seat_ended : new.0 ≡ record me.0 { log = with_end me.0.log } → IsSeat new own drawn noted seen true
   seat_ended is = with_log (with_end me.0.log) is _ _ _ _ (record {
     slots = was.slots;
     one = was.one;
+    numbered = was.numbered;
     drawn_is = was.drawn_is;
     noted_is = was.noted_is;
     seen_is = was.seen_is;
@@ -84,10 +86,11 @@ module _ {S : Type 0} (me new : Me S View) (drawn : List ℕ) (noted seen : List
     room = was.room;
   })
 
-  pub seat_noted : (number : ℕ) → new.0 ≡ record me.0 { log = with_noted me.0.log number } → 0 < times number me.0.log.drawn → IsSeat new drawn (set noted number true) seen ended
+  pub seat_noted : (number : ℕ) → new.0 ≡ record me.0 { log = with_noted me.0.log number } → 0 < times number me.0.log.drawn → IsSeat new own drawn (set noted number true) seen ended
   seat_noted number is drew_it = with_log (with_noted me.0.log number) is _ _ _ _ (record {
     slots = was.slots;
     one = was.one;
+    numbered = was.numbered;
     drawn_is = was.drawn_is;
     noted_is = marked noted me.0.log.noted number was.room.0 was.noted_is;
     seen_is = was.seen_is;
@@ -98,10 +101,11 @@ module _ {S : Type 0} (me new : Me S View) (drawn : List ℕ) (noted seen : List
     room = (length-set noted number true ∙ was.room.0, was.room.1);
   })
 
-  pub seat_saw : (number : ℕ) → new.0 ≡ record me.0 { log = with_seen me.0.log number } → IsSeat new drawn noted (set seen number true) ended
+  pub seat_saw : (number : ℕ) → new.0 ≡ record me.0 { log = with_seen me.0.log number } → IsSeat new own drawn noted (set seen number true) ended
   seat_saw number is = with_log (with_seen me.0.log number) is _ _ _ _ (record {
     slots = was.slots;
     one = was.one;
+    numbered = was.numbered;
     drawn_is = was.drawn_is;
     noted_is = was.noted_is;
     seen_is = marked seen me.0.log.seen number was.room.1 was.seen_is;
@@ -119,7 +123,7 @@ listed marks numbers are = filter_same (λ number. slice_index_or marks number f
 abbrev typed : Done → Done
 typed what = what
 
-pub seat_done : {S : Type 0} (me : Me S View) (drawn : List ℕ) (noted seen : List Bool) (ended : Bool) → IsSeat me drawn noted seen ended
+pub seat_done : {S : Type 0} {own : ℕ} (me : Me S View) (drawn : List ℕ) (noted seen : List Bool) (ended : Bool) → IsSeat me own drawn noted seen ended
     → typed (record { drawn = drawn; noted = members JOBS noted; seen = members JOBS seen; ended = ended }) ≡ done me.0.log
 seat_done me drawn noted seen ended is = rw (is.drawn_is, listed noted me.0.log.noted is.noted_is, listed seen me.0.log.seen is.seen_is, is.ended_is) (by ended)
   where

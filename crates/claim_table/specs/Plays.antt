@@ -1,5 +1,5 @@
 -- What each step on the row tells its seat, by the view and the number found.
-use Rattle.std.specs.Prelude.{◌≡◌, ℕ, ◌<◌, ◌≤◌, List, [], length}
+use Rattle.std.specs.Prelude.{◌≡◌, ℕ, ◌<◌, ◌≤◌, [], length}
 use Rattle.atomic_table.specs.Table.{Me}
 use Rattle.claim_table.specs.declared.view.View.{View}
 use Rattle.claim_table.specs.Logs.{with_drawn, with_end, with_noted, with_seen, times}

@@ -55,9 +55,10 @@ abbrev pub AreMarks : List Bool → List ℕ → Type 0
 AreMarks marks numbers = (number : ℕ) → number < most_jobs → slice_index_or marks number false ≡ nat_lt 0 (times number numbers)
 
 -- what a seat keeps of what it knows
-pub record IsSeat {S : Type 0} (me : Me S View) (drawn : List ℕ) (noted : List Bool) (seen : List Bool) (ended : Bool) : Type 0 where
+pub record IsSeat {S : Type 0} (me : Me S View) (number : ℕ) (drawn : List ℕ) (noted : List Bool) (seen : List Bool) (ended : Bool) : Type 0 where
   pub slots : me.1 ≡ []
   pub one : me.0.log.seats ≡ 1
+  pub numbered : number < me.0.size.seats
   pub drawn_is : drawn ≡ me.0.log.drawn
   pub noted_is : AreMarks noted me.0.log.noted
   pub seen_is : AreMarks seen me.0.log.seen

@@ -1,4 +1,4 @@
-ghost use Rattle.std.specs.Prelude.{◌≡◌, ℕ, ◌+◌, ◌<◌, ◌≤◌, [], ◌++◌, ◌∷◌, All, map, length, IfOk, IfSome, IfNone, OnSome};
+ghost use Rattle.std.specs.Prelude.{◌≡◌, ℕ, ◌+◌, ◌<◌, ◌≤◌, [], ◌++◌, ◌∷◌, All, map, length, IfOk, OnOk, IfSome, IfNone, OnSome};
 ghost use Rattle.std.specs.List.{range_with_len};
 ghost use Rattle.claim_table.specs.Logs.{tally, IsSame};
 ghost use Rattle.claim_table.specs.Seat.{done};
@@ -42,7 +42,7 @@ impl Model for Draws {
 impl Draws {
     ghost use Rattle.claim_table.specs.Logs.{most_jobs, most_seats, new_log, tally, times, with_noted};
     ghost use Rattle.claim_table.specs.Draws.{AreDraws, IsDrawnOut};
-    ghost use Rattle.std.specs.Prelude.{◌≡◌, ℕ, ◌+◌, ◌<◌, ◌≤◌, [], ◌++◌, ◌∷◌, All, map, length, IfOk, IfSome, IfNone, OnSome};
+    ghost use Rattle.std.specs.Prelude.{◌≡◌, ℕ, ◌+◌, ◌<◌, ◌≤◌, [], ◌++◌, ◌∷◌, All, map, length, IfOk, OnOk, IfSome, IfNone, OnSome};
     ghost use Rattle.std.specs.List.{range_with_len};
     ghost use Rattle.claim_table.specs.Seat.{SeatState, done, drew, saw};
 
@@ -120,6 +120,7 @@ impl Draws {
         requires all { length seats.items ≡ self.size.seats }
         requires row { All (λ seat. seat.row ≡ self) seats.items }
         ensures logs { IfOk result (λ logs. logs.items ≡ map (λ seat. done seat.log) seats.items) }
+        ensures numbered { OnOk result (All (λ seat. seat.number < self.size.seats) seats.items) }
         ensures draws { (word0 : ℕ) × (word1 : ℕ) × AreDraws self.size.jobs word0 word1 (tally (map (λ seat. seat.log) seats.items)) }
         ensures complete { IsDrawnOut self.size.jobs (tally (map (λ seat. seat.log) seats.items)) }
     {
@@ -137,7 +138,8 @@ impl Draws {
 
 /// The log of each seat.
 fn logs_of(alloc: Global, seats: &[DrawSeat]) -> Result<Vec<SeatLog>, AllocError>
-    ensures { IfOk result (λ logs. logs.items ≡ map (λ seat. done seat.log) seats.now) }
+    ensures logs { IfOk result (λ logs. logs.items ≡ map (λ seat. done seat.log) seats.now) }
+    ensures numbered { OnOk result (All (λ seat. seat.number < seat.row.size.seats) seats.now) }
 {
     let mut logs = Vec::with_capacity(alloc, seats.len())?;
     for seat in seats {

@@ -26,7 +26,7 @@ impl Model for DrawSeat {
 
     ghost view = { λ s. record { row = record { table = s.seat.table_id; size = s.seat.me.0.size }; number = s.number; log = s.seat.me.0.log } };
 
-    ghost invariant = { λ s. IsSeat s.seat.me s.drawn.items s.noted.marks s.seen.marks s.ended };
+    ghost invariant = { λ s. IsSeat s.seat.me s.number s.drawn.items s.noted.marks s.seen.marks s.ended };
 }
 
 impl DrawSeat {
@@ -36,7 +36,7 @@ impl DrawSeat {
     /// A seat that has done nothing.
     #[tactic(auto)]
     pub(crate) fn new(seat: Seat<(), View>, number: u32) -> Self
-        requires { (seat.me.1 ≡ []) × (seat.me.0.log ≡ new_log 1) }
+        requires { (seat.me.1 ≡ []) × (seat.me.0.log ≡ new_log 1) × (number < seat.me.0.size.seats) }
         ensures { result ≡ record { row = record { table = seat.table_id; size = seat.me.0.size }; number = number; log = new_log 1 } }
     {
         DrawSeat {
@@ -51,14 +51,16 @@ impl DrawSeat {
 
     /// Its number among the seats of its draws, from 0.
     pub fn number(&self) -> u32
-        ensures { result ≡ self.now.number }
+        ensures number { result ≡ self.now.number }
+        ensures below { result < self.now.row.size.seats }
     {
         self.number
     }
 
     /// What it did until now.
     pub(crate) fn log(&self, alloc: Global) -> Result<SeatLog, AllocError>
-        ensures { IfOk result (λ log. log ≡ done self.now.log) }
+        ensures log { IfOk result (λ log. log ≡ done self.now.log) }
+        ensures numbered { self.now.number < self.now.row.size.seats }
     {
         let mut drawn = Vec::with_capacity(alloc, self.drawn.len())?;
         drawn.extend_from_slice(self.drawn.as_slice())?;

@@ -15,7 +15,7 @@ use Rattle.claim_table.proofs.Totals.{times_append, times_empty}
 use Rattle.parallel_phase.specs.declared.drawn.Drawn.{Drawn}
 use Rattle.parallel_phase.specs.declared.outcome.Outcome.{Outcome}
 use Rattle.parallel_phase.specs.declared.outcome.Outcome.TheVariants.{Ran, Skipped}
-use Rattle.parallel_phase.specs.Work.{PhaseState, WorkState, SawBelow, FitsNumber, Fits, HasEnd, AreOutcomes, IsOver, IsWorkOf, ends}
+use Rattle.parallel_phase.specs.Work.{PhaseState, WorkState, SawBelow, FitsNumber, Fits, IsOver, IsWorkOf}
 use Rattle.parallel_phase.specs.Outcomes.{EndsBelow, IsFate, AreFates, IsWhole, filed}
 
 abbrev pub some_or : {A : Type 0} → A → Option A → A
@@ -25,10 +25,10 @@ some_or a (Some x) = x
 pub some_is : {A : Type 0} (a b : A) → Some a ≡ Some b → a ≡ b
 some_is a b is = ap (some_or a) is
 
-nothing_there : {A : Type 0} (place : ℕ) (x : A) → slice_get [] place ≢ Some x
+pub nothing_there : {A : Type 0} (place : ℕ) (x : A) → slice_get [] place ≢ Some x
 nothing_there place x is = true≢false (sym (ap is_some is))
 
-all_at : {A : Type 0} (P : A → Type 0) (xs : List A) (place : ℕ) (x : A) → slice_get xs place ≡ Some x → All P xs → P x
+pub all_at : {A : Type 0} (P : A → Type 0) (xs : List A) (place : ℕ) (x : A) → slice_get xs place ≡ Some x → All P xs → P x
 all_at P xs place x is all = subst P (get_or_from_slice_get xs place x x is) (all place x (slice_get_within xs place x is))
 
 pub get_set_same : {A : Type 0} (xs : List A) (place : ℕ) (x : A) → place < length xs → slice_get (slice_set xs place x) place ≡ Some x
@@ -58,7 +58,7 @@ get_after [] ys place x is = (place, is)
 get_after (y ∷ xs) ys place x is = let later = get_after xs ys place x is in (suc later.0, later.1)
 
 -- the numbers of drawn jobs
-abbrev numbers : List Drawn → List ℕ
+abbrev pub numbers : List Drawn → List ℕ
 numbers drawn = map (λ (d : Drawn). d.number) drawn
 
 times_first : (number first : ℕ) (rest : List ℕ) → times number (first ∷ rest) ≡ one_if (first == number) + times number rest
@@ -70,11 +70,11 @@ number_first : (test : Bool) (d : Drawn) (ds : List Drawn) (number : ℕ) → (d
 number_first true d ds number is some rest = (0, d, refl, grind (arith, nat_tests))
 number_first false d ds number is some rest = let e = times_first number d.number (numbers ds) in let later = rest (omega (arith, e, ap one_if is)) in (suc later.0, later.1, later.2, later.3)
 
-number_at : (drawn : List Drawn) (number : ℕ) → 0 < times number (numbers drawn) → (place : ℕ) × (d : Drawn) × (slice_get drawn place ≡ Some d) × (d.number ≡ number)
+pub number_at : (drawn : List Drawn) (number : ℕ) → 0 < times number (numbers drawn) → (place : ℕ) × (d : Drawn) × (slice_get drawn place ≡ Some d) × (d.number ≡ number)
 number_at [] number some = let none = times_empty number in absurd (omega arith)
 number_at (d ∷ ds) number some = number_first (d.number == number) d ds number refl some (λ more. number_at ds number more)
 
-stands_once : (drawn : List Drawn) (place : ℕ) (d : Drawn) → slice_get drawn place ≡ Some d → 0 < times d.number (numbers drawn)
+pub stands_once : (drawn : List Drawn) (place : ℕ) (d : Drawn) → slice_get drawn place ≡ Some d → 0 < times d.number (numbers drawn)
 stands_once [] place d is = absurd (nothing_there place d is)
 stands_once (x ∷ xs) zero d is = let e = times_first d.number x.number (numbers xs) in let same = ap (λ (y : Drawn). y.number) (some_is x d is) in grind (arith, nat_tests)
 stands_once (x ∷ xs) (suc place) d is = let e = times_first d.number x.number (numbers xs) in let rest = stands_once xs place d is in omega arith
@@ -110,25 +110,25 @@ logs_of works = map (λ (seat : SeatState). seat.log) (map (λ (work : WorkState
 abbrev pub drawn_of : List WorkState → List Drawn
 drawn_of works = flat_map (λ (work : WorkState). work.outcomes) works
 
-work_of : (works : List WorkState) (place : ℕ) (d : Drawn) → slice_get (drawn_of works) place ≡ Some d → (at : ℕ) × (work : WorkState) × (slice_get works at ≡ Some work) × (within : ℕ) × (slice_get work.outcomes within ≡ Some d)
+pub work_of : (works : List WorkState) (place : ℕ) (d : Drawn) → slice_get (drawn_of works) place ≡ Some d → (at : ℕ) × (work : WorkState) × (slice_get works at ≡ Some work) × (within : ℕ) × (slice_get work.outcomes within ≡ Some d)
 work_of [] place d is = absurd (nothing_there place d is)
 work_of (w ∷ ws) place d is = ⊎_elim
     (λ (here : slice_get w.outcomes place ≡ Some d). (0, w, refl, place, here))
     (λ (rest : (after : ℕ) × (slice_get (drawn_of ws) after ≡ Some d)). let later = work_of ws rest.0 d rest.1 in (suc later.0, later.1, later.2, later.3, later.4))
     (get_append w.outcomes (drawn_of ws) place d is)
 
-drawn_by : (works : List WorkState) (at : ℕ) (work : WorkState) (within : ℕ) (d : Drawn) → slice_get works at ≡ Some work → slice_get work.outcomes within ≡ Some d → (place : ℕ) × (slice_get (drawn_of works) place ≡ Some d)
+pub drawn_by : (works : List WorkState) (at : ℕ) (work : WorkState) (within : ℕ) (d : Drawn) → slice_get works at ≡ Some work → slice_get work.outcomes within ≡ Some d → (place : ℕ) × (slice_get (drawn_of works) place ≡ Some d)
 drawn_by [] at work within d is here = absurd (nothing_there at work is)
 drawn_by (w ∷ ws) zero work within d is here = (within, get_front w.outcomes (drawn_of ws) within d (subst (λ (v : WorkState). slice_get v.outcomes within ≡ Some d) (sym (some_is w work is)) here))
 drawn_by (w ∷ ws) (suc at) work within d is here = let later = drawn_by ws at work within d is here in get_after w.outcomes (drawn_of ws) later.0 d later.1
 
-part_of_total : (count : Log → ℕ) (works : List WorkState) (at : ℕ) (work : WorkState) → slice_get works at ≡ Some work → count work.seat.log ≤ total count (logs_of works)
+pub part_of_total : (count : Log → ℕ) (works : List WorkState) (at : ℕ) (work : WorkState) → slice_get works at ≡ Some work → count work.seat.log ≤ total count (logs_of works)
 unfolding total
 part_of_total count [] at work is = absurd (nothing_there at work is)
 part_of_total count (w ∷ ws) zero work is = let e = ap (λ (v : WorkState). count v.seat.log) (some_is w work is) in omega arith
 part_of_total count (w ∷ ws) (suc at) work is = let e = part_of_total count ws at work is in omega arith
 
-counted_by : (count : Log → ℕ) (works : List WorkState) → 0 < total count (logs_of works) → (at : ℕ) × (work : WorkState) × (slice_get works at ≡ Some work) × (0 < count work.seat.log)
+pub counted_by : (count : Log → ℕ) (works : List WorkState) → 0 < total count (logs_of works) → (at : ℕ) × (work : WorkState) × (slice_get works at ≡ Some work) × (0 < count work.seat.log)
 unfolding total
 counted_by count [] some = absurd (omega arith)
 counted_by count (w ∷ ws) some = ⊎_elim
@@ -140,7 +140,7 @@ all_rest : {A : Type 0} (P : A → Type 0) (x : A) (xs : List A) → All P (x �
 all_rest P x xs all = λ place d below. all (suc place) d (omega arith)
 
 -- the seats drew the numbers of the drawn jobs
-total_drawn : (works : List WorkState) (number : ℕ) → All IsWhole works → total (λ log. times number log.drawn) (logs_of works) ≡ times number (numbers (drawn_of works))
+pub total_drawn : (works : List WorkState) (number : ℕ) → All IsWhole works → total (λ log. times number log.drawn) (logs_of works) ≡ times number (numbers (drawn_of works))
 unfolding total
 total_drawn [] number whole = sym (times_empty number)
 total_drawn (w ∷ ws) number whole =
@@ -177,7 +177,7 @@ first_of : (works : List WorkState) → 0 < length works → (work : WorkState) 
 first_of [] some = absurd (omega arith)
 first_of (w ∷ ws) some = (w, refl)
 
-once : (phase : PhaseState) (works : List WorkState) (number : ℕ) → AreWorks phase works → number < length phase.jobs → times number (numbers (drawn_of works)) ≡ 1
+pub once : (phase : PhaseState) (works : List WorkState) (number : ℕ) → AreWorks phase works → number < length phase.jobs → times number (numbers (drawn_of works)) ≡ 1
 once phase works number are inside =
     let first = first_of works are.some in
     let ended = (all_at (IsWorkOf phase) works 0 first.0 first.1 are.of_phase).ended (all_at IsWhole works 0 first.0 first.1 are.whole).refused in
@@ -185,7 +185,7 @@ once phase works number are inside =
     sym (total_drawn works number are.whole) ∙ are.complete (omega arith) number inside
 
 -- what stands in the place of a drawn job
-at_number : (phase : PhaseState) (works : List WorkState) (start : List Outcome) (place : ℕ) (d : Drawn) → AreWorks phase works → length start ≡ length phase.jobs → slice_get (drawn_of works) place ≡ Some d
+pub at_number : (phase : PhaseState) (works : List WorkState) (start : List Outcome) (place : ℕ) (d : Drawn) → AreWorks phase works → length start ≡ length phase.jobs → slice_get (drawn_of works) place ≡ Some d
     → slice_get (filed start (drawn_of works)) d.number ≡ Some d.outcome
 at_number phase works start place d are long is =
     let inside : d.number < length phase.jobs = all_at (λ (e : Drawn). e.number < length phase.jobs) (drawn_of works) place d is (drawn_inside phase works are) in
@@ -206,7 +206,7 @@ ends_below phase works start at work number are long is saw =
 
 fate_is : (phase : PhaseState) (works : List WorkState) (start : List Outcome) (at : ℕ) (work : WorkState) (number : ℕ) (outcome : Outcome) → AreWorks phase works → length start ≡ length phase.jobs → slice_get works at ≡ Some work
     → FitsNumber work.seat.log number outcome → IsOver phase.jobs (cells_of phase.base) outcome → IsFate phase.jobs (cells_of phase.base) (filed start (drawn_of works)) number outcome
-fate_is phase works start at work number (Ran ran) are long is fits over = record { number_is = fits; job_is = subst (λ (n : ℕ). slice_get phase.jobs n ≡ Some ran.job) fits over.job_is; memory_is = over.memory_is }
+fate_is phase works start at work number (Ran ran) are long is fits over = record { number_is = fits; job_is = subst (λ (n : ℕ). slice_get phase.jobs n ≡ Some ran.job) fits over.job_is; memory_is = over.memory_is; over = over.over }
 fate_is phase works start at work number Skipped are long is fits over = ends_below phase works start at work number are long is fits
 
 -- the drawn jobs, each in its place, are what the phase's jobs came to

@@ -2,5 +2,7 @@ pub mod Coding
 pub mod Runs
 pub mod Stages
 pub mod Works
+pub mod Events
+pub mod Scheduling
 pub mod Fates
 pub mod Places

@@ -1,13 +1,13 @@
 -- What a seat's work comes to after one more job.
-use Rattle.std.proofs.Common.{◌≡◌, ◌∙◌, ◌+◌, ◌<◌, ◌≤◌, ◌==◌, ◌⊎◌, ⊎_elim, ℕ, zero, suc, Bool, true, false, true≢false, Option, Some, List, [], ◌∷◌, ◌++◌, map, length, refl, sym, ap, subst, arith}
+use Rattle.std.proofs.Common.{◌≡◌, ◌∙◌, ◌<◌, ◌≤◌, ⊎_elim, ℕ, zero, suc, Bool, true, false, true≢false, Some, List, [], ◌∷◌, ◌++◌, length, refl, sym, ap, subst, arith}
 use Rattle.std.proofs.lemmas.Bool.{cases_lt}
 use Rattle.std.proofs.lemmas.Bool.Decides.{nat_tests}
 use Rattle.std.proofs.lemmas.List.{map-append}
 use Rattle.std.proofs.lemmas.List.Elements.{All-push}
-use Rattle.std.specs.Prelude.{slice_get, is_some, All, if◌then◌else◌}
+use Rattle.std.specs.Prelude.{slice_get, is_some, if◌then◌else◌}
 use Rattle.guest_memory.specs.Memory.{Memory}
 use Rattle.claim_table.specs.declared.log.Log.{Log}
-use Rattle.claim_table.specs.Logs.{times, new_log, with_drawn, with_end, with_noted}
+use Rattle.claim_table.specs.Logs.{times, new_log, with_drawn, with_end}
 use Rattle.claim_table.specs.Seat.{SeatState}
 use Rattle.claim_table.proofs.Totals.{times_push, times_empty}
 use Rattle.parallel_phase.specs.declared.job.Job.{Job}
@@ -62,7 +62,7 @@ fits_new jobs memory log number (Ran ran) is = is.number_is
 fits_new jobs memory log number Skipped is = is
 
 over_new : (jobs : List Job) (memory : Memory) (log : Log) (number : ℕ) (outcome : Outcome) → IsOutcome jobs memory log number outcome → IsOver jobs memory outcome
-over_new jobs memory log number (Ran ran) is = record { number_is = refl; job_is = rw is.number_is is.job_is; memory_is = is.memory_is }
+over_new jobs memory log number (Ran ran) is = record { number_is = refl; job_is = rw is.number_is is.job_is; memory_is = is.memory_is; over = is.over }
 over_new jobs memory log number Skipped is = tt
 
 get_longer : (xs ys : List Drawn) (place : ℕ) (x : Drawn) → slice_get xs place ≡ Some x → slice_get (xs ++ ys) place ≡ Some x

@@ -4,4 +4,5 @@ pub mod Stands
 pub mod Underway
 pub mod Work
 pub mod Outcomes
+pub mod Events
 pub mod Turns

@@ -1,5 +1,5 @@
 -- What becomes of the jobs of a phase.
-use Rattle.std.specs.Prelude.{◌≡◌, ℕ, ◌<◌, Bool, true, false, Option, Some, List, [], ◌∷◌, length, All, slice_get, slice_set}
+use Rattle.std.specs.Prelude.{◌≡◌, ℕ, ◌<◌, true, false, Some, List, [], ◌∷◌, length, slice_get, slice_set}
 use Rattle.guest_memory.specs.Memory.{Memory}
 use Rattle.parallel_phase.specs.declared.job.Job.{Job}
 use Rattle.parallel_phase.specs.declared.drawn.Drawn.{Drawn}

@@ -1,5 +1,5 @@
 -- What a seat of a phase does with the jobs that it draws.
-use Rattle.std.specs.Prelude.{◌≡◌, ℕ, ◌+◌, ◌<◌, ◌≤◌, Bool, true, false, if◌then◌else◌, Option, Some, None, List, [], ◌∷◌, ◌++◌, map, length, All, slice_get}
+use Rattle.std.specs.Prelude.{◌≡◌, ℕ, ◌<◌, ◌≤◌, Bool, true, false, if◌then◌else◌, Some, List, [], ◌∷◌, ◌++◌, map, length, All, slice_get}
 use Rattle.guest_memory.specs.Memory.{Memory}
 use Rattle.paged_memory.specs.Snapshot.{cells_of}
 use Rattle.paged_memory.specs.declared.snapshot.Snapshot.{Snapshot}
@@ -10,7 +10,8 @@ use Rattle.parallel_phase.specs.declared.job.Job.{Job}
 use Rattle.parallel_phase.specs.declared.drawn.Drawn.{Drawn}
 use Rattle.parallel_phase.specs.declared.outcome.Outcome.{Outcome}
 use Rattle.parallel_phase.specs.declared.outcome.Outcome.TheVariants.{Ran, Skipped}
-use Rattle.parallel_phase.specs.Job.{IsRanOf, ends_run}
+use Rattle.parallel_phase.specs.Job.{IsRanOf}
+use Rattle.schedule.specs.Verdict.{ends_run}
 
 -- a phase: the row that its seats draw by, its jobs, and the memory that each begins with
 pub record PhaseState : Type 0 where
@@ -29,7 +30,7 @@ IsOutcome jobs memory log number Skipped = SawBelow log number
 
 -- whether the run ends by a job that was run
 abbrev pub ends : Outcome → Bool
-ends (Ran ran) = ends_run ran.end.stop ran.end.hart
+ends (Ran ran) = ends_run ran.end.hart ran.end.stop
 ends Skipped = false
 
 -- the log where a number is noted, if it is to

@@ -2,6 +2,7 @@
 
 ghost use Rattle.std.specs.Prelude.{◌≡◌, ◌<◌, length, slice_set, All, IfOk, OnOk, map, flat_map};
 ghost use Rattle.paged_memory.specs.Snapshot.{cells_of};
+ghost use Rattle.parallel_phase.specs.Events.{AreByEvents};
 ghost use Rattle.parallel_phase.specs.Outcomes.{AreFates, IsWhole, filed};
 ghost use Rattle.parallel_phase.specs.Work.{IsWorkOf};
 
@@ -64,7 +65,8 @@ impl Phase {
     pub fn collect(self, works: Vec<WorkDone>) -> Result<Vec<Outcome>, AllocError>
         requires all { length works.items ≡ self.row.size.seats }
         requires of_phase { All (IsWorkOf self) works.items }
-        ensures { IfOk result (λ outcomes. AreFates self.jobs (cells_of self.base) outcomes.items) }
+        ensures fates { IfOk result (λ outcomes. AreFates self.jobs (cells_of self.base) outcomes.items) }
+        ensures events { IfOk result (λ outcomes. AreByEvents self.jobs (cells_of self.base) works.items outcomes.items) }
     {
         let alloc = self.base.allocator();
         let mut outcomes = all_skipped(alloc, self.jobs.len())?;

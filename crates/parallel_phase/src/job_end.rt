@@ -1,9 +1,7 @@
 ghost use Rattle.std.specs.Prelude.{◌≡◌};
-ghost use Rattle.parallel_phase.specs.Job.{ends_run};
+ghost use Rattle.schedule.specs.Verdict as verdict;
 
-use abi::Call;
 use commit::Patch;
-use ecalls::call_of;
 use hart::{Hart, Stop};
 
 /// How the segment of a job ended.
@@ -20,14 +18,10 @@ pub struct JobEnd {
 }
 
 impl JobEnd {
-    /// Whether the run ends by it: at a trap, or at the call exit.
+    /// Whether the run ends by it: by a trap, or by the call exit.
     pub fn ends_run(&self) -> bool
-        ensures { result ≡ ends_run self.now.stop self.now.hart }
+        ensures { result ≡ verdict.ends_run self.now.hart self.now.stop }
     {
-        match self.stop {
-            Stop::Trap(_) => true,
-            Stop::Ecall => matches!(call_of(&self.hart), Call::Exit { .. }),
-            Stop::Quantum => false,
-        }
+        schedule::ends_run(&self.hart, self.stop)
     }
 }

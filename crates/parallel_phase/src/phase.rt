@@ -3,7 +3,7 @@ ghost use Rattle.std.specs.List.{range_with_len};
 ghost use Rattle.paged_memory.specs.Snapshot.{cells_of};
 ghost use Rattle.claim_table.specs.Logs.{most_jobs, most_seats, new_log, times, with_end};
 ghost use Rattle.claim_table.specs.Seat.{drew};
-ghost use Rattle.parallel_phase.specs.Job.{ends_run};
+ghost use Rattle.schedule.specs.Verdict.{ends_run};
 ghost use Rattle.parallel_phase.specs.Stage.{IsOverAt, IsProgressOf, IsStage, IsStageBy, IsTakenOf};
 ghost use Rattle.parallel_phase.specs.Work.{PhaseState, Looks, Works, SawBelow, noted_if, AreOver, IsUnbegun, IsWorkOf};
 
@@ -166,7 +166,7 @@ impl Phase {
         requires row { seat.old.row ≡ self.now.row }
         requires drawn { 0 < times number seat.old.log.drawn }
         ensures drawn { result ≡ record { number = number; outcome = Outcome.Ran ran } }
-        ensures noted { seat.new ≡ record seat.old { log = noted_if (ends_run ran.end.stop ran.end.hart) seat.old.log number } }
+        ensures noted { seat.new ≡ record seat.old { log = noted_if (ends_run ran.end.hart ran.end.stop) seat.old.log number } }
     {
         let outcome = Outcome::Ran(ran);
         if outcome.ends_run() {

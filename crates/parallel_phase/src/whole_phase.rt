@@ -1,8 +1,10 @@
 //! A phase from its jobs to their outcomes.
 
-ghost use Rattle.std.specs.Prelude.{◌≡◌, ◌<◌, ◌≤◌, [], length, max, All, IfOk};
+ghost use Rattle.schedule.specs.declared.event.Event.{Event};
+ghost use Rattle.std.specs.Prelude.{◌≡◌, ℕ, List, ◌<◌, ◌≤◌, [], length, max, All, IfOk};
 ghost use Rattle.paged_memory.specs.Snapshot.{cells_of};
 ghost use Rattle.claim_table.specs.Logs.{most_jobs, most_seats, new_log};
+ghost use Rattle.parallel_phase.specs.Events.{LeadTo};
 ghost use Rattle.parallel_phase.specs.Outcomes.{AreFates};
 ghost use Rattle.parallel_phase.specs.Work.{IsUnbegun, IsWorkOf};
 ghost use denote.Param.Send.{IsSync};
@@ -72,7 +74,8 @@ pub fn run_phase<G: Gate + Sync, R: Threads + Sync>(
     base: &Snapshot,
 ) -> Result<Vec<Outcome>, AllocError>
     requires { (length jobs.now ≤ most_jobs) × (0 < workers) × (workers ≤ most_seats) }
-    ensures { IfOk result (λ outcomes. AreFates jobs.now (cells_of base.now) outcomes.items) }
+    ensures fates { IfOk result (λ outcomes. AreFates jobs.now (cells_of base.now) outcomes.items) }
+    ensures events { IfOk result (λ outcomes. (seats : ℕ) × (events : List Event) × (seats ≤ workers) × LeadTo jobs.now (cells_of base.now) seats events outcomes.items) }
 {
     let (phase, seats) = Phase::open(alloc, jobs, seats_for(jobs.len(), workers), base)?;
     let mut works = phase.unbegun(seats)?;

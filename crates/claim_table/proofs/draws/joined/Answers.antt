@@ -1,5 +1,4 @@
-use Rattle.std.proofs.Common.{◌≡◌, ◌∙◌, ◌+◌, ◌<◌, arith, refl, ap, sym, ℕ, rules, length-append}
-use Rattle.std.proofs.lemmas.Grind.{common_steps}
+use Rattle.std.proofs.Common.{◌∙◌, arith, ap}
 use Rattle.atomic_table.specs.Table.{Me}
 use Rattle.claim_table.specs.declared.view.View.{View}
 use Rattle.claim_table.proofs.Steps.{joins_on}

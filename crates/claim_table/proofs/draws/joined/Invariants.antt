@@ -1,4 +1,4 @@
-use Rattle.std.proofs.Common.{◌≡◌, ℕ, ◌+◌, ◌<◌, [], ◌∷◌, map, length}
+use Rattle.std.proofs.Common.{◌≡◌, ◌+◌, ◌<◌, [], ◌∷◌, map, length}
 use Rattle.std.specs.Prelude.{All}
 use Rattle.claim_table.specs.Logs.{tally, IsSame}
 use Rattle.claim_table.specs.Seat.{SeatState}

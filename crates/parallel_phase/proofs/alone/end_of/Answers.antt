@@ -1,4 +1,3 @@
-use Rattle.std.proofs.Common.{rules}
 use Rattle.parallel_phase.proofs.Stages.{progress_more}
 use Rattle.parallel_phase.proofs.alone.end_of.Goals as goal
 

@@ -1,4 +1,4 @@
-use Rattle.std.proofs.Common.{◌∙◌, rules, sym, subst, List, All}
+use Rattle.std.proofs.Common.{◌∙◌, sym, subst, List, All}
 use Rattle.std.proofs.lemmas.List.Elements.{All-cons}
 use Rattle.parallel_phase.specs.Work.{WorkState}
 use Rattle.parallel_phase.specs.Outcomes.{IsWhole}

@@ -1,6 +1,5 @@
-use Rattle.std.proofs.Common.{◌≡◌, ◌∙◌, rules, arith, refl, ap, sym, subst, ℕ, length, List, All}
+use Rattle.std.proofs.Common.{◌≡◌, arith, refl, sym, subst, List, All}
 use Rattle.std.proofs.lemmas.List.Elements.{All-map, All-drop}
-use Rattle.claim_table.specs.Logs.{new_log}
 use Rattle.claim_table.specs.Seat.{SeatState}
 use Rattle.parallel_phase.proofs.in_order.run_in_order.Goals as goal
 

@@ -1,12 +1,12 @@
-use Rattle.std.proofs.Common.{◌≡◌, ◌∙◌, rules, arith, refl, ap, sym, subst, ℕ, length, List, All}
+use Rattle.std.proofs.Common.{◌≡◌, ◌∙◌, arith, refl, ap, sym, subst, ℕ, drop, length, List, All}
 use Rattle.std.proofs.lemmas.List.Elements.{All-map}
 use Rattle.std.proofs.lemmas.List.FromFn.{length-map-range_with_len}
-use Rattle.std.specs.List.{range_with_len}
 use Rattle.claim_table.specs.Logs.{new_log}
 use Rattle.claim_table.specs.declared.size.Size.{Size}
 use Rattle.claim_table.specs.Seat.{SeatState}
-use Rattle.parallel_phase.specs.Work.{PhaseState, WorkState, IsUnbegun}
+use Rattle.parallel_phase.specs.Work.{WorkState, IsUnbegun}
 use Rattle.parallel_phase.proofs.Fates.{written_back}
+use Rattle.parallel_phase.proofs.Scheduling.{led}
 use Rattle.parallel_phase.proofs.whole_phase.run_phase.Goals as goal
 use Rattle.parallel_phase.proofs.whole_phase.run_phase.Goals.{After-as_mut_slice}
 
@@ -35,3 +35,10 @@ collect-requires-clause-all g c =
     let at = (goal.at.collect-requires-clause-all g c).After-as_mut_slice in
     let same = written_back c.work_all.new.works _ c.in_ok-works.works.len (omega (arith, c.work_all.ensures.0, c.as_mut_slice.ensures.len)) in
     ap length same ∙ (c.work_all.ensures.0 ∙ works_are g at)
+
+pub returns-clause-events : goal.returns-clause-events
+returns-clause-events g c =
+    let at = (goal.at.returns-clause-events g c).After-as_mut_slice in
+    let same = written_back c.work_all.new.works (drop (length c.work_all.new.works) c.in_ok-works.works.items) c.in_ok-works.works.len (omega (arith, c.work_all.ensures.0, c.as_mut_slice.ensures.len)) in
+    let size : c.in_ok-phase.phase.row.size.seats ≡ c.seats_for.result = ap (λ (s : Size). s.seats) c.in_ok-phase.ensures.size in
+    led _ _ _ _ _ _ _ c.collect.result c.in_ok-phase.ensures.jobs.0 c.in_ok-phase.ensures.jobs.1 (omega (arith, ap length same, c.work_all.ensures.0, works_are g at, size, c.seats_for.ensures.1)) c.collect.ensures.events

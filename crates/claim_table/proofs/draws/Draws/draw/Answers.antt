@@ -1,5 +1,4 @@
-use Rattle.std.proofs.Common.{◌≡◌, ◌∙◌, arith, refl, ap, sym, ℕ, ◌<◌}
-use Rattle.claim_table.specs.declared.size.Size.{Size}
+use Rattle.std.proofs.Common.{◌≡◌, ◌∙◌, arith, ap, sym, ◌<◌}
 use Rattle.claim_table.specs.Seat.{Row, SeatState}
 use Rattle.claim_table.proofs.Steps.{draw_allows}
 use Rattle.claim_table.proofs.Seats.{seat_drew}

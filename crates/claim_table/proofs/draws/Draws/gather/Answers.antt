@@ -1,8 +1,9 @@
-use Rattle.std.proofs.Common.{◌≡◌, ◌∙◌, arith, refl, ap, sym, subst, ℕ, rules, List, map}
+use Rattle.std.proofs.Common.{◌≡◌, ◌∙◌, arith, ap, sym, subst, ◌<◌, rules, List, All, map}
 use Rattle.claim_table.specs.declared.size.Size.{Size}
 use Rattle.claim_table.specs.Logs.{tally}
 use Rattle.claim_table.specs.Draws.{AreDraws}
 use Rattle.claim_table.specs.Seat.{Row, SeatState}
+use Rattle.claim_table.proofs.Gathers.{all_numbered, on_ok}
 use Rattle.claim_table.proofs.Steps.{gathered, drawn_out}
 use Rattle.claim_table.proofs.draws.Draws.gather.Goals as goal
 
@@ -16,6 +17,7 @@ returns c =
     let draws : AreDraws c.args.self.size.jobs kept.word0 kept.word1 all = subst (λ (z : Size). AreDraws z.jobs kept.word0 kept.word1 all) size (gathered _ _ _ _ _ all kept last.1.1 seats c.joined-whole.ensures.same) in
     record {
       logs = search rules;
+      numbered = on_ok c.logs_of-logs.result (λ each. all_numbered c.args.self c.args.seats.items c.requires.row (subst (λ (seats : List SeatState). All (λ (seat : SeatState). seat.number < seat.row.size.seats) seats) c.as_slice.ensures.value each)) c.logs_of-logs.ensures.numbered;
       draws = (kept.word0, kept.word1, draws);
       complete = drawn_out _ _ _ _ draws;
     }

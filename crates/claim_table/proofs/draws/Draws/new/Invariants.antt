@@ -1,7 +1,6 @@
-use Rattle.std.proofs.Common.{◌≡◌, ℕ, ◌-◌, [], map}
+use Rattle.std.proofs.Common.{◌≡◌, ◌-◌, [], map}
 use Rattle.std.specs.List.{range_with_len}
 use Rattle.claim_table.specs.Logs.{new_log}
-use Rattle.claim_table.specs.Seat.{SeatState}
 use Rattle.claim_table.proofs.draws.Draws.new.Given as goal
 
 abbrev pub invariant-loop-number : goal.invariant-loop-number

@@ -1,4 +1,4 @@
-use Rattle.std.proofs.Common.{◌≡◌, ◌∙◌, arith, refl, ap, sym, ℕ, ◌<◌}
+use Rattle.std.proofs.Common.{◌∙◌, arith, ap, sym, ◌<◌}
 use Rattle.claim_table.specs.Seat.{Row, SeatState}
 use Rattle.claim_table.specs.Logs.{times}
 use Rattle.claim_table.proofs.Steps.{note_allows}

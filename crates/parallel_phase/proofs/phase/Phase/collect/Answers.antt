@@ -1,12 +1,14 @@
-use Rattle.std.proofs.Common.{◌≡◌, ◌∙◌, rules, ap, sym, subst, ℕ, ◌<◌, List, All, length, map, arith}
+use Rattle.std.proofs.Common.{◌≡◌, ◌∙◌, ap, sym, subst, ◌<◌, List, All, length, map, arith}
 use Rattle.paged_memory.specs.Snapshot.{cells_of}
 use Rattle.claim_table.specs.Logs.{tally}
 use Rattle.claim_table.specs.Draws.{AreDraws, IsDrawnOut}
 use Rattle.claim_table.specs.Seat.{SeatState}
 use Rattle.parallel_phase.specs.Work.{PhaseState}
+use Rattle.parallel_phase.specs.Events.{AreByEvents}
 use Rattle.parallel_phase.specs.Outcomes.{AreFates, filed}
 use Rattle.parallel_phase.specs.declared.outcome.Outcome.{Outcome}
 use Rattle.parallel_phase.proofs.Fates.{AreWorks, rows_of, drawn_inside, fates, filed_length, written_back, drawn_of}
+use Rattle.parallel_phase.proofs.Scheduling.{knows, scheduled}
 use Rattle.parallel_phase.proofs.phase.Phase.collect.Goals as goal
 use Rattle.parallel_phase.proofs.phase.Phase.collect.Goals.{After-gather}
 
@@ -42,4 +44,13 @@ returns c =
     let now = c.file.ensures ∙ (ap (λ (os : List Outcome). filed os c.in_ok-seats.drawn.items) c.as_mut_slice.ensures.value ∙ ap (λ ds. filed c.in_ok-outcomes.outcomes.items ds) c.in_ok-seats.ensures.drawn) in
     let long = ap length now ∙ filed_length c.in_ok-outcomes.outcomes.items (drawn_of c.args.works.items) in
     let same = written_back c.file.new.outcomes _ _ (omega (arith, long, c.as_mut_slice.ensures.len, ap length c.as_mut_slice.ensures.value)) in
-    subst (λ (os : List Outcome). AreFates c.args.self.jobs (cells_of c.args.self.base) os) (sym (same ∙ now)) (fates _ _ _ (works_are at) (long_is at))
+    let jobs = c.args.self.jobs in
+    let memory = cells_of c.args.self.base in
+    let are = fates _ _ _ (works_are at) (long_is at) in
+    let numbered = subst (λ (seats : List SeatState). All (λ (seat : SeatState). seat.number < c.self.inside.draws.size.seats) seats) c.in_ok-seats.ensures.seats c.in_ok-gather.ensures.numbered in
+    let seats = let row = ap (λ (p : PhaseState). p.row.size.seats) c.self.view_is in let e : c.self.inside.draws.size.seats ≡ length c.args.works.items = omega (arith, row, c.requires.all) in e in
+    let events = scheduled jobs memory c.args.works.items _ are.long (knows c.args.self c.args.works.items c.in_ok-outcomes.outcomes.items (works_are at) (long_is at) c.self.inside.draws.size.seats seats numbered are) in
+    record {
+      fates = subst (λ (os : List Outcome). AreFates jobs memory os) (sym (same ∙ now)) are;
+      events = subst (λ (os : List Outcome). AreByEvents jobs memory c.args.works.items os) (sym (same ∙ now)) events;
+    }

@@ -1,4 +1,4 @@
-use Rattle.std.proofs.Common.{rules, ap, arith, length}
+use Rattle.std.proofs.Common.{ap, arith, length}
 use Rattle.parallel_phase.specs.Work.{PhaseState}
 use Rattle.parallel_phase.proofs.Places.{none_waiting}
 use Rattle.parallel_phase.proofs.phase.Phase.desk.Goals as goal

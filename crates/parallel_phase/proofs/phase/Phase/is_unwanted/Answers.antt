@@ -1,4 +1,4 @@
-use Rattle.std.proofs.Common.{arith, true}
+use Rattle.std.proofs.Common.{arith}
 use Rattle.std.proofs.lemmas.Bool.Decides.{nat_tests}
 use Rattle.parallel_phase.proofs.Runs.{looks_at, saw_below}
 use Rattle.parallel_phase.proofs.phase.Phase.is_unwanted.Goals as goal

@@ -1,6 +1,6 @@
-use Rattle.std.proofs.Common.{◌≡◌, ◌∙◌, rules, sym, ap, arith, subst, Some}
+use Rattle.std.proofs.Common.{◌∙◌, sym, arith, subst}
 use Rattle.std.proofs.lemmas.Option.{slice_get-get_or}
-use Rattle.std.specs.Prelude.{slice_get, slice_set}
+use Rattle.std.specs.Prelude.{slice_set}
 use Rattle.paged_memory.specs.Snapshot.{cells_of}
 use Rattle.parallel_phase.specs.Turns.{AreWaiting, IsResult}
 use Rattle.parallel_phase.specs.declared.outcome.Outcome.{Outcome}

@@ -1,4 +1,4 @@
-use Rattle.std.proofs.Common.{◌≡◌, ◌∙◌, rules, arith, refl, ap, sym, subst, length, length-append, List, Some, All}
+use Rattle.std.proofs.Common.{◌≡◌, ◌∙◌, arith, ap, sym, subst, List, Some, All}
 use Rattle.std.proofs.lemmas.List.Elements.{All-push, All-pop}
 use Rattle.claim_table.specs.Logs.{new_log}
 use Rattle.claim_table.specs.Seat.{SeatState}

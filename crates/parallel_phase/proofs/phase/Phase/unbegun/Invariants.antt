@@ -1,4 +1,4 @@
-use Rattle.std.proofs.Common.{◌≡◌, ◌+◌, ℕ, length, All}
+use Rattle.std.proofs.Common.{◌≡◌, ◌+◌, length, All}
 use Rattle.claim_table.specs.Logs.{new_log}
 use Rattle.claim_table.specs.Seat.{SeatState}
 use Rattle.parallel_phase.specs.Work.{IsUnbegun}

@@ -1,4 +1,4 @@
-use Rattle.std.proofs.Common.{◌≡◌, ◌-◌, ◌≤◌, ℕ, false, length}
+use Rattle.std.proofs.Common.{◌≡◌, ◌-◌, false, length}
 use Rattle.paged_memory.specs.Snapshot.{cells_of}
 use Rattle.parallel_phase.specs.Work.{AreOver}
 use Rattle.parallel_phase.proofs.phase.Phase.work_on.Given as goal

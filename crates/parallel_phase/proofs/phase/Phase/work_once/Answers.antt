@@ -1,4 +1,4 @@
-use Rattle.std.proofs.Common.{rules, ◌≡◌, ◌∙◌, ap, sym, subst, arith}
+use Rattle.std.proofs.Common.{sym, subst}
 use Rattle.paged_memory.specs.Snapshot.{cells_of}
 use Rattle.parallel_phase.specs.Work.{WorkState, AreOver}
 use Rattle.parallel_phase.proofs.Works.{outcomes_more, over_more}

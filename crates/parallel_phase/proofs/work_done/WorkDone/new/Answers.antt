@@ -1,4 +1,3 @@
-use Rattle.std.proofs.Common.{rules}
 use Rattle.parallel_phase.proofs.Works.{outcomes_none}
 use Rattle.parallel_phase.proofs.work_done.WorkDone.new.Goals as goal
 
