@@ -1,3 +1,4 @@
+pub mod Indexed
 pub mod Listed
 pub mod Places
 pub mod PrivatePages

@@ -1,4 +1,4 @@
-use Rattle.std.proofs.Common.{◌≡◌, ◌≢◌, ℕ, ◌+◌, ◌-◌, ◌^◌, ◌<◌, ◌≤◌, true, false, List, [], ◌∷◌, ◌++◌, length, eqb, eqb-true, refl, sym, ◌∙◌, ap, arith, inl, inr, length-append}
+use Rattle.std.proofs.Common.{◌≡◌, ◌≢◌, ℕ, zero, suc, ◌+◌, ◌-◌, ◌^◌, ◌<◌, ◌≤◌, true, false, List, [], ◌∷◌, ◌++◌, length, take, eqb, eqb-true, eq-eqb, cond, refl, sym, ◌∙◌, ap, arith, inl, inr, length-append}
 use Rattle.std.specs.Prelude.{slice_index, slice_index_or}
 use Rattle.std.specs.List.{list_any, IsDistinct}
 use Rattle.std.proofs.lemmas.Bool.{cases_eq, cases_lt, ne_eqb}
@@ -7,7 +7,7 @@ use Rattle.std.proofs.lemmas.List.Folds.{Any-from_list_any}
 use Rattle.std.proofs.lemmas.Map.Keys.{IsDistinct-from_apart}
 use Rattle.std.proofs.lemmas.Map.Steps.{length-le_from_distinct_below}
 use Rattle.std.proofs.lemmas.Grind.{get_or_default_zero}
-use Rattle.twins.specs.Listed.{AreListed}
+use Rattle.twins.specs.Listed.{AreListed, next_place, place_among}
 
 -- no number is listed
 pub AreListed-none : (place : ℕ → ℕ) → ((number : ℕ) → place number ≡ 0) → AreListed place []
@@ -127,3 +127,59 @@ module _ (place : ℕ → ℕ) (numbers : List ℕ) (listed : AreListed place nu
             rw same (earlier (place other - 1) (omega arith) ∙ listed.listed other there))
       ]);
     }
+
+-- the place of a number, by where it first stands
+pub place_among-cons : (first : ℕ) (rest : List ℕ) (number : ℕ) → place_among (first ∷ rest) number ≡ cond (eqb first number) 1 (next_place (place_among rest number))
+unfolding place_among
+place_among-cons first rest number = refl
+
+pub place_among-nothing : (number : ℕ) → place_among [] number ≡ 0
+unfolding place_among
+place_among-nothing number = refl
+
+pub next_place-some : (place : ℕ) → 0 < place → next_place place ≡ place + 1
+next_place-some zero some = absurd (omega arith)
+next_place-some (suc place) some = omega arith
+
+next_place-before : (place index : ℕ) → next_place place ≡ suc index + 1 → place ≡ index + 1
+next_place-before zero index next = absurd (omega arith)
+next_place-before (suc place) index next = omega arith
+
+next_place-none : (place : ℕ) → next_place place ≡ 0 → place ≡ 0
+next_place-none zero none = refl
+next_place-none (suc place) none = absurd (omega arith)
+
+-- one more number moves no other
+pub place_among-other : (numbers : List ℕ) (number other : ℕ) → other ≢ number → place_among (numbers ++ number ∷ []) other ≡ place_among numbers other
+place_among-other [] number other apart =
+    place_among-cons number [] other ∙ rw (ne_eqb number other (λ same. apart (sym same)), place_among-nothing other) refl
+place_among-other (first ∷ rest) number other apart =
+    place_among-cons first (rest ++ number ∷ []) other
+    ∙ rw (place_among-other rest number other apart) (sym (place_among-cons first rest other))
+
+-- one more number stands at the end
+pub place_among-pushed : (numbers : List ℕ) (number : ℕ) → place_among numbers number ≡ 0 → place_among (numbers ++ number ∷ []) number ≡ length numbers + 1
+place_among-pushed [] number none = place_among-cons number [] number ∙ rw (eq-eqb number number refl) refl
+place_among-pushed (first ∷ rest) number none = elim (cases_eq first number) [
+  | inl here ↦
+      (let one : place_among (first ∷ rest) number ≡ 1 = place_among-cons first rest number ∙ rw (eq-eqb first number here) refl in absurd (omega arith))
+  | inr apart ↦
+      (let next : place_among (first ∷ rest) number ≡ next_place (place_among rest number) = place_among-cons first rest number ∙ rw (ne_eqb first number apart) refl in
+      let later : place_among (rest ++ number ∷ []) number ≡ length rest + 1 = place_among-pushed rest number (next_place-none (place_among rest number) (sym next ∙ none)) in
+      let more : next_place (length rest + 1) ≡ length rest + 1 + 1 = next_place-some (length rest + 1) (omega arith) in
+      place_among-cons first (rest ++ number ∷ []) number ∙ rw (ne_eqb first number apart, later) (more ∙ omega arith))
+]
+
+-- a number doesn't stand before its place
+pub place_among-before : (numbers : List ℕ) (index number : ℕ) → place_among numbers number ≡ index + 1 → place_among (take index numbers) number ≡ 0
+place_among-before numbers zero number there = place_among-nothing number
+place_among-before [] (suc index) number there = place_among-nothing number
+place_among-before (first ∷ rest) (suc index) number there = elim (cases_eq first number) [
+  | inl here ↦
+      (let one : place_among (first ∷ rest) number ≡ 1 = place_among-cons first rest number ∙ rw (eq-eqb first number here) refl in absurd (omega arith))
+  | inr apart ↦
+      (let next : next_place (place_among rest number) ≡ suc index + 1 =
+      sym (place_among-cons first rest number ∙ rw (ne_eqb first number apart) refl) ∙ there in
+      let later : place_among rest number ≡ index + 1 = next_place-before (place_among rest number) index next in
+      place_among-cons first (take index rest) number ∙ rw (ne_eqb first number apart, place_among-before rest index number later) refl)
+]

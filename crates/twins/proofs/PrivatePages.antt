@@ -85,7 +85,7 @@ number-at : (pages : List PrivatePage) (index : ℕ) (other : PrivatePage) → i
     slice_index (numbers_of pages) index ≡ (slice_index_or pages index other).number
 number-at pages index other inside = get_or-map (λ private. private.number) pages index other 0 inside
 
-numbers-length : (pages : List PrivatePage) → length (numbers_of pages) ≡ length pages
+pub numbers-length : (pages : List PrivatePage) → length (numbers_of pages) ≡ length pages
 numbers-length pages = length-map pages (λ private. private.number)
 
 module _ (place : ℕ → ℕ) (pages : List PrivatePage) (listed : AreListed place (numbers_of pages)) where
@@ -164,10 +164,12 @@ module _ (place : ℕ → ℕ) (pages : List PrivatePage) (listed : AreListed pl
       let most : length (numbers_of pages) < 2 ^ 20 = length-listed place (numbers_of pages) listed new.number small none in
       let size : length (numbers_of pages) ≡ length pages = numbers-length pages in omega arith
 
-  module _ (place' : ℕ → ℕ) (there : place' new.number ≡ length pages + 1) (kept : (other : ℕ) → other ≢ new.number → place' other ≡ place other) where
-    pub AreListed-push : AreListed place' (numbers_of (pages ++ new ∷ []))
-    AreListed-push = rw numbers_of-push
-        (AreListed-pushed place (numbers_of pages) listed new.number small none place' (there ∙ ap (λ size. size + 1) (sym (numbers-length pages))) kept)
+  pub AreListed-push : (places : List ℕ → ℕ → ℕ) → places (numbers_of pages ++ new.number ∷ []) new.number ≡ length pages + 1 →
+      ((other : ℕ) → other ≢ new.number → places (numbers_of pages ++ new.number ∷ []) other ≡ place other) →
+      AreListed (places (numbers_of (pages ++ new ∷ []))) (numbers_of (pages ++ new ∷ []))
+  AreListed-push places there kept = rw numbers_of-push
+      (AreListed-pushed place (numbers_of pages) listed new.number small none (places (numbers_of pages ++ new.number ∷ []))
+      (there ∙ ap (λ size. size + 1) (sym (numbers-length pages))) kept)
 
   pub private_at-push : (number : ℕ) → private_at (pages ++ new ∷ []) number ≡ cond (new.number == number) (Some new.page.value) (private_at pages number)
   private_at-push number = private_at-append pages new number ∙ elim (cases_eq number new.number) [
@@ -183,9 +185,6 @@ number-read pages index old inside at = number-at pages index old inside ∙ sym
 -- a page is replaced by what is made of it
 module _ (place : ℕ → ℕ) (pages : List PrivatePage) (listed : AreListed place (numbers_of pages))
     (index : ℕ) (old new : PrivatePage) (inside : index < length pages) (at : old ≡ slice_index_or pages index old) (same : old.number ≡ new.number) where
-  pub AreListed-changed : AreListed place (numbers_of (slice_set pages index new))
-  AreListed-changed = AreListed-set place pages listed index new inside (number-read pages index old inside at ∙ same)
-
   pub numbers_of-changed : numbers_of (slice_set pages index new) ≡ numbers_of pages
   numbers_of-changed = numbers_of-set place pages listed index new inside (number-read pages index old inside at ∙ same)
 
@@ -201,6 +200,11 @@ module _ (place : ℕ → ℕ) (pages : List PrivatePage) (listed : AreListed pl
             (sym makes ∙ ap (λ private. made (Some private.page.value)) at ∙ ap made (sym (private_at-stands place pages listed number index old inside (here ∙ sym there))))
         | inr apart ↦ rw (ne_eqb new.number number (λ same. apart (sym same)))
       ]))
+
+pub AreListed-changed : (places : List ℕ → ℕ → ℕ) (pages : List PrivatePage) → AreListed (places (numbers_of pages)) (numbers_of pages) →
+    (index : ℕ) (old new : PrivatePage) → index < length pages → old ≡ slice_index_or pages index old → old.number ≡ new.number →
+    AreListed (places (numbers_of (slice_set pages index new))) (numbers_of (slice_set pages index new))
+AreListed-changed places pages listed index old new inside at same = rw (numbers_of-changed (places (numbers_of pages)) pages listed index old new inside at same) listed
 
 -- a page is added
 module _ (place : ℕ → ℕ) (pages : List PrivatePage) (listed : AreListed place (numbers_of pages))
@@ -222,13 +226,15 @@ module _ (place : ℕ → ℕ) (pages : List PrivatePage) (listed : AreListed pl
   }
 
 -- a number without a private page has no place
-pub place-none : (place : ℕ → ℕ) (pages : List PrivatePage) → AreListed place (numbers_of pages) → (number : ℕ) (other : PrivatePage) →
-    private_at pages number ≡ None → place number ≡ 0
-place-none place pages listed number other none = elim (cases_eq (place number) 0) [
+pub place-none : (place : ℕ → ℕ) (pages : List PrivatePage) → AreListed place (numbers_of pages) → (number : ℕ) → private_at pages number ≡ None → place number ≡ 0
+place-none place pages listed number none = elim (cases_eq (place number) 0) [
   | inl nothing ↦ nothing
   | inr some ↦
       (let at : place number ≡ place number - 1 + 1 = omega arith in
-      let there : private_at pages number ≡ Some (slice_index_or pages (place number - 1) other).page.value = private_at-some place pages listed number (place number - 1) other at in cc)
+      let inside : place number - 1 < length pages = place-inside place pages listed number (place number - 1) at in
+      let here : slice_index (numbers_of pages) (place number - 1) ≡ number = number-placed place pages listed number (place number - 1) at in
+      let there : IsSome (private_at pages number) = private_at-present pages (place number - 1) number inside here in
+      absurd (let found : IsSome {T = PageValue} None = rw none at there in cc))
 ]
 
 -- what the place of a number says

@@ -1,6 +1,7 @@
 //! Views of a snapshot: what a guest thread's segment runs on.
 #![tactic(auto)]
 
+mod page_index;
 mod place_table;
 mod private_page;
 mod private_pages;
