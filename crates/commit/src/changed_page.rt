@@ -66,6 +66,17 @@ impl ChangedPage {
         if count_page(now.bytes(), self.copy.bytes()) == 0 && now.perm() == self.mine.perm() {
             return Arc::try_clone(&self.mine);
         }
+        self.merged_copy(alloc, now)
+    }
+
+    /// The present page with what it changes, as a page of its own.
+    #[inline(never)]
+    fn merged_copy(&self, alloc: Global, now: &Page) -> Result<Arc<Page>, AllocError>
+        ensures merged { IfOk result (λ page. arc_value page ≡ record { perm = now.now.perm; bytes = merged_bytes now.now.bytes self.now.copy self.now.mine }) }
+        ensures now { length now.now.bytes ≡ page_size }
+        ensures copy { length self.now.copy ≡ page_size }
+        ensures mine { length self.now.mine ≡ page_size }
+    {
         let mut bytes = *now.bytes();
         merge_page(&mut bytes, self.copy.bytes(), self.mine.bytes());
         let merged = Arc::new(alloc, Page::new(now.perm(), bytes))?;

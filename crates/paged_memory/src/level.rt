@@ -32,7 +32,7 @@ pub(crate) trait Level: Drop {
     /// Which entry of the node above a page number names.
     fn index(number: u32) -> usize
         ensures digit { result ≡ digit number }
-        ensures below { result < 128 };
+        ensures below { result < 32 };
 
     /// The page of a number, or `None` where it has none.
     fn page(this: &Arc<Self>, number: u32) -> Option<&Arc<Page>>
@@ -54,13 +54,13 @@ impl Level for Page {
 
     ghost pages = { λ page _. Some page };
 
-    ghost digit = { λ number. number % 128 };
+    ghost digit = { λ number. number % 32 };
 
     ghost agree = { λ _ _. true };
 
     #[inline(always)]
     fn index(number: u32) -> usize {
-        (number % 128) as usize
+        (number % 32) as usize
     }
 
     #[inline(always)]

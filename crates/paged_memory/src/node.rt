@@ -7,7 +7,7 @@ use std::alloc::{AllocError, Global};
 use std::sync::Arc;
 
 /// How many entries a node has.
-const ENTRIES: usize = 128;
+const ENTRIES: usize = 32;
 
 /// A node of a table of pages. An entry is empty where none of its page numbers is mapped.
 #[derive(Drop)]
@@ -52,13 +52,13 @@ impl<T: Level> Clone for Node<T> {
 impl<T: Level> Level for Node<T> {
     ghost pages = { λ node. pages_of_node T.pages T.digit node.entries };
 
-    ghost digit = { λ number. T.digit (number / 128) };
+    ghost digit = { λ number. T.digit (number / 32) };
 
     ghost agree = { λ number other. (T.digit number == T.digit other) && T.agree number other };
 
     #[inline(always)]
     fn index(number: u32) -> usize {
-        T::index(number / 128)
+        T::index(number / 32)
     }
 
     #[inline(always)]

@@ -11,7 +11,7 @@ use std::sync::Arc;
 /// changed: at most a page and the nodes on the way to it, however many pages are mapped.
 #[derive(Drop)]
 pub(crate) struct PageTree {
-    root: Option<Arc<Node<Node<Node<Page>>>>>,
+    root: Option<Arc<Node<Node<Node<Node<Page>>>>>>,
     alloc: Global,
 }
 
