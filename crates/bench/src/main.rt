@@ -4,13 +4,14 @@
 //! `bench FILE COUNT` runs thread 0 of a file up to its first stop or that many instructions, on a whole
 //! memory and on a view, first without decoded code and then over it. With a part it measures that, so many
 //! times: `accesses` to a whole memory and to a view, `opens` of views, `merges` of pages, `commits` of
-//! patches, and `turns` of a run.
+//! patches, `turns` of a run, and `steps` of a written schedule.
 #![tactic(auto)]
 
 ghost use Rattle.code.specs.Code.{HasCode};
 
 mod accesses;
 mod commits;
+mod steps;
 mod timing;
 mod turns;
 
@@ -29,11 +30,12 @@ use std::process::ExitCode;
 use std::rt::{Clock, Files};
 use std::time::{Duration, Instant};
 use std::{env, fs};
+use steps::measure_steps;
 use turns::measure_turns;
 use twins::View;
 
 /// The parts that are measured by themselves.
-static PARTS: [&str; 5] = ["accesses", "opens", "merges", "commits", "turns"];
+static PARTS: [&str; 6] = ["accesses", "opens", "merges", "commits", "turns", "steps"];
 
 fn main(rt: HostRuntime) -> Result<ExitCode> {
     let arguments: Vec<String> = env::args(&rt)?.collect(rt.alloc())?;
@@ -102,6 +104,7 @@ fn measure_asked<R: AllocGlobal + Clock + Files + Print>(
         Some("merges") => measure_merges(rt, count),
         Some("commits") => measure_commits(rt, alloc, &image, count),
         Some("turns") => measure_turns(rt, alloc, &image, count),
+        Some("steps") => measure_steps(rt, alloc, &image, count),
         _ => measure(rt, alloc, &image, count),
     }
 }

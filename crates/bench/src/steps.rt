@@ -1,0 +1,94 @@
+//! Measures an event of a written schedule that executes an instruction, and the instruction alone.
+ghost use Rattle.std.specs.Prelude.{◌<◌, ◌≤◌};
+
+use crate::timing::each;
+use anyhow::{Result, anyhow};
+use elf32_reader::Image;
+use guest_memory::layout::STACK_POINTER;
+use hart::{Hart, Stepped, step};
+use paged_memory::Snapshot;
+use schedule::Event;
+use schedule_core::World;
+use std::alloc::Global;
+use std::rt::Clock;
+use std::time::Instant;
+use twins::View;
+
+/// How often each is measured. The least time is printed.
+const ROUNDS: u32 = 5;
+
+/// How many instructions a thread may execute.
+const BOUND: u64 = 1 << 40;
+
+/// Executes so many instructions on a view.
+#[inline(never)]
+fn do_steps(hart: &mut Hart, view: &mut View, count: u64) -> Result<()> {
+    for _ in 0..count {
+        let Stepped::Next = step(hart, view) else {
+            return Err(anyhow!("the program has stopped"));
+        };
+    }
+    Ok(())
+}
+
+/// Makes so many events happen that execute an instruction of a worker's job.
+#[inline(never)]
+fn do_events(world: &mut World, worker: u32, count: u64) -> Result<()> {
+    for _ in 0..count {
+        world.apply(Event::Step(worker))?;
+    }
+    Ok(())
+}
+
+/// What an instruction takes.
+fn step_time<R: Clock>(rt: &R, hart: &mut Hart, view: &mut View, count: u64) -> Result<u128> {
+    let start = Instant::now(rt)?;
+    do_steps(hart, view, count)?;
+    each(rt, &start, count)
+}
+
+/// What an event takes.
+fn event_time<R: Clock>(rt: &R, world: &mut World, worker: u32, count: u64) -> Result<u128> {
+    let start = Instant::now(rt)?;
+    do_events(world, worker, count)?;
+    each(rt, &start, count)
+}
+
+/// Prints what an instruction of thread 0 takes on a view, and what the event of a worker takes that executes it, with one worker and
+/// with 64.
+pub fn measure_steps<R: Clock + Print>(
+    rt: &R,
+    alloc: Global,
+    image: &Image,
+    count: u64,
+) -> Result<()> {
+    for workers in [1, 64] {
+        measure_steps_with(rt, alloc, image, workers, count)?;
+    }
+    Ok(())
+}
+
+/// Prints what they take where the last of so many workers has the job.
+fn measure_steps_with<R: Clock + Print>(
+    rt: &R,
+    alloc: Global,
+    image: &Image,
+    workers: u32,
+    count: u64,
+) -> Result<()>
+    requires some { 0 < workers }
+    requires few { workers ≤ 64 }
+{
+    let mut hart = Hart::new(image.entry(), STACK_POINTER, 0, 0);
+    let mut view = View::open(Snapshot::of_image(alloc, image)?);
+    let mut world = World::open(alloc, image, &[], BOUND, None, workers)?;
+    world.apply(Event::Draw(workers - 1))?;
+    let mut instruction = u128::MAX;
+    let mut event = u128::MAX;
+    for _ in 0..ROUNDS {
+        instruction = instruction.min(step_time(rt, &mut hart, &mut view, count)?);
+        event = event.min(event_time(rt, &mut world, workers - 1, count)?);
+    }
+    println!(rt; "{workers} workers: {instruction} ps an instruction, {event} ps its event")?;
+    Ok(())
+}
