@@ -38,11 +38,12 @@ impl Hart {
         }
     }
 
-    /// What register x`i` holds.
+    /// What register x`i` holds. x0 holds 0.
     #[inline(always)]
     pub fn reg(&self, i: usize) -> u32
         requires { i < 32 }
-        ensures { result ≡ register self.now i }
+        ensures value { result ≡ register self.now i }
+        ensures zero { i ≡ 0 → result ≡ 0 }
     {
         self.registers[i]
     }
