@@ -21,6 +21,10 @@ fn files_are_read_and_folders_are_not(rt: HostRuntime) -> Result<(), Fail> {
         [0u8; 5].as_slice()
     );
     assert!(rt; files.read(rt.alloc(), "/dev/null", 4)?.is_empty());
+    for limit in [1 << 20, (1 << 22) + 3] {
+        let bytes = files.read(rt.alloc(), "/dev/zero", limit)?;
+        assert_eq!(rt; bytes.len(), limit + 1);
+    }
     for path in ["/", "/dev", "/no such folder/file", "", "a\0b"] {
         let read = files.read(rt.alloc(), path, 4);
         assert!(rt; matches!(read, Err(ReadFault::ReadFailed)), "at {path:?}");
