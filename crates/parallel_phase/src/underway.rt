@@ -49,6 +49,7 @@ fn slice_end(done: u64, left: u64, slice: u64) -> u64
 
 impl Underway {
     /// Begins a job on a memory and executes at most so many of its instructions.
+    #[inline(always)]
     pub fn begin(job: Job, base: &Snapshot, slice: u64) -> Result<Progress, AllocError>
         requires { 0 < slice }
         ensures { IfOk result (IsProgress (cells_of base.now) job 0) }

@@ -4,6 +4,7 @@ use parallel_phase::{Job, JobEnd};
 use token::{SegmentEnd, Work};
 
 /// The end of a job as the end of its thread's segment.
+#[inline(always)]
 pub(crate) fn segment_end(end: JobEnd) -> SegmentEnd
     ensures { result ≡ record { hart = end.hart; stop = end.stop; count = end.count; patch = end.patch } }
 {
@@ -16,6 +17,7 @@ pub(crate) fn segment_end(end: JobEnd) -> SegmentEnd
 }
 
 /// The job of a thread's segment.
+#[inline(always)]
 pub(crate) fn job_of(work: &Work) -> Job
     ensures { result ≡ record { hart = work.now.hart; left = work.now.left; quantum = work.now.quantum } }
 {
