@@ -18,4 +18,6 @@ mod overlap;
 #[cfg(test)]
 mod phase_turns;
 #[cfg(test)]
+mod stops;
+#[cfg(test)]
 mod whole_runs;
