@@ -1,7 +1,7 @@
-use Rattle.std.specs.Prelude.{◌≡◌, ℕ, ◌*◌, ◌%◌, ◌^◌, ◌<◌, ◌==◌, if◌then◌else◌, Option, None, List, [], ◌∷◌, length, slice_index, map}
+use Rattle.std.specs.Prelude.{◌≡◌, ℕ, ◌*◌, ◌%◌, ◌<◌, ◌==◌, if◌then◌else◌, Option, None, List, [], ◌∷◌, length, slice_index, map}
 use Rattle.std.specs.List.Sorted.{IsStrictlyIncreasing}
 use Rattle.guest_memory.specs.Layout.{page_of, page_size}
-use Rattle.commit.specs.Bytes.{differing_count, differing_from}
+use Rattle.commit.specs.Bytes.{differing_from}
 use Rattle.commit.specs.Merge.{changed_byte}
 use Rattle.commit.specs.Changed.{addresses_of}
 
@@ -31,11 +31,6 @@ numbers_of patch = map (λ change. change.number) patch
 -- all page numbers of a patch are below another
 abbrev pub AreBelow : List PageChange → ℕ → Type 0
 AreBelow patch bound = (place : ℕ) → place < length patch → slice_index (numbers_of patch) place < bound
-
--- what holds of a page's change: the page is one of the address space, and at least one of its bytes differs
-pub record IsPageChange (change : PageChange) : Type 0 where
-  pub number : change.number < 2 ^ 20
-  pub real : 0 < differing_count change.copy change.mine
 
 -- What holds of a patch: its pages ascend, and the count is that of its addresses.
 pub record IsPatch (patch : List PageChange) (count : ℕ) : Type 0 where

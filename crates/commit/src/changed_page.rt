@@ -2,8 +2,8 @@ ghost use Rattle.std.specs.Prelude.{◌≡◌, ◌^◌, ◌<◌, [], ◌∷◌, 
 ghost use Rattle.std.specs.Arc.{arc_value};
 ghost use Rattle.guest_memory.specs.Layout.{page_size};
 ghost use Rattle.paged_memory.specs.Page.{PageValue};
-ghost use Rattle.commit.specs.Bytes.{differing_count, merged_bytes};
-ghost use Rattle.commit.specs.Patched.{PageChange, IsPageChange};
+ghost use Rattle.commit.specs.Bytes.{merged_bytes};
+ghost use Rattle.commit.specs.Patched.{PageChange};
 
 use crate::kernels::{count_page, merge_page, push_differing};
 use guest_memory::layout::PAGE_SIZE;
@@ -27,7 +27,7 @@ impl Model for ChangedPage {
 
     ghost view = { λ p. record { number = p.number; copy = (arc_value p.copy).bytes; mine = (arc_value p.mine).bytes } };
 
-    ghost invariant = { λ p. IsPageChange (record { number = p.number; copy = (arc_value p.copy).bytes; mine = (arc_value p.mine).bytes }) };
+    ghost invariant = { λ p. p.number < 2 ^ 20 };
 }
 
 impl ChangedPage {
@@ -36,8 +36,7 @@ impl ChangedPage {
     ghost use Rattle.paged_memory.specs.Snapshot.{cells_of, pages_of};
 
     pub(crate) fn new(number: u32, copy: Arc<Page>, mine: Arc<Page>) -> Self
-        requires number { number < 2 ^ 20 }
-        requires real { 0 < differing_count (arc_value copy).bytes (arc_value mine).bytes }
+        requires { number < 2 ^ 20 }
         ensures { result ≡ record { number = number; copy = (arc_value copy).bytes; mine = (arc_value mine).bytes } }
     {
         ChangedPage { number, copy, mine }
