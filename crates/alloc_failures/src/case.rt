@@ -1,8 +1,9 @@
 use crate::answer::Answer;
 use crate::failed::Failed;
-use crate::{commits, recorders, runs, snapshots, views};
+use crate::{commits, recorders, runs, snapshots, views, worlds};
 use guest_programs::{ECHO, QUOTIENTS, RACE, RELEASE_RACE, SIGNAL};
 use std::alloc::Global;
+use written_schedules::{EARLY_TURN, KEPT_STORE, SIGNAL as WOKEN, SKIP};
 
 /// A call that is made, and again where it is refused.
 #[derive(Clone, Copy, Debug)]
@@ -24,10 +25,17 @@ pub enum Case {
     Echo,
     ReleaseRace,
     RecordedRace,
+    OpenWorld,
+    Events,
+    EarlyTurn,
+    KeptStore,
+    Woken,
+    Skipped,
+    AllEvents,
 }
 
 /// The cases with their names, in the order in which they are performed.
-pub const CASES: [(&str, Case); 17] = [
+pub const CASES: [(&str, Case); 24] = [
     ("Snapshot::of_image", Case::OfImage),
     ("Snapshot::try_clone", Case::TryClone),
     ("Snapshot::map_zero", Case::MapZero),
@@ -45,6 +53,13 @@ pub const CASES: [(&str, Case); 17] = [
     ("turns of echo", Case::Echo),
     ("turns of release-race", Case::ReleaseRace),
     ("turns of race, recorded", Case::RecordedRace),
+    ("World::open", Case::OpenWorld),
+    ("schedule_text::parse", Case::Events),
+    ("events with an early turn", Case::EarlyTurn),
+    ("events with a keeper's store", Case::KeptStore),
+    ("events with a wake", Case::Woken),
+    ("events with a note and a skip", Case::Skipped),
+    ("World::apply_all", Case::AllEvents),
 ];
 
 impl Case {
@@ -68,6 +83,13 @@ impl Case {
             Case::Echo => runs::turns(alloc, &ECHO, b"ab"),
             Case::ReleaseRace => runs::turns(alloc, &RELEASE_RACE, b""),
             Case::RecordedRace => recorders::recorded(alloc, &RACE, b""),
+            Case::OpenWorld => worlds::open(alloc, &EARLY_TURN),
+            Case::Events => worlds::parsed(alloc, &EARLY_TURN),
+            Case::EarlyTurn => worlds::apply(alloc, &EARLY_TURN),
+            Case::KeptStore => worlds::apply(alloc, &KEPT_STORE),
+            Case::Woken => worlds::apply(alloc, &WOKEN),
+            Case::Skipped => worlds::apply(alloc, &SKIP),
+            Case::AllEvents => worlds::apply_all(alloc, &EARLY_TURN),
         }
     }
 }

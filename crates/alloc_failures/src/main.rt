@@ -8,6 +8,7 @@ mod answer;
 mod case;
 mod commits;
 mod failed;
+mod lent;
 mod picture;
 mod programs;
 mod quiet;
@@ -18,6 +19,7 @@ mod snapshots;
 mod standing;
 mod tables;
 mod views;
+mod worlds;
 
 use answer::Answer;
 use case::{CASES, Case};

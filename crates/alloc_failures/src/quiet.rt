@@ -5,15 +5,21 @@ use crate::programs::image_of;
 use crate::runs::BOUND;
 use crate::snapshots::snapshot_with_heap;
 use crate::tables;
+use crate::worlds::world_amid;
 use commit::{Patch, changed, count_page, merge_page};
 use guest_memory::GuestMemory;
 use guest_memory::layout::{IMAGE_START, STACK_POINTER};
 use guest_programs::{DATA, ECHO};
 use hart::{Hart, Stepped, Stop, run_to_stop, step};
 use paged_memory::Snapshot;
+use schedule_core::World;
 use std::alloc::{AllocError, Global};
 use token::{Kept, Need, Next, Serial, Start, next_turn};
 use twins::View;
+use written_schedules::EARLY_TURN;
+
+/// After how many events of the schedule with an early turn that turn is done and a job is half run.
+const HALF_RUN: usize = 25;
 
 /// What the calls work on.
 #[derive(Drop)]
@@ -25,6 +31,8 @@ pub struct Quiet {
     patch: Patch,
     /// A run of `echo` that has read its input.
     serial: Serial<Kept>,
+    /// A run with a half-run job.
+    world: World,
 }
 
 /// A group of calls that take no memory.
@@ -42,10 +50,11 @@ pub enum QuietCase {
     Objects,
     Segment,
     Run,
+    World,
 }
 
 /// The groups with their names.
-pub const QUIET_CASES: [(&str, QuietCase); 12] = [
+pub const QUIET_CASES: [(&str, QuietCase); 13] = [
     ("loads and fetches", QuietCase::Loads),
     ("stores to private pages", QuietCase::Stores),
     ("View::open", QuietCase::Open),
@@ -58,6 +67,7 @@ pub const QUIET_CASES: [(&str, QuietCase); 12] = [
     ("objects by themselves", QuietCase::Objects),
     ("step and run_to_stop", QuietCase::Segment),
     ("what a run lends", QuietCase::Run),
+    ("what a world lends", QuietCase::World),
 ];
 
 impl Quiet {
@@ -68,11 +78,13 @@ impl Quiet {
         let view = view_with_bytes(snapshot)?;
         let patch = Patch::of(alloc, &view)?;
         let serial = run_of_echo(alloc)?;
+        let world = world_amid(alloc, &EARLY_TURN, HALF_RUN)?;
         Ok(Quiet {
             view,
             spare,
             patch,
             serial,
+            world,
         })
     }
 
@@ -91,6 +103,7 @@ impl Quiet {
             QuietCase::Objects => Ok(tables::objects()),
             QuietCase::Segment => self.segment(),
             QuietCase::Run => Ok(self.run()),
+            QuietCase::World => self.world(),
         }
     }
 
@@ -200,6 +213,22 @@ impl Quiet {
             value: serial.base().load32(DATA).unwrap_or(0) ^ serial.now().load32(DATA).unwrap_or(0),
             digest: mixed(digest, u64::from(waits)),
         }
+    }
+
+    /// All that a world with a half-run job lends.
+    fn world(&self) -> Result<Answer, Failed> {
+        let world = &self.world;
+        let (None, None, Some((hart, view))) = (world.outcome(), world.private(0), world.private(1))
+        else {
+            return Err(Failed::Other);
+        };
+        let shared = world.now().load32(DATA).unwrap_or(0);
+        let own = view.load32(DATA).unwrap_or(0);
+        Ok(Answer {
+            count: world.turns().len() as u64,
+            value: hart.pc(),
+            digest: mixed(u64::from(shared), u64::from(own)),
+        })
     }
 }
 
