@@ -8,8 +8,6 @@ mod accesses;
 #[cfg(test)]
 mod arithmetic;
 #[cfg(test)]
-mod code_segments;
-#[cfg(test)]
 mod commits;
 #[cfg(test)]
 mod control;
