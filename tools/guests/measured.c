@@ -77,8 +77,11 @@ static void thread(void *argument)
 int main(void)
 {
     uint32_t numbers[THREADS];
+    // Who holds a mutex keeps the token, so that all threads begin in one phase.
+    dthreads_lock(1);
     for (uint32_t index = 0; index < THREADS; index++)
         dthreads_create(thread, (void *)(uintptr_t)index, stacks[index] + PAGE, &numbers[index]);
+    dthreads_unlock(1);
     for (uint32_t index = 0; index < THREADS; index++)
         dthreads_join(numbers[index], 0);
     return 0;
