@@ -1,3 +1,4 @@
 pub mod Coding
 pub mod Keeping
 pub mod Segments
+pub mod OneStep

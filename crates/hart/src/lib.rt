@@ -8,6 +8,7 @@ mod control;
 mod execute;
 mod flow;
 mod instruction;
+mod one_step;
 mod segment;
 mod slice_end;
 mod state;
@@ -18,7 +19,7 @@ mod transfer;
 mod trap;
 
 pub use cause::Cause;
-pub use instruction::step;
+pub use one_step::step;
 pub use segment::{run_coded, run_coded_slice, run_slice, run_to_stop};
 pub use slice_end::SliceEnd;
 pub use state::Hart;
