@@ -4,13 +4,14 @@
 //! `bench FILE COUNT` runs thread 0 of a file up to its first stop or that many instructions, on a whole
 //! memory and on a view, first without decoded code and then over it. With a part it measures that, so many
 //! times: `accesses` to a whole memory and to a view, `opens` of views, `merges` of pages, `commits` of
-//! patches, `turns` of a run, and `steps` of a written schedule.
+//! patches, `turns` of a run, `steps` of a written schedule, and `phases` by several workers.
 #![tactic(auto)]
 
 ghost use Rattle.code.specs.Code.{HasCode};
 
 mod accesses;
 mod commits;
+mod phases;
 mod steps;
 mod timing;
 mod turns;
@@ -25,9 +26,11 @@ use guest_memory::GuestMemory;
 use guest_memory::layout::STACK_POINTER;
 use hart::{Hart, run_coded};
 use paged_memory::{Snapshot, WholeMemory};
+use phases::measure_phases;
 use std::alloc::{AllocError, Global};
 use std::process::ExitCode;
 use std::rt::{Clock, Files};
+use std::thread::Threads;
 use std::time::{Duration, Instant};
 use std::{env, fs};
 use steps::measure_steps;
@@ -35,7 +38,9 @@ use turns::measure_turns;
 use twins::View;
 
 /// The parts that are measured by themselves.
-static PARTS: [&str; 6] = ["accesses", "opens", "merges", "commits", "turns", "steps"];
+static PARTS: [&str; 7] = [
+    "accesses", "opens", "merges", "commits", "turns", "steps", "phases",
+];
 
 fn main(rt: HostRuntime) -> Result<ExitCode> {
     let arguments: Vec<String> = env::args(&rt)?.collect(rt.alloc())?;
@@ -73,7 +78,7 @@ fn part<'a>(alloc: Global) -> Arg<'a> {
 }
 
 /// Measures what the arguments ask for, or says what is wrong with them.
-fn answer<R: AllocGlobal + Clock + Eprint + Files + Print>(
+fn answer<R: AllocGlobal + Clock + Eprint + Files + Print + Threads + Sync>(
     rt: &R,
     alloc: Global,
     matches: Result<ArgMatches<'_>, Error>,
@@ -91,7 +96,7 @@ fn answer<R: AllocGlobal + Clock + Eprint + Files + Print>(
 }
 
 /// Measures what the arguments ask for.
-fn measure_asked<R: AllocGlobal + Clock + Files + Print>(
+fn measure_asked<R: AllocGlobal + Clock + Files + Print + Threads + Sync>(
     rt: &R,
     alloc: Global,
     matches: &ArgMatches<'_>,
@@ -105,6 +110,7 @@ fn measure_asked<R: AllocGlobal + Clock + Files + Print>(
         Some("commits") => measure_commits(rt, alloc, &image, count),
         Some("turns") => measure_turns(rt, alloc, &image, count),
         Some("steps") => measure_steps(rt, alloc, &image, count),
+        Some("phases") => measure_phases(rt, alloc, &image, count),
         _ => measure(rt, alloc, &image, count),
     }
 }
