@@ -1,8 +1,10 @@
 use crate::answer::Answer;
 use crate::failed::Failed;
-use crate::{commits, recorders, runs, snapshots, views, worlds};
+use crate::{commits, recorders, runs, snapshots, views, whole, worlds};
 use guest_programs::{ECHO, QUOTIENTS, RACE, RELEASE_RACE, SIGNAL};
 use std::alloc::Global;
+use std::sync::Wait;
+use std::thread::Threads;
 use written_schedules::{EARLY_TURN, KEPT_STORE, SIGNAL as WOKEN, SKIP};
 
 /// A call that is made, and again where it is refused.
@@ -32,10 +34,15 @@ pub enum Case {
     Woken,
     Skipped,
     AllEvents,
+    ReadFile,
+    RunRace,
+    RunSignal,
+    RunReleaseRace,
+    RunToSink,
 }
 
 /// The cases with their names, in the order in which they are performed.
-pub const CASES: [(&str, Case); 24] = [
+pub const CASES: [(&str, Case); 29] = [
     ("Snapshot::of_image", Case::OfImage),
     ("Snapshot::try_clone", Case::TryClone),
     ("Snapshot::map_zero", Case::MapZero),
@@ -60,11 +67,20 @@ pub const CASES: [(&str, Case); 24] = [
     ("events with a wake", Case::Woken),
     ("events with a note and a skip", Case::Skipped),
     ("World::apply_all", Case::AllEvents),
+    ("read", Case::ReadFile),
+    ("run of race", Case::RunRace),
+    ("run of signal", Case::RunSignal),
+    ("run of release-race", Case::RunReleaseRace),
+    ("run_into of echo", Case::RunToSink),
 ];
 
 impl Case {
     /// Performs it.
-    pub fn perform(self, alloc: Global) -> Result<Answer, Failed> {
+    pub fn perform<R: Threads + Wait + Sync>(
+        self,
+        rt: &R,
+        alloc: Global,
+    ) -> Result<Answer, Failed> {
         match self {
             Case::OfImage => snapshots::of_image(alloc),
             Case::TryClone => snapshots::try_clone(alloc),
@@ -90,6 +106,11 @@ impl Case {
             Case::Woken => worlds::apply(alloc, &WOKEN),
             Case::Skipped => worlds::apply(alloc, &SKIP),
             Case::AllEvents => worlds::apply_all(alloc, &EARLY_TURN),
+            Case::ReadFile => whole::read_file(alloc, &RELEASE_RACE),
+            Case::RunRace => whole::run_whole(rt, alloc, &RACE, b""),
+            Case::RunSignal => whole::run_whole(rt, alloc, &SIGNAL, b""),
+            Case::RunReleaseRace => whole::run_whole(rt, alloc, &RELEASE_RACE, b""),
+            Case::RunToSink => whole::run_to_sink(rt, alloc, &ECHO, b"ab"),
         }
     }
 }

@@ -18,7 +18,9 @@ mod runs;
 mod snapshots;
 mod standing;
 mod tables;
+mod taker;
 mod views;
+mod whole;
 mod worlds;
 
 use answer::Answer;
@@ -27,10 +29,12 @@ use failed::Failed;
 use quiet::{QUIET_CASES, Quiet};
 use std::alloc::Global;
 use std::io;
+use std::sync::Wait;
+use std::thread::Threads;
 
 fn main(rt: HostRuntime) -> io::Result<()> {
     for (name, case) in CASES {
-        print_answer(&rt, name, perform(rt.alloc(), case))?;
+        print_answer(&rt, name, perform(&rt, rt.alloc(), case))?;
     }
     match quiet_after_set_up(rt.alloc()) {
         Ok(mut quiet) => print_quiet(&rt, rt.alloc(), &mut quiet),
@@ -73,9 +77,9 @@ fn quiet_after_set_up(alloc: Global) -> Result<Quiet, Failed> {
 }
 
 /// Performs a case. Where its set-up is refused, it is performed once more from the start.
-fn perform(alloc: Global, case: Case) -> Result<Answer, Failed> {
-    match case.perform(alloc) {
-        Err(Failed::SetUp(_)) => case.perform(alloc),
+fn perform<R: Threads + Wait + Sync>(rt: &R, alloc: Global, case: Case) -> Result<Answer, Failed> {
+    match case.perform(rt, alloc) {
+        Err(Failed::SetUp(_)) => case.perform(rt, alloc),
         done => done,
     }
 }
