@@ -27,12 +27,16 @@ const PHASE_JOBS: usize = 4;
 /// How many jobs the draws have that are measured.
 const MANY_JOBS: u32 = 256;
 
-/// The jobs of thread 0 up to so many instructions.
-fn jobs_of(image: &Image, left: u64) -> [Job; PHASE_JOBS] {
+/// More instructions than any job executes.
+const LEFT: u64 = 1 << 40;
+
+/// The jobs of thread 0 up to so many instructions. They end by a quantum: a job that ended by its bound would
+/// end the run, and the jobs after it would be skipped.
+fn jobs_of(image: &Image, instructions: u64) -> [Job; PHASE_JOBS] {
     let job = Job {
         hart: Hart::new(image.entry(), STACK_POINTER, 0, 0),
-        left,
-        quantum: None,
+        left: LEFT,
+        quantum: Some(instructions),
     };
     [job; PHASE_JOBS]
 }
@@ -183,8 +187,8 @@ fn measure_start<R: Clock + Print + Threads + Sync>(rt: &R, count: u64) -> Resul
     Ok(())
 }
 
-/// Prints what phases of four jobs take, of 1 instruction so many times, of 1,000 a tenth as often, and of 1,000,000 a thousandth, and
-/// what draws and the start of a thread take.
+/// Prints what phases of four jobs take, of 1 instruction so many times, of 1,000 a tenth as often, of 1,000,000 a
+/// thousandth and of 10,000,000 a ten-thousandth, and what draws and the start of a thread take.
 pub fn measure_phases<R: Clock + Print + Threads + Sync>(
     rt: &R,
     alloc: Global,
@@ -195,6 +199,7 @@ pub fn measure_phases<R: Clock + Print + Threads + Sync>(
     measure_phase(rt, alloc, image, &base, 1, count)?;
     measure_phase(rt, alloc, image, &base, 1000, count / 10)?;
     measure_phase(rt, alloc, image, &base, 1_000_000, count / 1000)?;
+    measure_phase(rt, alloc, image, &base, 10_000_000, count / 10_000)?;
     measure_draws(rt, alloc)?;
     measure_start(rt, count)
 }
