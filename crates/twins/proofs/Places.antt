@@ -4,7 +4,7 @@ use Rattle.std.proofs.lemmas.Bool.{cases_eq, cases_lt, ne_eqb}
 use Rattle.std.proofs.lemmas.List.{get_or-set_same, get_or-set_other, get_or-replicate, length-replicate, get_or_append_left, get_or-append_right, get_or_past}
 use Rattle.std.proofs.lemmas.List.Sums.{sum_by-set, sum_by-le}
 use Rattle.std.proofs.lemmas.List.Folds.{sum_by-replicate}
-use Rattle.twins.specs.Places.{leaf_of, place_in, leaf_count, HaveLeaves, AreHinted}
+use Rattle.twins.specs.Places.{leaf_of, place_in, leaf_count, HaveLeaves}
 
 -- a number whose group has no leaf has no place
 pub place_in-none : (groups leaves : List ℕ) (number : ℕ) → leaf_of groups number ≡ 0 → place_in groups leaves number ≡ 0
@@ -44,12 +44,6 @@ HaveLeaves-none count size = record {
   sizes = (let none : sum_by leaf_count (replicate count 0) ≡ count * 0 = sum_by-replicate leaf_count count 0 in omega arith);
   within = (λ group. rw (get_or-replicate-zero count group) (omega arith));
   distinct = (λ group other some same. absurd (some (get_or-replicate-zero count group)));
-}
-
-pub AreHinted-none : (count size : ℕ) → count ≡ 64 → AreHinted (replicate count 0) (replicate size 0) []
-AreHinted-none count size is = record {
-  hints_count = length-replicate {A = ℕ} count 0 ∙ is;
-  none = (λ number _. place_in-none (replicate size 0) [] number (get_or-replicate-zero size (number / 1024)));
 }
 
 module _ (groups leaves : List ℕ) (shape : HaveLeaves groups leaves) where
@@ -135,13 +129,6 @@ module _ (groups leaves : List ℕ) (shape : HaveLeaves groups leaves) where
           ])
     ]
 
-    pub AreHinted-grown : (hints : List ℕ) → AreHinted hints groups leaves →
-        AreHinted hints (slice_set groups group (length leaves / 1024 + 1)) (leaves ++ replicate 1024 0)
-    AreHinted-grown hints hinted = record {
-      hints_count = hinted.hints_count;
-      none = (λ number nothing. place_in-grown number ∙ hinted.none number nothing);
-    }
-
   -- one entry written
   module _ (number : ℕ) (some : leaf_of groups number ≢ 0) (place : ℕ) where
     pub HaveLeaves-set : (at : ℕ) → HaveLeaves groups (slice_set leaves at place)
@@ -175,20 +162,5 @@ module _ (groups leaves : List ℕ) (shape : HaveLeaves groups leaves) where
             let leaves-same : leaf_of groups other ≡ leaf_of groups number = omega arith in
             let group : other / 1024 ≡ number / 1024 = shape.distinct (other / 1024) (number / 1024) there leaves-same in
             apart (omega arith)
-
-    pub AreHinted-set : (hints : List ℕ) → AreHinted hints groups leaves → place ≢ 0 →
-        AreHinted (slice_set hints (number % 64) place) groups (slice_set leaves ((leaf_of groups number - 1) * 1024 + number % 1024) place)
-    AreHinted-set hints hinted there = record {
-      hints_count = length-set hints (number % 64) place ∙ hinted.hints_count;
-      none = (λ other nothing. elim (cases_eq (other % 64) (number % 64)) [
-        | inl same ↦
-            (let size : length hints ≡ 64 = hinted.hints_count in
-            let here : slice_index (slice_set hints (number % 64) place) (number % 64) ≡ place = get_or-set_same hints (number % 64) place 0 (omega arith) in
-            absurd (there (sym here ∙ (rw same at nothing))))
-        | inr apart ↦
-            place_in-kept other (λ e. apart (ap (λ (number : ℕ). number % 64) e))
-            ∙ hinted.none other (sym (get_or-set_other hints (number % 64) (other % 64) place 0 apart) ∙ nothing)
-      ]);
-    }
 
 pub ruleset places = (place_in-none, place_in-some)

@@ -23,8 +23,3 @@ pub record HaveLeaves (groups leaves : List ℕ) : Type 0 where
   pub sizes : length leaves ≡ 1024 * sum_by leaf_count groups
   pub within : (group : ℕ) → 1024 * slice_index groups group ≤ length leaves
   pub distinct : (group other : ℕ) → slice_index groups group ≢ 0 → slice_index groups group ≡ slice_index groups other → group ≡ other
-
--- What holds of hints: there are 64, and a page number for whose remainder none stands has no place.
-pub record AreHinted (hints groups leaves : List ℕ) : Type 0 where
-  pub hints_count : length hints ≡ 64
-  pub none : (number : ℕ) → slice_index hints (number % 64) ≡ 0 → place_in groups leaves number ≡ 0

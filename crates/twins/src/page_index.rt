@@ -1,4 +1,4 @@
-ghost use Rattle.std.specs.Prelude.{◌≡◌, ℕ, ◌+◌, ◌^◌, ◌<◌, ◌==◌, IfOk, MatchOption, length, position};
+ghost use Rattle.std.specs.Prelude.{◌≡◌, ℕ, ◌+◌, ◌^◌, ◌<◌, ◌==◌, IfOk, length, position};
 ghost use Rattle.twins.specs.Listed.{AreListed, place_among};
 ghost use Rattle.twins.specs.PlaceTable.{place_of};
 ghost use Rattle.twins.specs.PrivatePages.{numbers_of};
@@ -11,7 +11,7 @@ use std::alloc::{AllocError, Global};
 const FEW: usize = 4;
 
 /// Where the page of a number stands in a list. While the pages are few, that is seen by a look at each one's
-/// number, and the index is small and takes no memory; else it is found by a table.
+/// number, and the index is small and takes no memory; else it is one look into a table.
 #[derive(Drop)]
 pub(crate) struct PageIndex {
     table: Option<Box<PlaceTable>>,
@@ -31,13 +31,12 @@ impl PageIndex {
     /// The place of the page of a number.
     #[inline(always)]
     pub(crate) fn place(&self, pages: &[PrivatePage], number: u32) -> Option<usize>
-        requires number { number < 2 ^ 20 }
-        requires listed { AreListed (place_with self.now.table (numbers_of pages.now)) (numbers_of pages.now) }
+        requires { number < 2 ^ 20 }
         ensures { MatchOption result (place_with self.now.table (numbers_of pages.now) number ≡ 0) (λ place. place_with self.now.table (numbers_of pages.now) number ≡ place + 1) }
     {
         match &self.table {
             None => place_among(pages, number),
-            Some(table) => place_in_table(table, pages, number),
+            Some(table) => table.place(number),
         }
     }
 
@@ -83,25 +82,6 @@ fn place_among(pages: &[PrivatePage], number: u32) -> Option<usize>
     ensures { result ≡ position (λ private. private.number == number) pages.now }
 {
     pages.iter().position(|private| private.number == number)
-}
-
-/// The place of the page of a number that has a place in a table. The table's hint is tried first, which takes
-/// one look fewer.
-#[inline(always)]
-fn place_in_table(table: &PlaceTable, pages: &[PrivatePage], number: u32) -> Option<usize>
-    requires number { number < 2 ^ 20 }
-    requires listed { AreListed (place_of table.now) (numbers_of pages.now) }
-    ensures { MatchOption result (place_of table.now number ≡ 0) (λ place. place_of table.now number ≡ place + 1) }
-{
-    let hint = table.hint(number);
-    if hint == 0 {
-        return None;
-    }
-    let place = hint as usize - 1;
-    match pages.get(place) {
-        Some(private) if private.number == number => Some(place),
-        _ => table.place(number),
-    }
 }
 
 /// A table of the places of pages.

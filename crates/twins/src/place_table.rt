@@ -1,6 +1,6 @@
 //! Which place each page number has, found by index alone.
 ghost use Rattle.std.specs.Prelude.{◌≡◌, ◌^◌, ◌<◌, ◌++◌, OnOk, OnErr, length, replicate};
-ghost use Rattle.twins.specs.Places.{HaveLeaves, AreHinted};
+ghost use Rattle.twins.specs.Places.{HaveLeaves};
 
 use std::alloc::{AllocError, Global};
 
@@ -8,9 +8,6 @@ use std::alloc::{AllocError, Global};
 const GROUPS: usize = 1024;
 
 const LEAF: usize = 1024;
-
-/// How many hints there are.
-const HINTS: usize = 64;
 
 /// A place for some of the page numbers. The numbers come in groups; a group has a leaf once one of its
 /// numbers has a place. A new table takes no memory.
@@ -20,11 +17,7 @@ pub(crate) struct PlaceTable {
     groups: [u16; GROUPS],
     /// The leaves side by side: for each number of the group its place, counted from 1; 0 where it has none.
     leaves: Vec<u32>,
-    /// For each remainder of page numbers by 64 the place, counted from 1, of the number that was given one last; 0
-    /// where none was.
-    hints: [u32; HINTS],
     ghost shape: { HaveLeaves groups leaves.items },
-    ghost hinted: { AreHinted hints groups leaves.items },
 }
 
 #[tactic(auto, using(crate::proofs::Places::places))]
@@ -40,17 +33,7 @@ impl PlaceTable {
         PlaceTable {
             groups: [0; GROUPS],
             leaves: Vec::new(alloc),
-            hints: [0; HINTS],
         }
-    }
-
-    /// A place, counted from 1, where the page of this number may stand; 0 where no number of its remainder by 64
-    /// has one, and so this has none.
-    #[inline(always)]
-    pub(crate) fn hint(&self, number: u32) -> u32
-        ensures { result ≡ 0 → place_of self.now number ≡ 0 }
-    {
-        self.hints[number as usize % HINTS]
     }
 
     /// The place of a page number.
@@ -94,7 +77,6 @@ impl PlaceTable {
     {
         let leaf = usize::from(self.groups[number as usize / LEAF]);
         self.leaves[(leaf - 1) * LEAF + number as usize % LEAF] = place as u32 + 1;
-        self.hints[number as usize % HINTS] = place as u32 + 1;
     }
 }
 

@@ -1,5 +1,5 @@
 use Rattle.std.proofs.Common.{◌≡◌, ◌*◌, ◌/◌, ◌≤◌, length, ◌∙◌, arith}
-use Rattle.twins.proofs.Places.{leaves-bound, place_in-grown, HaveLeaves-grown, AreHinted-grown}
+use Rattle.twins.proofs.Places.{leaves-bound, place_in-grown}
 use Rattle.twins.proofs.place_table.PlaceTable.reserve.Goals as goal
 
 pub push_zeros-requires : goal.push_zeros-requires
@@ -15,14 +15,3 @@ pub returns-in_ok-push_zeros-clause-same : goal.returns-in_ok-push_zeros-clause-
 returns-in_ok-push_zeros-clause-same c =
     let size : c.len.result ≡ length c.args.self.now.leaves.items = c.len.ensures ∙ c.args.self.now.leaves.ok.0 in
     rw (c.in_ok-push_zeros.ensures.grown, size) (place_in-grown c.args.self.now.groups c.args.self.now.leaves.items c.args.self.now.shape (c.args.number / 1024) (omega arith) c.if-self-group-eq0.true)
-
-pub invariant_of-self-then-self-group-eq0 : goal.invariant_of-self-then-self-group-eq0
-invariant_of-self-then-self-group-eq0 c =
-    let groups = c.args.self.now.groups in
-    let leaves = c.args.self.now.leaves.items in
-    let size : c.len.result ≡ length leaves = c.len.ensures ∙ c.args.self.now.leaves.ok.0 in
-    rw (c.in_ok-push_zeros.ensures.grown, size)
-    (record {
-      shape = HaveLeaves-grown groups leaves c.args.self.now.shape (c.args.number / 1024) (omega arith) c.if-self-group-eq0.true;
-      hinted = AreHinted-grown groups leaves c.args.self.now.shape (c.args.number / 1024) (omega arith) c.if-self-group-eq0.true c.args.self.now.hints c.args.self.now.hinted;
-    })
