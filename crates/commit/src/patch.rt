@@ -92,7 +92,7 @@ impl Patch {
     {
         let count = count_page(copy.bytes(), mine.bytes());
         if count > 0 {
-            let mine = Arc::new(alloc, mine.copied())?;
+            let mine = Arc::new(alloc, mine.clone()?)?;
             let page = ChangedPage::new(number, Arc::try_clone(copy)?, mine);
             self.pages.push(page)?;
             self.count += u64::from(count);

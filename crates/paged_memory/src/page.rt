@@ -30,7 +30,6 @@ impl Model for Page {
 
 impl Page {
     /// A page of these bytes.
-    #[inline(always)]
     pub fn new(perm: Perm, bytes: [u8; PAGE_SIZE as usize]) -> Self
         ensures { result ≡ record { perm = perm; bytes = bytes } }
     {
@@ -45,17 +44,6 @@ impl Page {
         Page {
             perm,
             bytes: [0; PAGE_SIZE as usize],
-        }
-    }
-
-    /// The same page. Made in place, it is copied once, where `clone` goes through a `Result`.
-    #[inline(always)]
-    pub fn copied(&self) -> Self
-        ensures { result ≡ self.now }
-    {
-        Page {
-            perm: self.perm,
-            bytes: self.bytes,
         }
     }
 
@@ -151,6 +139,9 @@ impl Clone for Page {
     ghost is_infallible = { λ _. Unit {0} };
 
     fn clone(&self) -> Result<Self, AllocError> {
-        Ok(self.copied())
+        Ok(Page {
+            perm: self.perm,
+            bytes: self.bytes,
+        })
     }
 }

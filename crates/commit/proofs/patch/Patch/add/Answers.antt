@@ -18,7 +18,7 @@ overflow_add-self c =
 pub invariant_of-self-then-count-gt0 : goal.invariant_of-self-then-count-gt0
 invariant_of-self-then-count-gt0 c =
     let change : PageChange = record { number = c.args.number; copy = (arc_value c.args.copy.now).bytes; mine = c.args.mine.now.bytes } in
-    let page : c.new-page.result ≡ change = rw (c.new-page.ensures, c.in_ok-try_clone.ensures, c.in_ok-mine.ensures.ok, c.copied.ensures) refl in
+    let page : c.new-page.result ≡ change = rw (c.new-page.ensures, c.in_ok-try_clone.ensures, c.in_ok-mine.ensures.ok, c.in_ok-clone.ensures.cases) refl in
     let items : c.push.new.self.items ≡ c.self.inside.pages.items ++ change ∷ [] =
     c.in_ok-push.ensures.items ∙ ap (λ (one : PageChange). c.self.inside.pages.items ++ one ∷ []) page in
     let copied : c.bytes.result.now ≡ change.copy = c.bytes.ensures.bytes ∙ ap (λ (value : PageValue). value.bytes) c.deref.ensures in
@@ -30,7 +30,7 @@ invariant_of-self-then-count-gt0 c =
 pub returns-in_ok-push-clause-added : goal.returns-in_ok-push-clause-added
 returns-in_ok-push-clause-added c address =
     let change : PageChange = record { number = c.args.number; copy = (arc_value c.args.copy.now).bytes; mine = c.args.mine.now.bytes } in
-    let page : c.new-page.result ≡ change = rw (c.new-page.ensures, c.in_ok-try_clone.ensures, c.in_ok-mine.ensures.ok, c.copied.ensures) refl in
+    let page : c.new-page.result ≡ change = rw (c.new-page.ensures, c.in_ok-try_clone.ensures, c.in_ok-mine.ensures.ok, c.in_ok-clone.ensures.cases) refl in
     let items : c.push.new.self.items ≡ c.self.inside.pages.items ++ change ∷ [] =
     c.in_ok-push.ensures.items ∙ ap (λ (one : PageChange). c.self.inside.pages.items ++ one ∷ []) page in
     rw (items, ← c.self.view_is) (patched-more c.self.inside.pages.items change (rw c.self.view_is c.requires.below) address)
