@@ -1,6 +1,7 @@
 -- A commit changes a thread's row alone of the threads, and can be taken back.
 use Rattle.std.proofs.Common.{◌≡◌, ℕ, zero, suc, ◌<◌, true, Option, Some, None, List, [], ◌∷◌, length, slice_get, slice_set, unwrap_or, refl, ap, sym, ◌∙◌, arith, length-set, subst}
 use Rattle.guest_memory.specs.Memory.{Memory}
+use Rattle.commit.specs.ByteMap.{ByteMap}
 use Rattle.hart.specs.HartState.{HartState}
 use Rattle.ecalls.specs.Request.{call_of}
 use Rattle.thread_table.specs.Status.{is_ready}
@@ -38,7 +39,7 @@ with_thread_there threads n row made is = ap (with_thread_by threads n made) is
 pub row_is : (state : State) (n : ℕ) (row : Thread) → slice_get state.threads n ≡ Some row → row_of state n ≡ row
 row_is state n row is = ap (λ place. unwrap_or place blank) is
 
-pub committed_row : (state : State) (thread : ℕ) (bytes : ℕ → Option ℕ) (hart : HartState) (executed : ℕ) → thread < length state.threads
+pub committed_row : (state : State) (thread : ℕ) (bytes : ByteMap) (hart : HartState) (executed : ℕ) → thread < length state.threads
     → row_of (committed_bytes state thread bytes hart executed) thread ≡ record (row_of state thread) { hart = hart; executed = executed }
 unfolding committed_bytes
 committed_row state thread bytes hart executed below =
@@ -48,13 +49,13 @@ committed_row state thread bytes hart executed below =
     ∙ ap (λ place. unwrap_or place blank) (slice_get-itself state.threads thread (made found.0) found.0 found.1)
     ∙ ap made (sym (row_is state thread found.0 found.1))
 
-pub committed_len : (state : State) (thread : ℕ) (bytes : ℕ → Option ℕ) (hart : HartState) (executed : ℕ)
+pub committed_len : (state : State) (thread : ℕ) (bytes : ByteMap) (hart : HartState) (executed : ℕ)
     → length (committed_bytes state thread bytes hart executed).threads ≡ length state.threads
 unfolding committed_bytes
 committed_len state thread bytes hart executed = length-with_thread state.threads thread (λ row. record row { hart = hart; executed = executed })
 
 -- a commit taken back
-pub taken_back : (state : State) (thread : ℕ) (bytes : ℕ → Option ℕ) (hart : HartState) (executed : ℕ) (memory : Memory) (row : Thread)
+pub taken_back : (state : State) (thread : ℕ) (bytes : ByteMap) (hart : HartState) (executed : ℕ) (memory : Memory) (row : Thread)
     → slice_get state.threads thread ≡ Some row → memory ≡ state.memory
     → record (committed_bytes state thread bytes hart executed) { memory = memory; threads = slice_set (committed_bytes state thread bytes hart executed).threads thread row } ≡ state
 unfolding committed_bytes
@@ -67,25 +68,25 @@ taken_back state thread bytes hart executed memory row is same =
     first ∙ ap (λ (rows : List Thread). record state { threads = rows }) threads
 
 -- the thread is there after the commit, and ready
-pub there_after : (after state : State) (thread : ℕ) (bytes : ℕ → Option ℕ) (hart : HartState) (executed : ℕ) → thread < length state.threads
+pub there_after : (after state : State) (thread : ℕ) (bytes : ByteMap) (hart : HartState) (executed : ℕ) → thread < length state.threads
     → after ≡ committed_bytes state thread bytes hart executed → thread < length after.threads
 there_after after state thread bytes hart executed below is =
     subst (λ (after : State). thread < length after.threads) (sym is) (subst (λ n. thread < n) (sym (committed_len state thread bytes hart executed)) below)
 
-pub ready_after : (after state : State) (thread : ℕ) (bytes : ℕ → Option ℕ) (hart : HartState) (executed : ℕ) → thread < length state.threads
+pub ready_after : (after state : State) (thread : ℕ) (bytes : ByteMap) (hart : HartState) (executed : ℕ) → thread < length state.threads
     → is_ready (row_of state thread).status ≡ true → after ≡ committed_bytes state thread bytes hart executed → is_ready (row_of after thread).status ≡ true
 ready_after after state thread bytes hart executed below ready is =
     ap (λ (after : State). is_ready (row_of after thread).status) is ∙ ap (λ row. is_ready row.status) (committed_row state thread bytes hart executed below) ∙ ready
 
 -- what the call comes to, from the state after the commit
-pub committed_effect : (after : State) (state : State) (thread : ℕ) (bytes : ℕ → Option ℕ) (hart : HartState) (executed : ℕ) → thread < length state.threads
+pub committed_effect : (after : State) (state : State) (thread : ℕ) (bytes : ByteMap) (hart : HartState) (executed : ℕ) → thread < length state.threads
     → after ≡ committed_bytes state thread bytes hart executed → called after thread ≡ commit_then_call state thread bytes hart executed
 committed_effect after state thread bytes hart executed below is =
     ap (λ (after : State). called after thread) is
     ∙ ap (λ (row : Thread). effect (committed_bytes state thread bytes hart executed) thread (call_of row.hart)) (committed_row state thread bytes hart executed below)
 
 -- the hart of a thread after its commit
-pub committed_hart : (after state : State) (thread : ℕ) (bytes : ℕ → Option ℕ) (hart : HartState) (executed : ℕ) → thread < length state.threads
+pub committed_hart : (after state : State) (thread : ℕ) (bytes : ByteMap) (hart : HartState) (executed : ℕ) → thread < length state.threads
     → after ≡ committed_bytes state thread bytes hart executed → (row_of after thread).hart ≡ hart
 committed_hart after state thread bytes hart executed below is =
     ap (λ (after : State). (row_of after thread).hart) is ∙ ap (λ (row : Thread). row.hart) (committed_row state thread bytes hart executed below)

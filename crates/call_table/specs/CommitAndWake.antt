@@ -1,5 +1,6 @@
 -- What a commit and a wake make of the state.
-use Rattle.std.specs.Prelude.{ℕ, Option, None}
+use Rattle.std.specs.Prelude.{ℕ, None}
+use Rattle.commit.specs.ByteMap.{ByteMap}
 use Rattle.commit.specs.Merge.{with_changes}
 use Rattle.condvar_barrier.specs.Rows.{take_back}
 use Rattle.hart.specs.HartState.{HartState}
@@ -7,7 +8,7 @@ use Rattle.call_table.specs.State.{State, with_thread}
 use Rattle.call_table.specs.Effects.{completed}
 
 -- the commit of some changed bytes, where the thread then has this hart and count
-unfoldable pub committed_bytes : State → ℕ → (ℕ → Option ℕ) → HartState → ℕ → State
+unfoldable pub committed_bytes : State → ℕ → ByteMap → HartState → ℕ → State
 committed_bytes state thread bytes hart executed =
     record state {
       memory = with_changes bytes state.memory;

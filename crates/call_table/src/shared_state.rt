@@ -32,7 +32,6 @@ impl SharedState {
     ghost use Rattle.call_table.specs.CommitAndWake.{after_wake, committed_bytes};
     ghost use Rattle.call_table.specs.Called.{commit_then_call};
     ghost use Rattle.call_table.specs.Shared.{state_of, input_of};
-    ghost use Rattle.commit.specs.Patched.{patched};
 
     /// The state where thread 0 is about to begin at an entry, with this memory and this input.
     pub fn new(alloc: Global, memory: Snapshot, entry: u32, input: Vec<u8>) -> Self
@@ -94,7 +93,7 @@ impl SharedState {
     ) -> Result<(), AllocError>
         requires made { thread < length (state_of self.old).threads }
         requires ready { is_ready (row_of (state_of self.old) thread).status ≡ true }
-        ensures committed { OnOk result (state_of self.new ≡ committed_bytes (state_of self.old) thread (patched patch.now) hart executed) }
+        ensures committed { OnOk result (state_of self.new ≡ committed_bytes (state_of self.old) thread patch.now hart executed) }
         ensures kept { OnErr result (state_of self.new ≡ state_of self.old) }
         ensures input { input_of self.new ≡ input_of self.old }
     {
@@ -112,8 +111,8 @@ impl SharedState {
     ) -> Result<Reply, AllocError>
         requires made { thread < length (state_of self.old).threads }
         requires ready { is_ready (row_of (state_of self.old) thread).status ≡ true }
-        ensures reply { IfOk result (λ reply. reply ≡ (commit_then_call (state_of self.old) thread (patched patch.now) hart executed).reply) }
-        ensures settled { OnOk result (state_of self.new ≡ settled thread (commit_then_call (state_of self.old) thread (patched patch.now) hart executed)) }
+        ensures reply { IfOk result (λ reply. reply ≡ (commit_then_call (state_of self.old) thread patch.now hart executed).reply) }
+        ensures settled { OnOk result (state_of self.new ≡ settled thread (commit_then_call (state_of self.old) thread patch.now hart executed)) }
         ensures kept { OnErr result (state_of self.new ≡ state_of self.old) }
         ensures input { input_of self.new ≡ input_of self.old }
     {

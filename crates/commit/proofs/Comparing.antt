@@ -5,36 +5,38 @@ use Rattle.std.proofs.lemmas.Bool.{cases_eq, cases_lt, ne_eqb}
 use Rattle.std.proofs.lemmas.List.{get_or_default}
 use Rattle.std.proofs.Math.Path.{fun_ext}
 use Rattle.guest_memory.specs.Layout.{page_of}
+use Rattle.guest_memory.specs.Memory.{Memory}
 use Rattle.paged_memory.specs.Page.{PageValue}
 use Rattle.paged_memory.specs.PageMap.{PageMap, memory_of_pages}
-use Rattle.commit.specs.Merge.{changed_byte, changes}
+use Rattle.commit.specs.ByteMap.{byte_map}
+use Rattle.commit.specs.Merge.{changed_byte, change_at, changes}
 use Rattle.commit.specs.Patched.{PageChange, patched, AreBelow, numbers_of}
 use Rattle.commit.proofs.Growing.{increasing-apart}
 use Rattle.commit.proofs.Patching.{patched-none, patched-past}
 
 module _ (base view : PageMap) where
   -- what differs at an address of a page that both map, and of one that one of them doesn't map
-  pub changes-mapped : (address : ℕ) (copy mine : PageValue) → base (page_of address) ≡ Some copy → view (page_of address) ≡ Some mine →
-      changes (memory_of_pages base) (memory_of_pages view) address ≡ changed_byte (slice_index copy.bytes (address % 4096)) (slice_index mine.bytes (address % 4096))
-  unfolding changes memory_of_pages
-  changes-mapped address copy mine found found' = rw (found, found') refl
+  pub change_at-mapped : (address : ℕ) (copy mine : PageValue) → base (page_of address) ≡ Some copy → view (page_of address) ≡ Some mine →
+      change_at (memory_of_pages base) (memory_of_pages view) address ≡ changed_byte (slice_index copy.bytes (address % 4096)) (slice_index mine.bytes (address % 4096))
+  unfolding change_at memory_of_pages
+  change_at-mapped address copy mine found found' = rw (found, found') refl
 
-  pub changes-unmapped : (address : ℕ) → (base (page_of address) ≡ None) ⊎ (view (page_of address) ≡ None) →
-      changes (memory_of_pages base) (memory_of_pages view) address ≡ None
-  unfolding changes memory_of_pages
-  changes-unmapped address (inl unmapped) = rw unmapped refl
-  changes-unmapped address (inr unmapped) = rw unmapped (either (base (page_of address)))
+  pub change_at-unmapped : (address : ℕ) → (base (page_of address) ≡ None) ⊎ (view (page_of address) ≡ None) →
+      change_at (memory_of_pages base) (memory_of_pages view) address ≡ None
+  unfolding change_at memory_of_pages
+  change_at-unmapped address (inl unmapped) = rw unmapped refl
+  change_at-unmapped address (inr unmapped) = rw unmapped (either (base (page_of address)))
     where
       either : (page : Option PageValue) →
-          changes (memory_of_pages (λ _. page)) (memory_of_pages (λ _. None)) address ≡ None
+          change_at (memory_of_pages (λ _. page)) (memory_of_pages (λ _. None)) address ≡ None
       either None = refl
       either (Some page) = refl
 
-  pub changes-same : (address : ℕ) → view (page_of address) ≡ base (page_of address) → changes (memory_of_pages base) (memory_of_pages view) address ≡ None
-  unfolding changes memory_of_pages
-  changes-same address same = rw same (either (base (page_of address)))
+  pub change_at-same : (address : ℕ) → view (page_of address) ≡ base (page_of address) → change_at (memory_of_pages base) (memory_of_pages view) address ≡ None
+  unfolding change_at memory_of_pages
+  change_at-same address same = rw same (either (base (page_of address)))
     where
-      either : (page : Option PageValue) → changes (memory_of_pages (λ _. page)) (memory_of_pages (λ _. page)) address ≡ None
+      either : (page : Option PageValue) → change_at (memory_of_pages (λ _. page)) (memory_of_pages (λ _. page)) address ≡ None
       either None = refl
       either (Some page) = rw (eq-eqb (slice_index page.bytes (address % 4096)) (slice_index page.bytes (address % 4096)) refl) refl
 
@@ -77,7 +79,7 @@ among numbers number (suc count) =
 pub record Compares (base view : PageMap) (dirty : List ℕ) (patch : List PageChange) (done : ℕ) : Type 0 where
   pub below : (later : ℕ) → done ≤ later → later < length dirty → AreBelow patch (slice_index dirty later)
   pub same : (address place : ℕ) → place < done → slice_index dirty place ≡ page_of address →
-      patched patch address ≡ changes (memory_of_pages base) (memory_of_pages view) address
+      patched patch address ≡ change_at (memory_of_pages base) (memory_of_pages view) address
   pub none : (address : ℕ) → ((place : ℕ) → place < done → slice_index dirty place ≢ page_of address) → patched patch address ≡ None
 
 module _ (base view : PageMap) (dirty : List ℕ) where
@@ -91,7 +93,7 @@ module _ (base view : PageMap) (dirty : List ℕ) where
   -- the next page is compared
   pub Compares-more : (patch new : List PageChange) (done : ℕ) → Compares base view dirty patch done → IsStrictlyIncreasing dirty → done < length dirty →
       ((address : ℕ) → patched new address
-      ≡ cond (slice_index dirty done == page_of address) (changes (memory_of_pages base) (memory_of_pages view) address) (patched patch address)) →
+      ≡ cond (slice_index dirty done == page_of address) (change_at (memory_of_pages base) (memory_of_pages view) address) (patched patch address)) →
       AreBelow new (slice_index dirty done + 1) → Compares base view dirty new (done + 1)
   Compares-more patch new done before ascending inside compared lower = record {
     below = λ later first within place known.
@@ -117,12 +119,17 @@ module _ (base view : PageMap) (dirty : List ℕ) where
   -- all pages, where the two have the same page of each other number
   pub Compares-all : (patch : List PageChange) → Compares base view dirty patch (length dirty) →
       ((number : ℕ) → ((place : ℕ) → place < length dirty → slice_index dirty place ≢ number) → view number ≡ base number) →
-      patched patch ≡ changes (memory_of_pages base) (memory_of_pages view)
+      patched patch ≡ change_at (memory_of_pages base) (memory_of_pages view)
   Compares-all patch all others = fun_ext (λ address.
       elim (among dirty (page_of address) (length dirty)) [
         | inl found ↦ all.same address found.0 found.1 found.2
-        | inr none ↦ all.none address none ∙ sym (changes-same base view address (others (page_of address) none))
+        | inr none ↦ all.none address none ∙ sym (change_at-same base view address (others (page_of address) none))
       ])
+
+-- the map of what two memories differ in is their changes
+pub changes-are : (copy mine : Memory) (byte_at : ℕ → Option ℕ) → byte_at ≡ change_at copy mine → byte_map byte_at ≡ changes copy mine
+unfolding changes
+changes-are copy mine byte_at same = ap byte_map same
 
 -- a number that a list contains stands at a place of it
 pub stands : (numbers : List ℕ) (number : ℕ) → Contains numbers number → (place : ℕ) × (place < length numbers) × (slice_index numbers place ≡ number)

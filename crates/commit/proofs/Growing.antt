@@ -6,11 +6,11 @@ use Rattle.std.proofs.lemmas.List.{map-append, take-map, get_or-take, get_or-map
 use Rattle.guest_memory.specs.Layout.{page_of}
 use Rattle.commit.specs.Bytes.{differing_count}
 use Rattle.commit.specs.Merge.{changed_byte}
-use Rattle.commit.specs.Changed.{all_addresses, addresses_of}
-use Rattle.commit.specs.Patched.{PageChange, byte_of_change, addresses_in, patched, AreBelow, numbers_of, IsPatch}
+use Rattle.commit.specs.ByteMap.{all_addresses}
+use Rattle.commit.specs.Patched.{PageChange, byte_of_change, addresses_in, addresses_with, patched, AreBelow, numbers_of, AreCounted}
 use Rattle.commit.proofs.Blocks.{length-differing_from}
 use Rattle.commit.proofs.Counting.{passing, passing-none, length-passing-small}
-use Rattle.commit.proofs.Patching.{is_patched, patched-none, patched-here, patched-elsewhere, addresses_of-more}
+use Rattle.commit.proofs.Patching.{is_patched, patched-none, patched-here, patched-elsewhere, addresses_with-more}
 
 -- ascending numbers, not only neighbours
 pub increasing-apart : (numbers : List ℕ) → IsStrictlyIncreasing numbers → (place later : ℕ) → place < later → later < length numbers →
@@ -79,12 +79,12 @@ module _ (patch : List PageChange) (change : PageChange) where
       ]
 
   -- a sound patch with one page more
-  pub IsPatch-more : (count : ℕ) → IsPatch patch count → AreBelow patch change.number → change.number < 2 ^ 20 →
-      length change.copy ≡ 4096 → length change.mine ≡ 4096 → IsPatch (patch ++ change ∷ []) (count + differing_count change.copy change.mine)
-  IsPatch-more count sound below small size size' =
-      let more = addresses_of-more patch change below small size size' in
-      let joined : length (addresses_of (patched (patch ++ change ∷ []))) ≡ length (addresses_of (patched patch)) + length (addresses_in change) =
-      ap length more ∙ length-append (addresses_of (patched patch)) (addresses_in change) in
+  pub AreCounted-more : (count : ℕ) → AreCounted patch count → AreBelow patch change.number → change.number < 2 ^ 20 →
+      length change.copy ≡ 4096 → length change.mine ≡ 4096 → AreCounted (patch ++ change ∷ []) (count + differing_count change.copy change.mine)
+  AreCounted-more count sound below small size size' =
+      let more = addresses_with-more patch change below small size size' in
+      let joined : length (addresses_with (patched (patch ++ change ∷ []))) ≡ length (addresses_with (patched patch)) + length (addresses_in change) =
+      ap length more ∙ length-append (addresses_with (patched patch)) (addresses_in change) in
       let here = length-differing_from (4096 * change.number) change.copy change.mine in
       let old = sound.counted in
       record { ascending = IsStrictlyIncreasing-more sound.ascending below; counted = omega arith }
@@ -99,18 +99,18 @@ module _ (patch : List PageChange) (change : PageChange) where
       ]
 
 -- the addresses of a patch without pages
-pub addresses_of-none : addresses_of (patched []) ≡ []
+pub addresses_with-none : addresses_with (patched []) ≡ []
 unfolding all_addresses passing
-addresses_of-none = passing-none (is_patched []) 0 (2 ^ 32) (λ address above below. ap is_some (patched-none address))
+addresses_with-none = passing-none (is_patched []) 0 (2 ^ 32) (λ address above below. ap is_some (patched-none address))
 
 -- a patch without pages is sound
-pub IsPatch-none : IsPatch [] 0
-IsPatch-none = record { ascending = λ place inside. absurd (omega arith); counted = ap length (sym addresses_of-none) }
+pub AreCounted-none : AreCounted [] 0
+AreCounted-none = record { ascending = λ place inside. absurd (omega arith); counted = ap length (sym addresses_with-none) }
 
 -- a patch has at most all addresses
-pub length-addresses_of : (bytes : ℕ → Option ℕ) → length (addresses_of bytes) ≤ 2 ^ 32
+pub length-addresses_with : (bytes : ℕ → Option ℕ) → length (addresses_with bytes) ≤ 2 ^ 32
 unfolding all_addresses passing
-length-addresses_of bytes = length-passing-small (λ address. is_some (bytes address)) 0 (2 ^ 32)
+length-addresses_with bytes = length-passing-small (λ address. is_some (bytes address)) 0 (2 ^ 32)
 
 -- two lists whose bytes don't differ
 pub changed_byte-none : (copy mine : List ℕ) → length copy ≡ length mine → differing_count copy mine ≡ 0 → (index : ℕ) →

@@ -1,8 +1,9 @@
 mod Blocks
+mod Groups
 mod Counting
 mod Patching
+mod ByteMaps
 mod Merges
 mod Growing
 mod Comparing
 mod Viewed
-pub mod Commits

@@ -1,14 +1,16 @@
-use Rattle.std.proofs.Common.{◌≡◌, ◌≢◌, ℕ, zero, suc, ◌+◌, ◌%◌, ◌==◌, Bool, true, false, cond, Option, Some, None, List, [], ◌∷◌, ◌++◌, length, refl, sym, ◌∙◌, ap, arith, inl, inr, eq-eqb}
+use Rattle.std.proofs.Common.{◌≡◌, ◌≢◌, ℕ, zero, suc, ◌+◌, ◌%◌, ◌^◌, ◌≤◌, ◌==◌, Bool, true, false, cond, Option, Some, None, List, [], ◌∷◌, ◌++◌, length, refl, sym, ◌∙◌, ap, arith, inl, inr, eq-eqb}
 use Rattle.std.specs.Prelude.{slice_index, unwrap_or, option_map}
-use Rattle.std.proofs.lemmas.Bool.{cases_eq, ne_eqb}
+use Rattle.std.proofs.lemmas.Bool.{cases_eq, cases_lt, ne_eqb}
 use Rattle.std.proofs.Math.Path.{fun_ext}
 use Rattle.guest_memory.specs.Memory.{Cell, Memory}
 use Rattle.guest_memory.specs.Layout.{page_of}
 use Rattle.paged_memory.specs.Page.{PageValue}
 use Rattle.paged_memory.specs.PageMap.{PageMap, memory_of_pages, with_page}
 use Rattle.commit.specs.Bytes.{differing_count, merged_bytes}
-use Rattle.commit.specs.Merge.{changed_byte, with_changes}
+use Rattle.commit.specs.ByteMap.{byte_map}
+use Rattle.commit.specs.Merge.{changed_byte, with_bytes, with_changes}
 use Rattle.commit.specs.Patched.{PageChange, byte_of_change, patched, AreBelow}
+use Rattle.commit.proofs.ByteMaps.{get-byte_map}
 use Rattle.commit.proofs.Patching.{patched-none, patched-past, patched-here, patched-elsewhere}
 
 -- a byte of merged bytes
@@ -59,16 +61,26 @@ unchanged : (cell : Option Cell) (byte : Option ℕ) → byte ≡ None → optio
 unchanged None byte none = refl
 unchanged (Some cell) byte none = rw none refl
 
+-- the changes of a map made of a function, where no address past the last is mapped
+pub with_changes-byte_map : (byte_at : ℕ → Option ℕ) (memory : Memory) → ((address : ℕ) → 2 ^ 32 ≤ address → memory address ≡ None) →
+    with_changes (byte_map byte_at) memory ≡ with_bytes byte_at memory
+unfolding with_bytes
+with_changes-byte_map byte_at memory none = fun_ext (λ address.
+    elim (cases_lt address (2 ^ 32)) [
+      | inl inside ↦ ap (λ byte. option_map (changed_cell byte) (memory address)) (get-byte_map byte_at address inside)
+      | inr past ↦ rw (none address past) refl
+    ])
+
 -- no changes
-pub with_changes-none : (memory : Memory) → with_changes (patched []) memory ≡ memory
-unfolding with_changes
-with_changes-none memory = fun_ext (λ address. unchanged (memory address) (patched [] address) (patched-none address))
+pub with_bytes-none : (memory : Memory) → with_bytes (patched []) memory ≡ memory
+unfolding with_bytes
+with_bytes-none memory = fun_ext (λ address. unchanged (memory address) (patched [] address) (patched-none address))
 
 -- the changes of one page more
-pub with_changes-more : (patch : List PageChange) (change : PageChange) (memory : Memory) → AreBelow patch change.number →
-    with_changes (patched (change ∷ [])) (with_changes (patched patch) memory) ≡ with_changes (patched (patch ++ change ∷ [])) memory
-unfolding with_changes
-with_changes-more patch change memory below = fun_ext (λ address.
+pub with_bytes-more : (patch : List PageChange) (change : PageChange) (memory : Memory) → AreBelow patch change.number →
+    with_bytes (patched (change ∷ [])) (with_bytes (patched patch) memory) ≡ with_bytes (patched (patch ++ change ∷ [])) memory
+unfolding with_bytes
+with_bytes-more patch change memory below = fun_ext (λ address.
     elim (cases_eq change.number (page_of address)) [
       | inl here ↦
           rw (
@@ -101,8 +113,8 @@ module _ (pages : PageMap) (change : PageChange) where
   -- the memory of some pages of which one is merged, and of pages that don't have it
   pub memory-merged : (page : PageValue) → pages change.number ≡ Some page → length page.bytes ≡ 4096 → length change.copy ≡ 4096 → length change.mine ≡ 4096 →
       memory_of_pages (with_page change.number (λ _. Some (record { perm = page.perm; bytes = merged_bytes page.bytes change.copy change.mine })) pages)
-      ≡ with_changes (patched (change ∷ [])) (memory_of_pages pages)
-  unfolding memory_of_pages with_page with_changes
+      ≡ with_bytes (patched (change ∷ [])) (memory_of_pages pages)
+  unfolding memory_of_pages with_page with_bytes
   memory-merged page mapped size size' size'' = fun_ext (λ address.
       elim (cases_eq change.number (page_of address)) [
         | inl here ↦
@@ -115,8 +127,8 @@ module _ (pages : PageMap) (change : PageChange) where
             (sym (unchanged (memory_of_pages pages address) (patched (change ∷ []) address) (alone-elsewhere change address other)))
       ])
 
-  pub memory-dropped : pages change.number ≡ None → with_changes (patched (change ∷ [])) (memory_of_pages pages) ≡ memory_of_pages pages
-  unfolding memory_of_pages with_changes
+  pub memory-dropped : pages change.number ≡ None → with_bytes (patched (change ∷ [])) (memory_of_pages pages) ≡ memory_of_pages pages
+  unfolding memory_of_pages with_bytes
   memory-dropped unmapped = fun_ext (λ address.
       elim (cases_eq change.number (page_of address)) [
         | inl here ↦ (let found : pages (page_of address) ≡ None = ap pages (sym here) ∙ unmapped in rw found refl)

@@ -4,8 +4,8 @@ use Rattle.std.proofs.lemmas.Bool.{ne_eqb}
 use Rattle.std.proofs.lemmas.List.{append-nil}
 use Rattle.guest_memory.specs.Layout.{page_of}
 use Rattle.commit.specs.Merge.{changed_byte}
-use Rattle.commit.specs.Changed.{all_addresses, addresses_of}
-use Rattle.commit.specs.Patched.{PageChange, byte_of_change, addresses_in, patched, AreBelow}
+use Rattle.commit.specs.ByteMap.{all_addresses}
+use Rattle.commit.specs.Patched.{PageChange, byte_of_change, addresses_in, addresses_with, patched, AreBelow}
 use Rattle.commit.proofs.Counting.{passing, passing-append, passing-same, passing-none, passing-differing}
 
 -- a patch without pages
@@ -90,7 +90,7 @@ module _ (patch : List PageChange) (change : PageChange) (below : AreBelow patch
       passing (is_patched (patch ++ change ∷ [])) 0 total ≡ passing (is_patched patch) 0 total ++ addresses_with_byte change
   parts-all rest total whole = rw (← whole, parts-new rest, parts-old rest) refl
 
-  addresses-more : change.number < 2 ^ 20 → addresses_of (patched (patch ++ change ∷ [])) ≡ addresses_of (patched patch) ++ addresses_with_byte change
+  addresses-more : change.number < 2 ^ 20 → addresses_with (patched (patch ++ change ∷ [])) ≡ addresses_with (patched patch) ++ addresses_with_byte change
   unfolding all_addresses passing
   addresses-more small = parts-all (2 ^ 32 - 4096 - 4096 * change.number) (2 ^ 32) (omega arith)
 
@@ -110,7 +110,7 @@ addresses_with_byte-are change size size' =
     rw size at are
 
 -- the addresses of a patch with one page more
-pub addresses_of-more : (patch : List PageChange) (change : PageChange) → AreBelow patch change.number → change.number < 2 ^ 20 →
-    length change.copy ≡ 4096 → length change.mine ≡ 4096 → addresses_of (patched (patch ++ change ∷ [])) ≡ addresses_of (patched patch) ++ addresses_in change
-addresses_of-more patch change below small size size' =
-    addresses-more patch change below small ∙ ap (λ here. addresses_of (patched patch) ++ here) (addresses_with_byte-are change size size')
+pub addresses_with-more : (patch : List PageChange) (change : PageChange) → AreBelow patch change.number → change.number < 2 ^ 20 →
+    length change.copy ≡ 4096 → length change.mine ≡ 4096 → addresses_with (patched (patch ++ change ∷ [])) ≡ addresses_with (patched patch) ++ addresses_in change
+addresses_with-more patch change below small size size' =
+    addresses-more patch change below small ∙ ap (λ here. addresses_with (patched patch) ++ here) (addresses_with_byte-are change size size')

@@ -1,3 +1,4 @@
+pub mod ByteMap
 pub mod Bytes
 pub mod Changed
 pub mod Merge

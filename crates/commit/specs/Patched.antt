@@ -1,11 +1,11 @@
-use Rattle.std.specs.Prelude.{◌≡◌, ℕ, ◌*◌, ◌%◌, ◌<◌, ◌==◌, if◌then◌else◌, Option, None, List, [], ◌∷◌, length, slice_index, map}
+use Rattle.std.specs.Prelude.{◌≡◌, ℕ, ◌*◌, ◌%◌, ◌<◌, ◌==◌, if◌then◌else◌, Option, None, List, [], ◌∷◌, length, slice_index, map, filter, is_some}
 use Rattle.std.specs.List.Sorted.{IsStrictlyIncreasing}
 use Rattle.guest_memory.specs.Layout.{page_of, page_size}
+use Rattle.commit.specs.ByteMap.{all_addresses}
 use Rattle.commit.specs.Bytes.{differing_from}
 use Rattle.commit.specs.Merge.{changed_byte}
-use Rattle.commit.specs.Changed.{addresses_of}
 
--- what a patch has of a page: its number, and the bytes of its two copies
+-- what is kept of a page: its number, and the bytes of its two copies
 pub record PageChange : Type 0 where
   pub number : ℕ
   pub copy : List ℕ
@@ -19,20 +19,24 @@ byte_of_change change address = changed_byte (slice_index change.copy (address %
 abbrev pub addresses_in : PageChange → List ℕ
 addresses_in change = differing_from (page_size * change.number) change.copy change.mine
 
--- A patch as a map from address to byte: the byte that the change of the address's page has there, or none.
+-- the byte that the changes of some pages have at an address: that of the address's page, or none
 unfoldable pub patched : List PageChange → ℕ → Option ℕ
 patched [] address = None
 patched (change ∷ rest) address = if change.number == page_of address then byte_of_change change address else patched rest address
 
--- the page numbers of a patch
+-- the addresses at which a function gives a byte, ascending
+abbrev pub addresses_with : (ℕ → Option ℕ) → List ℕ
+addresses_with byte_at = filter (λ address. is_some (byte_at address)) all_addresses
+
+-- the numbers of some pages
 abbrev pub numbers_of : List PageChange → List ℕ
-numbers_of patch = map (λ change. change.number) patch
+numbers_of pages = map (λ change. change.number) pages
 
--- all page numbers of a patch are below another
+-- all page numbers are below another
 abbrev pub AreBelow : List PageChange → ℕ → Type 0
-AreBelow patch bound = (place : ℕ) → place < length patch → slice_index (numbers_of patch) place < bound
+AreBelow pages bound = (place : ℕ) → place < length pages → slice_index (numbers_of pages) place < bound
 
--- What holds of a patch: its pages ascend, and the count is that of its addresses.
-pub record IsPatch (patch : List PageChange) (count : ℕ) : Type 0 where
-  pub ascending : IsStrictlyIncreasing (numbers_of patch)
-  pub counted : count ≡ length (addresses_of (patched patch))
+-- What holds of the changed pages of a patch: they ascend, and the count is that of the addresses that they have a byte at.
+pub record AreCounted (pages : List PageChange) (count : ℕ) : Type 0 where
+  pub ascending : IsStrictlyIncreasing (numbers_of pages)
+  pub counted : count ≡ length (addresses_with (patched pages))

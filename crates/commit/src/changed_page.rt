@@ -31,7 +31,7 @@ impl Model for ChangedPage {
 }
 
 impl ChangedPage {
-    ghost use Rattle.commit.specs.Merge.{with_changes};
+    ghost use Rattle.commit.specs.Merge.{with_bytes};
     ghost use Rattle.commit.specs.Patched.{patched, addresses_in};
     ghost use Rattle.paged_memory.specs.Snapshot.{cells_of, pages_of};
 
@@ -44,7 +44,7 @@ impl ChangedPage {
 
     /// Merges it into the page of its number, where that is mapped. The pages stay when memory runs out.
     pub(crate) fn merge_into(&self, snapshot: &mut Snapshot) -> Result<(), AllocError>
-        ensures merged { OnOk result (cells_of snapshot.new ≡ with_changes (patched (self.now ∷ [])) (cells_of snapshot.old)) }
+        ensures merged { OnOk result (cells_of snapshot.new ≡ with_bytes (patched (self.now ∷ [])) (cells_of snapshot.old)) }
         ensures kept { OnErr result (pages_of snapshot.new ≡ pages_of snapshot.old) }
     {
         let Some(page) = snapshot.page(self.number) else {

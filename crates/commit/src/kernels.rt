@@ -1,8 +1,9 @@
-//! Two pages compared, and merged into a third, 32 bytes at a time.
+//! Two pages compared, and merged into a third, 32 bytes at a time. Bytes that are the same are passed over 128 at a
+//! time.
 #![tactic(auto, unfolding(crate::specs::Bytes::differing_count, crate::specs::Bytes::merged_bytes))]
 
-ghost use Rattle.std.specs.Prelude.{◌≡◌, ◌+◌, ◌^◌, ◌≤◌, ◌++◌, OnOk, length};
-ghost use Rattle.std.specs.Simd.Lanes.{chunk, put_chunk};
+ghost use Rattle.std.specs.Prelude.{◌≡◌, ◌+◌, ◌^◌, ◌≤◌, ◌++◌, OnOk, true, bit_xor, length};
+ghost use Rattle.std.specs.Simd.Lanes.{chunk, put_chunk, zip2};
 ghost use Rattle.commit.specs.Bytes.{differing_count, differing_from, merged_bytes};
 
 use guest_memory::layout::PAGE_SIZE;
@@ -15,16 +16,25 @@ const PAGE_BYTES: usize = PAGE_SIZE as usize;
 /// The bytes that are looked at together.
 const LANES: usize = 32;
 
-/// The groups of lanes in a page.
+/// The blocks of so many bytes in a page.
 const BLOCKS: usize = PAGE_BYTES / LANES;
+
+/// The blocks that are passed over together where nothing differs in them.
+const GROUP_BLOCKS: usize = 4;
+
+/// The bytes of such a group.
+const GROUP: usize = GROUP_BLOCKS * LANES;
+
+/// The groups in a page.
+const GROUPS: usize = PAGE_BYTES / GROUP;
 
 /// How many bytes of two pages differ.
 pub fn count_page(copy: &[u8; PAGE_BYTES], mine: &[u8; PAGE_BYTES]) -> u32
     ensures { result ≡ differing_count copy.now mine.now }
 {
     let mut count = 0;
-    for block in 0..BLOCKS {
-        count += count_block(copy, mine, block * LANES);
+    for group in 0..GROUPS {
+        count += count_group(copy, mine, group * GROUP);
     }
     count
 }
@@ -76,6 +86,45 @@ fn push_block(
         }
     }
     Ok(())
+}
+
+/// How many bytes of a group differ.
+#[inline(always)]
+fn count_group(copy: &[u8], mine: &[u8], at: usize) -> u32
+    requires copy { at + GROUP ≤ length copy.now }
+    requires mine { at + GROUP ≤ length mine.now }
+    ensures { result ≡ differing_count (chunk at GROUP copy.now) (chunk at GROUP mine.now) }
+{
+    if is_same(copy, mine, at) {
+        return 0;
+    }
+    let mut count = 0;
+    for block in 0..GROUP_BLOCKS {
+        count += count_block(copy, mine, at + block * LANES);
+    }
+    count
+}
+
+/// Whether no byte of a group differs.
+#[inline(always)]
+fn is_same(copy: &[u8], mine: &[u8], at: usize) -> bool
+    requires copy { at + GROUP ≤ length copy.now }
+    requires mine { at + GROUP ≤ length mine.now }
+    ensures { result ≡ true → differing_count (chunk at GROUP copy.now) (chunk at GROUP mine.now) ≡ 0 }
+{
+    let first = differences(copy, mine, at) | differences(copy, mine, at + LANES);
+    let last = differences(copy, mine, at + 2 * LANES) | differences(copy, mine, at + 3 * LANES);
+    (first | last).simd_ne(u8x32::splat(0)).to_bitmask() == 0
+}
+
+/// The bits that differ in a block.
+#[inline(always)]
+fn differences(copy: &[u8], mine: &[u8], at: usize) -> u8x32
+    requires copy { at + LANES ≤ length copy.now }
+    requires mine { at + LANES ≤ length mine.now }
+    ensures { result ≡ zip2 bit_xor (chunk at LANES copy.now) (chunk at LANES mine.now) }
+{
+    u8x32::from_slice(&copy[at..]) ^ u8x32::from_slice(&mine[at..])
 }
 
 /// How many bytes of a block differ.

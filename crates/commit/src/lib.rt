@@ -3,6 +3,7 @@
 #![tactic(auto)]
 
 mod changed_page;
+mod changed_pages;
 pub mod kernels;
 pub mod merging;
 pub mod patch;

@@ -4,7 +4,6 @@ use Rattle.guest_memory.specs.Memory.{Memory}
 use Rattle.paged_memory.specs.Snapshot.{cells_of}
 use Rattle.paged_memory.specs.declared.snapshot.Snapshot.{Snapshot}
 use Rattle.commit.specs.Merge.{changes}
-use Rattle.commit.specs.Patched.{patched}
 use Rattle.hart.specs.Segment.{Segment}
 use Rattle.parallel_phase.specs.declared.job.Job.{Job}
 use Rattle.parallel_phase.specs.declared.job_end.JobEnd.{JobEnd}
@@ -12,7 +11,7 @@ use Rattle.parallel_phase.specs.declared.job_end.JobEnd.{JobEnd}
 -- the end is that of the job's one segment on a copy of this memory, with exactly what that changed
 pub record IsJobEnd (copy : Memory) (job : Job) (end : JobEnd) : Type 0 where
   pub memory : Memory
-  pub patch : patched end.patch ≡ changes copy memory
+  pub patch : end.patch ≡ changes copy memory
   pub segment : Segment job.hart copy job.left job.quantum end.stop end.count end.hart memory
 
 -- a job that was run

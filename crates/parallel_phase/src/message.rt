@@ -30,10 +30,14 @@ pub struct Message<J: PhaseName> {
 
 impl<J: PhaseName> Model for Message<J> {
     ghost use Rattle.std.specs.Prelude.{Option};
+    ghost use Rattle.std.specs.Coded.{codes};
+    ghost use Rattle.commit.specs.contracts.patch.Patch as patch;
     ghost use Rattle.parallel_phase.specs.declared.drawn.Drawn.{Drawn};
     ghost use Rattle.parallel_phase.specs.Turns.{IsSent};
 
     ghost Value = { Option Drawn };
+
+    ghost coded = { Prim.hlevel (codes, patch.the_row.coded) };
 
     ghost view = { λ m. m.drawn };
 

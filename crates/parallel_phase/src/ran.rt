@@ -17,10 +17,14 @@ pub struct Ran {
 }
 
 impl Model for Ran {
+    ghost use Rattle.commit.specs.contracts.patch.Patch as patch;
     ghost use Rattle.paged_memory.specs.Snapshot.{cells_of};
     ghost use Rattle.parallel_phase.specs.Job.{RanState, IsJobEnd};
+    ghost use Rattle.std.specs.Coded.{codes};
 
     ghost Value = { RanState };
+
+    ghost coded = { Prim.hlevel (codes, patch.the_row.coded) };
 
     ghost view = { λ r. record { number = r.number; job = r.job; base = r.base; end = r.end } };
 

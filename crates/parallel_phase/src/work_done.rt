@@ -18,9 +18,13 @@ pub struct WorkDone {
 
 impl Model for WorkDone {
     ghost use Rattle.std.specs.Prelude.{◌≡◌, false, is_some};
+    ghost use Rattle.std.specs.Coded.{codes};
+    ghost use Rattle.commit.specs.contracts.patch.Patch as patch;
     ghost use Rattle.parallel_phase.specs.Work.{WorkState, AreOutcomes};
 
     ghost Value = { WorkState };
+
+    ghost coded = { Prim.hlevel (codes, patch.the_row.coded) };
 
     ghost view = { λ w. record { seat = w.seat; outcomes = w.outcomes.items; refused = is_some w.refused } };
 

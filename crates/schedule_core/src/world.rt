@@ -21,9 +21,13 @@ pub struct World {
 }
 
 impl Model for World {
+    ghost use Rattle.std.specs.Coded.{codes};
+    ghost use Rattle.commit.specs.contracts.patch.Patch as patch;
     ghost use Rattle.schedule_core.specs.declared.stage.Stage.{Stage as Stored};
 
     ghost Value = { Stored };
+
+    ghost coded = { Prim.hlevel (codes, patch.the_row.coded) };
 
     ghost use Rattle.schedule_core.specs.Stage.{IsSound};
 

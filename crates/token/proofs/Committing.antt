@@ -1,6 +1,7 @@
 -- A commit changes a thread's row alone of the threads, and can be taken back.
 use Rattle.std.proofs.Common.{◌≡◌, ℕ, zero, suc, ◌<◌, Bool, true, false, ◌&&◌, Option, Some, None, List, [], ◌∷◌, length, take, slice_get, refl, ap, sym, subst, arith}
 use Rattle.std.specs.List.{list_all}
+use Rattle.commit.specs.ByteMap.{ByteMap}
 use Rattle.hart.specs.HartState.{HartState}
 use Rattle.hart.specs.declared.stop.Stop.{Stop}
 use Rattle.thread_table.specs.declared.thread.Thread.{Thread}
@@ -13,7 +14,7 @@ use Rattle.token.proofs.Statuses.{after_stop_kept}
 use Rattle.call_table.proofs.Committing.{committed_len, length-with_thread}
 
 -- the thread of a turn is there after it
-pub run_there : (state : State) (thread : ℕ) (bytes : ℕ → Option ℕ) (hart : HartState) (executed : ℕ) (stop : Stop) → thread < length state.threads
+pub run_there : (state : State) (thread : ℕ) (bytes : ByteMap) (hart : HartState) (executed : ℕ) (stop : Stop) → thread < length state.threads
     → thread < length (after_stop (committed_bytes state thread bytes hart executed) thread hart stop).state.threads
 run_there state thread bytes hart executed stop below =
     let same = committed_len state thread bytes hart executed in

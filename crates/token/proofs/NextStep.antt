@@ -3,9 +3,9 @@ use Rattle.std.proofs.Common.{◌≡◌, ℕ, zero, suc, ◌+◌, ◌-◌, ◌�
 use Rattle.std.proofs.lemmas.Bool.{cases_lt, cases_eq, eq-eqb}
 use Rattle.call_table.specs.CommitAndWake.{committed_bytes}
 use Rattle.call_table.specs.State.{State, row_of}
+use Rattle.commit.specs.ByteMap.{ByteMap}
 use Rattle.commit.specs.Changed.{addresses_of}
 use Rattle.commit.specs.Merge.{changes}
-use Rattle.commit.specs.Patched.{patched}
 use Rattle.guest_memory.specs.Memory.{Memory}
 use Rattle.hart.specs.HartState.{HartState}
 use Rattle.hart.specs.Next.{Next, next}
@@ -70,7 +70,7 @@ abbrev ran_of : SegmentEnd → Memory → Ran
 ran_of end memory = record { hart = end.hart; memory = memory; stop = end.stop; count = end.count }
 
 -- the step by the bytes that the thread changed
-abbrev step_by_bytes : State → ℕ → ℕ → ℕ → ℕ → (ℕ → Option ℕ) → SegmentEnd → Step
+abbrev step_by_bytes : State → ℕ → ℕ → ℕ → ℕ → ByteMap → SegmentEnd → Step
 step_by_bytes state phase thread number executed bytes end =
     let stopped : Stopped = after_stop (committed_bytes state thread bytes end.hart (executed + end.count)) thread end.hart end.stop in
     let addresses : List ℕ = addresses_of bytes in
@@ -86,7 +86,7 @@ unfolding run_step committed committed_bytes
 by_bytes state phase thread number copy executed end memory = refl
 
 same_step : (point : Point) (history : History) → StandsAfter point history → (who : Due) (end : SegmentEnd) (memory : Memory)
-    → patched end.patch ≡ changes (base_at point who).memory memory
+    → end.patch ≡ changes (base_at point who).memory memory
     → let number : ℕ = base_of history point.phase who in
     let base : State = version point.setup history number in
     run_step (present point.setup history) point.phase (thread_due who) number base.memory (row_of base (thread_due who)).executed (ran_of end memory) ≡ ran_step point who end
@@ -96,12 +96,12 @@ same_step point history stands who end memory patch =
     let base : State = version point.setup history number in
     let thread : ℕ = thread_due who in
     let is = base_is point history stands who in
-    let bytes : changes base.memory memory ≡ patched end.patch = ap (λ (copy : Memory). changes copy memory) is.memory ∙ sym patch in
+    let bytes : changes base.memory memory ≡ end.patch = ap (λ (copy : Memory). changes copy memory) is.memory ∙ sym patch in
     by_bytes (present point.setup history) point.phase thread number base.memory (row_of base thread).executed end memory
     ∙ ap (λ (now : State). step_by_bytes now point.phase thread number (row_of base thread).executed (changes base.memory memory) end) stands.state
     ∙ ap (λ (n : ℕ). step_by_bytes point.state point.phase thread n (row_of base thread).executed (changes base.memory memory) end) is.number_is
     ∙ ap (λ (row : Thread). step_by_bytes point.state point.phase thread (base_number_at point who) row.executed (changes base.memory memory) end) (same_row base (base_at point who) thread is.threads)
-    ∙ ap (λ (bytes : ℕ → Option ℕ). step_by_bytes point.state point.phase thread (base_number_at point who) (row_of (base_at point who) thread).executed bytes end) bytes
+    ∙ ap (λ (bytes : ByteMap). step_by_bytes point.state point.phase thread (base_number_at point who) (row_of (base_at point who) thread).executed bytes end) bytes
 
 -- its segment
 segment_from : (setup : Setup) (base other : State) (thread : ℕ) (quantum : Option ℕ) (ran : Ran) → base.memory ≡ other.memory → base.threads ≡ other.threads

@@ -1,11 +1,13 @@
 -- Where a run stands between two turns, and what a turn makes of that.
-use Rattle.std.specs.Prelude.{◌≡◌, ℕ, ◌+◌, ◌-◌, ◌&&◌, ◌||◌, not, ◌==◌, nat_lt, if◌then◌else◌, Option, Some, None, is_some, List, length, slice_index}
+use Rattle.std.specs.Prelude.{◌≡◌, ℕ, ◌+◌, ◌-◌, ◌<◌, ◌&&◌, ◌||◌, not, ◌==◌, nat_lt, if◌then◌else◌, Option, Some, None, is_some, List, length, slice_index, IfSome}
 use Rattle.guest_memory.specs.Memory.{Memory}
+use Rattle.commit.specs.ByteMap.{ByteMap}
 use Rattle.commit.specs.Changed.{addresses_of}
 use Rattle.commit.specs.Merge.{changes}
-use Rattle.commit.specs.Patched.{PageChange, patched}
 use Rattle.condvar_barrier.specs.Objects.{holds}
+use Rattle.hart.specs.HartState.{HartState}
 use Rattle.hart.specs.Segment.{Segment}
+use Rattle.hart.specs.Slice.{Runs}
 use Rattle.thread_table.specs.Status.{is_ready}
 use Rattle.thread_table.specs.Threads.{serial_list}
 use Rattle.thread_table.specs.declared.status.Status.{Status}
@@ -90,11 +92,19 @@ need_at point = need_by point.ended (need_of point (due_at point))
 -- A segment's end is that of a piece of work on a copy of a memory: the patch has what the memory at its end changed.
 pub record IsEndOf (copy : Memory) (work : Work) (end : SegmentEnd) : Type 0 where
   pub memory : Memory
-  pub patch : patched end.patch ≡ changes copy memory
+  pub patch : end.patch ≡ changes copy memory
   pub segment : Segment work.hart copy work.left work.quantum end.stop end.count end.hart memory
 
+-- A piece of work on a copy of a memory executes so many instructions, and goes on then.
+pub record GoesPast (copy : Memory) (work : Work) (count : ℕ) : Type 0 where
+  pub hart : HartState
+  pub memory : Memory
+  pub runs : Runs work.hart copy work.left work.quantum count hart memory
+  pub bound : count < work.left
+  pub quantum : IfSome work.quantum (λ q. count < q)
+
 -- the patch of a segment's end, none at a wake
-abbrev pub patch_of : Option SegmentEnd → Option (List PageChange)
+abbrev pub patch_of : Option SegmentEnd → Option ByteMap
 patch_of None = None
 patch_of (Some end) = Some end.patch
 
@@ -110,14 +120,14 @@ IsNeededAt point end = IsNeededBy point (need_at point) end
 
 -- how a thread stopped by this end of its segment, which has executed so much then, and the state that it leaves
 abbrev pub stopped_by : State → ℕ → SegmentEnd → ℕ → Stopped
-stopped_by state thread end executed = after_stop (committed_bytes state thread (patched end.patch) end.hart executed) thread end.hart end.stop
+stopped_by state thread end executed = after_stop (committed_bytes state thread end.patch end.hart executed) thread end.hart end.stop
 
 -- the step of who is due, by the bytes that it changed
 unfoldable pub ran_step : Point → Due → SegmentEnd → Step
 ran_step point who end =
     let thread : ℕ = thread_due who in
     let stopped : Stopped = stopped_by point.state thread end ((row_of (base_at point who) thread).executed + end.count) in
-    let addresses : List ℕ = addresses_of (patched end.patch) in
+    let addresses : List ℕ = addresses_of end.patch in
     record {
       turn = record { phase = point.phase; thread = thread; base = base_number_at point who; stop = stopped.stop; changed = length addresses; ran = end.count };
       changes = addresses;

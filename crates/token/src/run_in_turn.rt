@@ -50,7 +50,6 @@ impl RunInTurn {
     ghost use Rattle.call_table.specs.State.{row_of};
     ghost use Rattle.token.specs.Due.{thread_due};
     ghost use Rattle.token.specs.RunInTurn.{point_of, HasDue, CanRun, MayTurn};
-    ghost use Rattle.commit.specs.Patched.{patched};
 
     /// The memory that the present phase began with.
     pub(crate) fn base(&self) -> &Snapshot

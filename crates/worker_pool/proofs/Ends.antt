@@ -6,7 +6,6 @@ use Rattle.std.specs.Option.{option_map}
 use Rattle.std.specs.Prelude.{map, slice_get}
 use Rattle.guest_memory.specs.Memory.{Memory}
 use Rattle.commit.specs.Merge.{changes}
-use Rattle.commit.specs.Patched.{patched}
 use Rattle.hart.specs.Segment.{Segment}
 use Rattle.parallel_phase.specs.Job.{IsJobEnd}
 use Rattle.parallel_phase.specs.Stands.{UnderwayState}

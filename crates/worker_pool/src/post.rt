@@ -16,9 +16,13 @@ pub struct Post<B: OfRun> {
 }
 
 impl<B: OfRun> Model for Post<B> {
+    ghost use Rattle.std.specs.Coded.{codes};
+    ghost use Rattle.commit.specs.contracts.patch.Patch as patch;
     ghost use Rattle.worker_pool.specs.Posts.{PostState, IsPost};
 
     ghost Value = { PostState };
+
+    ghost coded = { Prim.hlevel (codes, patch.the_row.coded) };
 
     ghost view = { λ p. record { phase = p.phase; thread = p.thread; end = p.end } };
 

@@ -9,7 +9,6 @@ ghost use Rattle.call_table.specs.State.{row_of};
 ghost use Rattle.call_table.specs.Room.{changes_memory, HasRoom};
 ghost use Rattle.call_table.specs.StateInCall.{state_in};
 ghost use Rattle.call_table.specs.Waiting.{are_parked};
-ghost use Rattle.commit.specs.Patched.{patched};
 ghost use Rattle.paged_memory.specs.Snapshot.{cells_of};
 ghost use Rattle.thread_table.specs.Status.{is_ready};
 
@@ -37,7 +36,7 @@ impl StateInCall {
         requires made { thread < length self.old.threads }
         requires ready { is_ready (row_of (state_in self.old) thread).status ≡ true }
         requires parked { are_parked self.old.threads self.old.objects.waiters ≡ true }
-        ensures committed { OnOk result (state_in self.new ≡ committed_bytes (state_in self.old) thread (patched patch.now) hart executed) }
+        ensures committed { OnOk result (state_in self.new ≡ committed_bytes (state_in self.old) thread patch.now hart executed) }
         ensures kept { OnErr result (state_in self.new ≡ state_in self.old) }
         ensures parked { are_parked self.new.threads self.new.objects.waiters ≡ true }
         ensures input { self.new.input ≡ self.old.input }
@@ -81,8 +80,8 @@ impl StateInCall {
         requires made { thread < length self.old.threads }
         requires ready { is_ready (row_of (state_in self.old) thread).status ≡ true }
         requires parked { are_parked self.old.threads self.old.objects.waiters ≡ true }
-        ensures reply { IfOk result (λ reply. reply ≡ (commit_then_call (state_in self.old) thread (patched patch.now) hart executed).reply) }
-        ensures settled { OnOk result (state_in self.new ≡ settled thread (commit_then_call (state_in self.old) thread (patched patch.now) hart executed)) }
+        ensures reply { IfOk result (λ reply. reply ≡ (commit_then_call (state_in self.old) thread patch.now hart executed).reply) }
+        ensures settled { OnOk result (state_in self.new ≡ settled thread (commit_then_call (state_in self.old) thread patch.now hart executed)) }
         ensures kept { OnErr result (state_in self.new ≡ state_in self.old) }
         ensures parked { are_parked self.new.threads self.new.objects.waiters ≡ true }
         ensures input { self.new.input ≡ self.old.input }
@@ -124,8 +123,8 @@ impl StateInCall {
         requires made { thread < length self.old.threads }
         requires ready { is_ready (row_of (state_in self.old) thread).status ≡ true }
         requires parked { are_parked self.old.threads self.old.objects.waiters ≡ true }
-        ensures reply { IfOk result (λ reply. reply ≡ (commit_then_call (state_in self.old) thread (patched patch.now) hart executed).reply) }
-        ensures settled { OnOk result (state_in self.new ≡ settled thread (commit_then_call (state_in self.old) thread (patched patch.now) hart executed)) }
+        ensures reply { IfOk result (λ reply. reply ≡ (commit_then_call (state_in self.old) thread patch.now hart executed).reply) }
+        ensures settled { OnOk result (state_in self.new ≡ settled thread (commit_then_call (state_in self.old) thread patch.now hart executed)) }
         ensures kept { OnErr result (state_in self.new ≡ state_in self.old) }
         ensures parked { are_parked self.new.threads self.new.objects.waiters ≡ true }
         ensures input { self.new.input ≡ self.old.input }

@@ -4,6 +4,7 @@ use Rattle.std.specs.declared.alloc.Global.{Global}
 use Rattle.abi.specs.declared.call.Call.{Call}
 use Rattle.hart.specs.HartState.{HartState}
 use Rattle.ecalls.specs.Request.{call_of}
+use Rattle.commit.specs.ByteMap.{ByteMap}
 use Rattle.call_table.specs.CommitAndWake.{committed_bytes}
 use Rattle.call_table.specs.Effects.{Effect, settled}
 use Rattle.call_table.specs.Room.{HasRoom}
@@ -13,7 +14,7 @@ use Rattle.call_table.proofs.Committing.{there_after, ready_after, committed_eff
 use Rattle.call_table.proofs.state_in_call.StateInCall.commit_and_call.Goals as goal
 
 -- the state after the commit, from that before room was made
-after_room : (after roomy state : State) (thread : ℕ) (bytes : ℕ → Option ℕ) (hart : HartState) (executed : ℕ) → after ≡ committed_bytes roomy thread bytes hart executed
+after_room : (after roomy state : State) (thread : ℕ) (bytes : ByteMap) (hart : HartState) (executed : ℕ) → after ≡ committed_bytes roomy thread bytes hart executed
     → roomy ≡ state → after ≡ committed_bytes state thread bytes hart executed
 after_room after roomy state thread bytes hart executed is same = is ∙ ap (λ (before : State). committed_bytes before thread bytes hart executed) same
 

@@ -5,7 +5,6 @@ use Rattle.call_table.specs.CommitAndWake.{committed_bytes}
 use Rattle.call_table.specs.Effects.{Effect, settled}
 use Rattle.call_table.specs.State.{State}
 use Rattle.call_table.specs.StateInCall.{state_in}
-use Rattle.commit.specs.Patched.{patched}
 use Rattle.call_table.proofs.Committing.{there_after, ready_after, committed_effect, taken_back}
 use Rattle.call_table.proofs.state_in_call.StateInCall.commit_and_change.Goals as goal
 
@@ -44,7 +43,7 @@ unfolding state_in
 returns-in-Err-clause-kept c =
     let state : State = state_in c.args.self.now in
     let memory : cells_of c.in_ok-memory.memory ≡ state.memory = ap memory_of_pages c.in_ok-memory.ensures in
-    let after : state_in c.call.new.self ≡ committed_bytes state c.args.thread (patched c.args.patch.now) c.args.hart c.args.executed = c.in-Err.ensures.kept ∙ c.in_ok-commit.ensures.committed in
+    let after : state_in c.call.new.self ≡ committed_bytes state c.args.thread c.args.patch.now c.args.hart c.args.executed = c.in-Err.ensures.kept ∙ c.in_ok-commit.ensures.committed in
     c.restore.ensures.restored
     ∙ ap (λ (now : State). record now { memory = cells_of c.in_ok-memory.memory; threads = slice_set now.threads c.args.thread c.get-row.result.now }) after
-    ∙ taken_back state c.args.thread (patched c.args.patch.now) c.args.hart c.args.executed (cells_of c.in_ok-memory.memory) c.get-row.result.now c.get-row.ensures memory
+    ∙ taken_back state c.args.thread c.args.patch.now c.args.hart c.args.executed (cells_of c.in_ok-memory.memory) c.get-row.result.now c.get-row.ensures memory

@@ -2,21 +2,22 @@ use Rattle.std.proofs.Common.{◌≡◌, ℕ, List, length, arith}
 use Rattle.std.specs.Prelude.{slice_index, Contains}
 use Rattle.std.specs.List.Sorted.{IsStrictlyIncreasing}
 use Rattle.std.proofs.lemmas.List.Elements.{Contains-get_or}
-use Rattle.paged_memory.specs.PageMap.{PageMap}
+use Rattle.commit.specs.Patched.{patched}
+use Rattle.paged_memory.specs.PageMap.{PageMap, memory_of_pages}
 use Rattle.paged_memory.specs.Snapshot as snapshots
 use Rattle.twins.specs.View as views
-use Rattle.commit.proofs.Comparing.{Compares, Compares-start, Compares-more, Compares-all, stands}
+use Rattle.commit.proofs.Comparing.{Compares, Compares-start, Compares-more, Compares-all, changes-are, stands}
 use Rattle.commit.proofs.Viewed.{not-dirty, dirty-below}
 use Rattle.commit.proofs.patch.Patch.of.Goals as goal
 
 pub loop-number-init : goal.loop-number-init
-loop-number-init c = rw c.empty-patch.ensures (Compares-start _ _ _)
+loop-number-init c = rw c.new-pages.ensures (Compares-start _ _ _)
 
 pub loop-number-preserved : goal.loop-number-preserved
 loop-number-preserved c =
     let dirty : List ℕ = c.deref-number-items.result.now in
     let ascending : IsStrictlyIncreasing dirty = rw c.deref-number-items.ensures.value c.in_ok-dirty.ensures.ascending in
-    Compares-more (snapshots.pages_of (views.base_of c.args.view.now)) (views.pages_of c.args.view.now) dirty c.loop-number.patch c.compare.new.self
+    Compares-more (snapshots.pages_of (views.base_of c.args.view.now)) (views.pages_of c.args.view.now) dirty c.loop-number.pages c.compare.new.self
     c.loop-number.number-index c.loop-number.invariant ascending (omega arith) c.in_ok-compare.ensures.compared c.in_ok-compare.ensures.below
 
 pub returns : goal.returns
@@ -25,13 +26,14 @@ returns c =
     let view : PageMap = views.pages_of c.args.view.now in
     let dirty : List ℕ = c.deref-number-items.result.now in
     let e : c.loop-number.number-index ≡ length dirty = omega arith in
-    let all : Compares base view dirty c.loop-number.patch (length dirty) = rw (← e) c.loop-number.invariant in
-    Compares-all base view dirty c.loop-number.patch all
+    let all : Compares base view dirty c.loop-number.pages (length dirty) = rw (← e) c.loop-number.invariant in
+    changes-are (memory_of_pages base) (memory_of_pages view) (patched c.loop-number.pages)
+    (Compares-all base view dirty c.loop-number.pages all
     (λ number others. not-dirty c.args.view.now number
     (λ stored.
     (let listed : Contains dirty number = rw c.deref-number-items.ensures.value ((c.in_ok-dirty.ensures.exact number).1 stored) in
     let place = stands dirty number listed in
-    others place.0 place.1 place.2)))
+    others place.0 place.1 place.2))))
 
 pub compare-requires-clause-number : goal.compare-requires-clause-number
 compare-requires-clause-number c =

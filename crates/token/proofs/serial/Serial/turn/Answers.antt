@@ -1,5 +1,5 @@
-use Rattle.std.proofs.Common.{List, Option, option_map, sym, subst, Bor}
-use Rattle.commit.specs.Patched.{PageChange}
+use Rattle.std.proofs.Common.{Option, option_map, sym, subst, Bor}
+use Rattle.commit.specs.ByteMap.{ByteMap}
 use Rattle.token.specs.Change.{addresses_by}
 use Rattle.token.specs.History.{changes_of, turns_of}
 use Rattle.token.specs.Point.{patch_of}
@@ -30,7 +30,7 @@ pub invariant_of-self-2 : goal.invariant_of-self-2
 invariant_of-self-2 g c =
     let needed : IsNeeded c.self.inside.run (end_of c.args.end) = subst (λ (run : RunInTurn). IsNeeded run (end_of c.args.end)) (sym c.self.view_is) c.requires in
     let history = c.self.invariant.0 in
-    let ready = subst (λ (patch : Option (List PageChange)). g.R.Recorder.is_ready c.prepare.new.self (addresses_by patch)) c.patch_of.ensures c.in_ok-prepare.ensures.ready in
+    let ready = subst (λ (patch : Option ByteMap). g.R.Recorder.is_ready c.prepare.new.self (addresses_by patch)) c.patch_of.ensures c.in_ok-prepare.ensures.ready in
     let recorded = c.record.ensures (addresses_by (patch_of (end_of c.args.end))) (turns_of history) (changes_of history) ready
     (c.in_ok-prepare.ensures.kept (turns_of history) (changes_of history) c.self.invariant.3) in
     recorded_after g.R.Recorder.records c.record.new.self c.self.inside.run c.turn.new.self (end_of c.args.end) c.in_ok-turn.turn history

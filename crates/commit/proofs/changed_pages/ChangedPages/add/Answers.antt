@@ -4,15 +4,14 @@ use Rattle.paged_memory.specs.Page.{PageValue}
 use Rattle.commit.specs.Bytes.{differing_count}
 use Rattle.commit.specs.Merge.{changed_byte}
 use Rattle.std.specs.Prelude.{slice_index}
-use Rattle.commit.specs.Changed.{addresses_of}
-use Rattle.commit.specs.Patched.{PageChange, patched}
-use Rattle.commit.proofs.Growing.{IsPatch-more, patched-more, changed_byte-none, length-addresses_of}
+use Rattle.commit.specs.Patched.{PageChange, addresses_with, patched}
+use Rattle.commit.proofs.Growing.{AreCounted-more, patched-more, changed_byte-none, length-addresses_with}
 use Rattle.commit.proofs.Comparing.{patched-same}
-use Rattle.commit.proofs.patch.Patch.add.Goals as goal
+use Rattle.commit.proofs.changed_pages.ChangedPages.add.Goals as goal
 
 pub overflow_add-self : goal.overflow_add-self
 overflow_add-self c =
-    let all : length (addresses_of (patched c.self.inside.pages.items)) ≤ 2 ^ 32 = length-addresses_of (patched c.self.inside.pages.items) in
+    let all : length (addresses_with (patched c.self.inside.pages.items)) ≤ 2 ^ 32 = length-addresses_with (patched c.self.inside.pages.items) in
     record { fits = omega arith }
 
 pub invariant_of-self-then-count-gt0 : goal.invariant_of-self-then-count-gt0
@@ -24,7 +23,7 @@ invariant_of-self-then-count-gt0 c =
     let copied : c.bytes.result.now ≡ change.copy = c.bytes.ensures.bytes ∙ ap (λ (value : PageValue). value.bytes) c.deref.ensures in
     let count : c.from.result ≡ differing_count change.copy change.mine = rw (c.from.ensures, c.count_page-count.ensures, copied, c.bytes-2.ensures.bytes) refl in
     rw (items, count)
-    (IsPatch-more c.self.inside.pages.items change c.self.inside.count c.self.invariant (rw c.self.view_is c.requires.below) c.requires.number
+    (AreCounted-more c.self.inside.pages.items change c.self.inside.count c.self.invariant (rw c.self.view_is c.requires.below) c.requires.number
     (rw (← c.deref.ensures) c.bytes.ensures.size) c.bytes-2.ensures.size)
 
 pub returns-in_ok-push-clause-added : goal.returns-in_ok-push-clause-added

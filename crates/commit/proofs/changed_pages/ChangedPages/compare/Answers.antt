@@ -5,27 +5,27 @@ use Rattle.paged_memory.specs.Page.{PageValue}
 use Rattle.paged_memory.specs.PageMap.{PageMap, memory_of_pages}
 use Rattle.paged_memory.specs.Snapshot as snapshots
 use Rattle.paged_memory.specs.declared.snapshot.Snapshot.{Snapshot}
-use Rattle.commit.specs.Merge.{changed_byte, changes}
+use Rattle.commit.specs.Merge.{changed_byte, change_at}
 use Rattle.commit.specs.Patched.{patched}
 use Rattle.twins.specs.View as views
-use Rattle.commit.proofs.Comparing.{patched-same, bytes-for, changes-mapped, changes-unmapped}
-use Rattle.commit.proofs.patch.Patch.compare.Goals as goal
+use Rattle.commit.proofs.Comparing.{patched-same, bytes-for, change_at-mapped, change_at-unmapped}
+use Rattle.commit.proofs.changed_pages.ChangedPages.compare.Goals as goal
 
 pub returns-in_default-clause-compared : goal.returns-in_default-clause-compared
 returns-in_default-clause-compared c =
     let base : PageMap = snapshots.pages_of (views.base_of c.args.view.now) in
     let view : PageMap = views.pages_of c.args.view.now in
     let none : base c.args.number ≡ None = ap (λ (snapshot : Snapshot). snapshots.pages_of snapshot c.args.number) (sym c.base.ensures) ∙ sym c.in_default.ensures in
-    patched-same c.args.self.now c.args.number (changes (memory_of_pages base) (memory_of_pages view)) c.requires.below
-    (λ address here. changes-unmapped base view address (inl (ap base (sym here) ∙ none)))
+    patched-same c.args.self.now c.args.number (change_at (memory_of_pages base) (memory_of_pages view)) c.requires.below
+    (λ address here. change_at-unmapped base view address (inl (ap base (sym here) ∙ none)))
 
 pub returns-in_default-find_page-clause-compared : goal.returns-in_default-find_page-clause-compared
 returns-in_default-find_page-clause-compared c =
     let base : PageMap = snapshots.pages_of (views.base_of c.args.view.now) in
     let view : PageMap = views.pages_of c.args.view.now in
     let none : view c.args.number ≡ None = sym c.in_default-find_page.ensures in
-    patched-same c.args.self.now c.args.number (changes (memory_of_pages base) (memory_of_pages view)) c.requires.below
-    (λ address here. changes-unmapped base view address (inr (ap view (sym here) ∙ none)))
+    patched-same c.args.self.now c.args.number (change_at (memory_of_pages base) (memory_of_pages view)) c.requires.below
+    (λ address here. change_at-unmapped base view address (inr (ap view (sym here) ∙ none)))
 
 pub returns-clause-compared : goal.returns-clause-compared
 returns-clause-compared c address =
@@ -37,5 +37,5 @@ returns-clause-compared c address =
     let made : view c.args.number ≡ Some mine = sym c.in-Some-find_page.ensures in
     c.in_ok-add.ensures.added address
     ∙ bytes-for c.args.number (λ place. changed_byte (slice_index copy.bytes (place % 4096)) (slice_index mine.bytes (place % 4096)))
-    (changes (memory_of_pages base) (memory_of_pages view)) (patched c.args.self.now)
-    (λ place here. sym (changes-mapped base view place copy mine (ap base (sym here) ∙ copied) (ap view (sym here) ∙ made))) address
+    (change_at (memory_of_pages base) (memory_of_pages view)) (patched c.args.self.now)
+    (λ place here. sym (change_at-mapped base view place copy mine (ap base (sym here) ∙ copied) (ap view (sym here) ∙ made))) address
