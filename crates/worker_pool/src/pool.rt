@@ -30,6 +30,9 @@ pub const MOST_WORKERS: u32 = 64;
 /// How many instructions of a job the caller executes alone before it shares its phase out.
 const FIRST: u64 = 4096;
 
+/// How many instructions of that job, which it begins anew then, it executes before the others are told.
+const BEGINNING: u64 = 1;
+
 /// How many phases are shared out at once after a job of `FIRST` instructions or more.
 const CREDIT: u32 = 16;
 
@@ -171,10 +174,29 @@ impl<B: OfRun + Send + Sync> Pool<B> {
             return Ok(Some(work.run(serial.base())?));
         }
         self.pass(gate);
-        match Underway::begin(job_of(work), serial.base(), FIRST)? {
+        if let Some(end) = work.run_within(serial.base(), FIRST)? {
+            return Ok(Some(end));
+        }
+        self.credit = CREDIT;
+        self.share_begun(rt, serial, work)
+    }
+
+    /// Begins the job of a segment anew and shares its phase out. The segment's end, where that couldn't be done.
+    #[inline(never)]
+    fn share_begun<R: Wait, K: Recorder>(
+        &mut self,
+        rt: &R,
+        serial: &Serial<K>,
+        work: &Work,
+    ) -> Result<Option<SegmentEnd>, AllocError>
+        requires setup { (point_of serial.now).setup ≡ B.setup }
+        requires asked { IsAskedFor serial.now }
+        requires need { need_at (point_of serial.now) ≡ Need.Segment work.now }
+        ensures { IfOk result (λ end. IfSome end (IsEndOf (point_of serial.now).base work.now)) }
+    {
+        match Underway::begin(job_of(work), serial.base(), BEGINNING)? {
             Progress::Over(end) => Ok(Some(segment_end(end))),
             Progress::GoesOn(job) => {
-                self.credit = CREDIT;
                 if self.share(rt, serial, work.thread, Some(job)) {
                     return Ok(None);
                 }
