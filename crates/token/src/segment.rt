@@ -1,4 +1,4 @@
-ghost use Rattle.std.specs.Prelude.{IfNone, IfOk, IfSome};
+ghost use Rattle.std.specs.Prelude.{◌≤◌, IfNone, IfOk, IfSome};
 ghost use Rattle.paged_memory.specs.Snapshot.{cells_of};
 ghost use Rattle.token.specs.Point.{IsEndOf, GoesPast};
 
@@ -21,11 +21,12 @@ impl Work {
         }
     }
 
-    /// Executes the segment on a view of a memory as far as so many instructions, and answers its end as `run` does.
-    /// None where the segment goes past them: what was executed is dropped then.
+    /// Executes the segment on a view of a memory as far as so many instructions, and answers its end as `run` does
+    /// where it stops within them. None where it goes past them: what was executed is dropped then.
     #[inline(always)]
     pub fn run_within(&self, base: &Snapshot, most: u64) -> Result<Option<SegmentEnd>, AllocError>
         ensures ended { IfOk result (λ answer. IfSome answer (IsEndOf (cells_of base.now) self.now)) }
+        ensures within { IfOk result (λ answer. IfSome answer (λ end. end.count ≤ most)) }
         ensures goes_past { IfOk result (λ answer. IfNone answer (GoesPast (cells_of base.now) self.now most)) }
     {
         let mut hart = self.hart;
