@@ -4,6 +4,7 @@
 use guest_programs::{KEEPER_EXIT, KEEPER_EXIT_TRACE, Program, RACE, RACE_TRACE};
 use runtime::{Config, Gate, MAX_BOUND, RunOutcome, run};
 use std::alloc::Global;
+use std::hint::spin_loop;
 use std::process::Abort;
 use std::sync::Wait;
 use std::sync::atomic::{AtomicBool, AtomicU64, Ordering};
@@ -11,8 +12,9 @@ use std::test::Fail;
 use std::thread::Threads;
 use tracer::trace_text;
 
-/// How many rounds a host thread waits before the test fails.
-const ROUNDS: u64 = 50_000_000;
+/// How many rounds a host thread waits before the test fails: half a minute and more, since on a busy machine the
+/// others may be kept from their processor for whole seconds.
+const ROUNDS: u64 = 4_000_000_000;
 
 /// How often each run is made.
 const TIMES: u32 = 100;
@@ -31,6 +33,7 @@ fn comes<F: Fn() -> bool>(test: F) -> bool
         if test() {
             return true;
         }
+        spin_loop();
     }
     false
 }

@@ -4,8 +4,9 @@ use gate::Gate;
 use std::hint::spin_loop;
 use std::sync::atomic::{AtomicBool, AtomicU32, Ordering};
 
-/// How many rounds a worker waits at most.
-const ROUNDS: u32 = 50_000_000;
+/// How many rounds a worker waits at most: half a minute and more, since on a busy machine the others may be kept from
+/// their processor for whole seconds.
+const ROUNDS: u32 = 4_000_000_000;
 
 /// A flag that one worker raises and others wait for.
 #[derive(Drop)]
