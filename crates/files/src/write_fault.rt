@@ -30,3 +30,6 @@ impl From<io::Error> for WriteFault {
         }
     }
 }
+
+#[cfg(test)]
+mod tests;

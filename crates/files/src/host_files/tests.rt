@@ -101,6 +101,7 @@ fn a_file_is_replaced_at_the_end(rt: HostRuntime) -> Result<(), Fail> {
     fs::write(&rt, &part, "what an interrupt left, longer still")?;
     let mut output = files.begin(rt.alloc(), path.as_str())?;
     output.write_all(b"a new text")?;
+    output.flush()?;
     assert!(rt; fs::read(&rt, &part)?.as_slice() == b"a new text".as_slice());
     assert!(rt; fs::read(&rt, &path)?.as_slice() == b"an old and longer text".as_slice());
     files.finish(path.as_str(), output)?;
