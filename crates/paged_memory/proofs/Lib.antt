@@ -1,7 +1,6 @@
 pub mod Accesses
 pub mod Among
 pub mod Coding
-pub mod Entries
 pub mod Loading
 pub mod Mapping
 pub mod PageAccesses

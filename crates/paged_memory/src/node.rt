@@ -1,5 +1,6 @@
-ghost use Rattle.std.specs.Prelude.{◌≡◌, ◌/◌, ◌==◌, ◌&&◌, ℕ, if◌then◌else◌, None, OnOk, OnErr};
-ghost use Rattle.paged_memory.specs.PageTable.{pages_of_node};
+ghost use Rattle.std.specs.Prelude.{◌≡◌, ◌/◌, ◌==◌, ◌&&◌, ℕ, if◌then◌else◌, None, IfOk, OnOk, OnErr, length, option_map};
+ghost use Rattle.std.specs.Arc.{arc_value};
+ghost use Rattle.paged_memory.specs.PageTable.{pages_of_entry, pages_of_node};
 
 use crate::level::{Change, Level};
 use crate::page::Page;
@@ -11,8 +12,19 @@ const ENTRIES: usize = 32;
 
 /// A node of a table of pages. An entry is empty where none of its page numbers is mapped.
 #[derive(Drop)]
-pub(crate) struct Node<T: Level> {
+pub(crate) struct Node<T: Drop> {
     entries: [Option<Arc<T>>; ENTRIES],
+    ghost full: { length entries ≡ 32 },
+}
+
+/// The same child, where there is one.
+fn shared<T: Level>(entry: &Option<Arc<T>>) -> Result<Option<Arc<T>>, AllocError>
+    ensures { IfOk result (λ copy. option_map arc_value copy ≡ option_map arc_value entry.now) }
+{
+    match entry {
+        Some(child) => Ok(Some(Arc::try_clone(child)?)),
+        None => Ok(None),
+    }
 }
 
 impl<T: Level> Node<T> {
@@ -23,6 +35,52 @@ impl<T: Level> Node<T> {
         Node {
             entries: Default::default(),
         }
+    }
+
+    /// Takes the children of another node in place of its own. Both share them.
+    fn share_children(&mut self, other: &Self) -> Result<(), AllocError>
+        ensures { OnOk result ((number : ℕ) → pages_of_node T.pages T.digit self.new.entries number ≡ pages_of_node T.pages T.digit other.now.entries number) }
+    {
+        for index in 0..ENTRIES {
+            self.entries[index] = shared(&other.entries[index])?;
+        }
+        Ok(())
+    }
+
+    /// Changes the page of a number in a node that others share: a copy takes its place.
+    #[inline(never)]
+    fn change_copy<C: Change>(
+        shared: &mut Arc<Self>,
+        alloc: Global,
+        number: u32,
+        change: C,
+    ) -> Result<(), AllocError>
+        ensures changed { OnOk result ((other : ℕ) → pages_of_node T.pages T.digit (arc_value shared.new).entries other ≡ (if (T.digit number == T.digit other) && T.agree number other then C.makes change (pages_of_node T.pages T.digit (arc_value shared.old).entries other) else pages_of_node T.pages T.digit (arc_value shared.old).entries other)) }
+        ensures kept { OnErr result (shared.new ≡ shared.old) }
+    {
+        let mut node = Node::empty();
+        node.share_children(shared)?;
+        node.change_own(alloc, number, change)?;
+        *shared = Arc::new(alloc, node)?;
+        Ok(())
+    }
+
+    /// Changes the page of a number where no page is mapped near it: a new node gets it.
+    #[inline(never)]
+    fn change_new<C: Change>(
+        entry: &mut Option<Arc<Self>>,
+        alloc: Global,
+        number: u32,
+        change: C,
+    ) -> Result<(), AllocError>
+        requires { entry.old ≡ None }
+        ensures changed { OnOk result ((other : ℕ) → pages_of_entry (λ node. pages_of_node T.pages T.digit node.entries) entry.new other ≡ (if (T.digit number == T.digit other) && T.agree number other then C.makes change None else None)) }
+        ensures kept { OnErr result (entry.new ≡ entry.old) }
+    {
+        let mut node = Node::empty();
+        node.change_own(alloc, number, change)?;
+        *entry = Some(Arc::new(alloc, node)?);
+        Ok(())
     }
 
     /// Changes the page of a number.
@@ -36,16 +94,6 @@ impl<T: Level> Node<T> {
         ensures kept { OnErr result ((other : ℕ) → pages_of_node T.pages T.digit self.new.entries other ≡ pages_of_node T.pages T.digit self.old.entries other) }
     {
         T::change(&mut self.entries[T::index(number)], alloc, number, change)
-    }
-}
-
-impl<T: Level> Clone for Node<T> {
-    ghost is_clone = { λ one other. (number : ℕ) → pages_of_node T.pages T.digit other.entries number ≡ pages_of_node T.pages T.digit one.entries number };
-
-    fn clone(&self) -> Result<Self, AllocError> {
-        Ok(Node {
-            entries: self.entries.clone()?,
-        })
     }
 }
 
@@ -76,13 +124,11 @@ impl<T: Level> Level for Node<T> {
         change: C,
     ) -> Result<(), AllocError> {
         match entry {
-            Some(shared) => Arc::make_mut(shared)?.change_own(alloc, number, change),
-            None => {
-                let mut node = Node::empty();
-                node.change_own(alloc, number, change)?;
-                *entry = Some(Arc::new(alloc, node)?);
-                Ok(())
-            }
+            Some(shared) => match Arc::get_mut(shared) {
+                Some(node) => node.change_own(alloc, number, change),
+                None => Self::change_copy(shared, alloc, number, change),
+            },
+            None => Self::change_new(entry, alloc, number, change),
         }
     }
 }
