@@ -1,7 +1,7 @@
 //! A phase from its jobs to their outcomes.
 
 ghost use Rattle.schedule.specs.declared.event.Event.{Event};
-ghost use Rattle.std.specs.Prelude.{◌≡◌, ℕ, List, ◌<◌, ◌≤◌, [], length, max, All, IfOk};
+ghost use Rattle.std.specs.Prelude.{◌≡◌, ℕ, List, ◌<◌, ◌≤◌, [], length, max, min, All, IfOk};
 ghost use Rattle.paged_memory.specs.Snapshot.{cells_of};
 ghost use Rattle.claim_table.specs.Logs.{most_jobs, most_seats, new_log};
 ghost use Rattle.parallel_phase.specs.Events.{LeadTo};
@@ -23,7 +23,8 @@ use std::thread::Threads;
 /// How many seats so many workers take for so many jobs: no more than there are jobs, but one.
 pub fn seats_for(jobs: usize, workers: u32) -> u32
     requires { (jobs ≤ most_jobs) × (0 < workers) }
-    ensures { (0 < result) × (result ≤ workers) × (result ≤ max jobs 1) }
+    ensures exact { result ≡ min workers (max jobs 1) }
+    ensures bounds { (0 < result) × (result ≤ workers) × (result ≤ max jobs 1) }
 {
     workers.min(jobs.max(1) as u32)
 }

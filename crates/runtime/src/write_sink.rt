@@ -32,7 +32,8 @@ impl<W: Write> WriteSink<W> {
 
     /// Writes all of these bytes and flushes them.
     pub fn print(&mut self, bytes: &[u8]) -> Result<(), SinkFault>
-        ensures { OnOk result (Appends (W.contents self.old.writer) (W.contents self.new.writer) bytes.now) }
+        ensures bytes { OnOk result (Appends (W.contents self.old.writer) (W.contents self.new.writer) bytes.now) }
+        ensures others { (self.new.failures ≡ self.old.failures) × (self.new.is_lost ≡ self.old.is_lost) }
     {
         match self.writer.write_all(bytes) {
             Ok(()) => self.finish(),
@@ -42,7 +43,8 @@ impl<W: Write> WriteSink<W> {
 
     /// Flushes what was written. It fails where this or an earlier flush did.
     pub fn finish(&mut self) -> Result<(), SinkFault>
-        ensures { Keeps (W.contents self.old.writer) (W.contents self.new.writer) }
+        ensures bytes { Keeps (W.contents self.old.writer) (W.contents self.new.writer) }
+        ensures others { (self.new.failures ≡ self.old.failures) × (self.new.is_lost ≡ self.old.is_lost) }
     {
         match self.writer.flush() {
             Ok(()) if !self.is_lost => Ok(()),

@@ -1,4 +1,4 @@
-ghost use Rattle.std.specs.Prelude.{◌≡◌, None, Some, IsTrue};
+ghost use Rattle.std.specs.Prelude.{◌≡◌, ◌↔◌, None, Some, IsTrue};
 ghost use Rattle.worker_pool.specs.Posts.{IsEndIn, IsPost};
 
 use crate::of_run::OfRun;
@@ -64,7 +64,7 @@ impl<B: OfRun> Post<B> {
 
     /// Whether it is of this thread in this phase.
     pub fn is_of(&self, phase: u64, thread: u32) -> bool
-        ensures { IsTrue result → (self.now.phase ≡ phase) × (self.now.thread ≡ thread) }
+        ensures { IsTrue result ↔ (self.now.phase ≡ phase) × (self.now.thread ≡ thread) }
     {
         self.phase == phase && self.thread == thread
     }

@@ -13,7 +13,7 @@ returns-clause-stopped g c = elim c.match-result.branch [
   | in-Ok+in-Err-finish w ↦ rw (w.result-is, w.stdout-is) (
     inl refl,
     all_sent (AreTold g.O.Write.contents) (point_of c.args.start).setup w.in-Ok.end c.run_wanted-run.result.recorder _ _
-        (rw w.in-Ok.is at c.run_wanted-run.ensures.ended) (Appends-kept _ _ _ _ (rw w.in-Ok.is at c.run_wanted-run.ensures.sent) w.finish.ensures),
+        (rw w.in-Ok.is at c.run_wanted-run.ensures.ended) (Appends-kept _ _ _ _ (rw w.in-Ok.is at c.run_wanted-run.ensures.sent) w.finish.ensures.bytes),
   )
   | in-Err w ↦ rw (w.result-is, w.stdout-is, w.of_run.ensures)
       (stopped_by c.args.trace (point_of c.args.start).setup w.in-Err.fault _ _ (rw w.in-Err.is at c.run_wanted-run.ensures.fault) (rw w.in-Err.is at c.run_wanted-run.ensures.sent))

@@ -26,7 +26,7 @@ works_are g c =
 pub work_all-requires-after_bounds : goal.work_all-requires-after_bounds
 work_all-requires-after_bounds g c ks bounds =
     let size : c.in_ok-phase.phase.row.size.seats ≡ c.seats_for.result = ap (λ (s : Size). s.seats) c.in_ok-phase.ensures.size in (
-      omega (arith, works_are g c, size, c.seats_for.ensures.0),
+      omega (arith, works_are g c, size, c.seats_for.ensures.bounds.0),
       subst (λ (works : List WorkState). All (IsUnbegun c.in_ok-phase.phase) works) (sym c.as_mut_slice.ensures.value) c.in_ok-works.ensures.works,
     )
 
@@ -41,4 +41,4 @@ returns-clause-events g c =
     let at = (goal.at.returns-clause-events g c).After-as_mut_slice in
     let same = written_back c.work_all.new.works (drop (length c.work_all.new.works) c.in_ok-works.works.items) c.in_ok-works.works.len (omega (arith, c.work_all.ensures.0, c.as_mut_slice.ensures.len)) in
     let size : c.in_ok-phase.phase.row.size.seats ≡ c.seats_for.result = ap (λ (s : Size). s.seats) c.in_ok-phase.ensures.size in
-    led _ _ _ _ _ _ _ c.collect.result c.in_ok-phase.ensures.jobs.0 c.in_ok-phase.ensures.jobs.1 (omega (arith, ap length same, c.work_all.ensures.0, works_are g at, size, c.seats_for.ensures.1)) c.collect.ensures.events
+    led _ _ _ _ _ _ _ c.collect.result c.in_ok-phase.ensures.jobs.0 c.in_ok-phase.ensures.jobs.1 (omega (arith, ap length same, c.work_all.ensures.0, works_are g at, size, c.seats_for.ensures.bounds.1)) c.collect.ensures.events
