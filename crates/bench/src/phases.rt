@@ -1,5 +1,5 @@
 //! Measures a phase of four jobs by several workers, and what its parts take.
-ghost use Rattle.std.specs.Prelude.{◌≡◌, ◌<◌, ◌≤◌, length};
+ghost use Rattle.std.specs.Prelude.{◌≡◌, ◌⊎◌, ◌+◌, ◌<◌, ◌≤◌, length};
 ghost use Rattle.claim_table.specs.Logs.{most_jobs};
 
 use crate::timing::each;
@@ -112,9 +112,10 @@ fn measure_phase<R: Clock + Print + Threads + Sync>(
 /// Draws until no job is left.
 fn draw_all(draws: &Draws, seat: &mut DrawSeat)
     requires { seat.old.row ≡ draws.now }
-    ensures { seat.new.row ≡ draws.now }
+    ensures row { seat.new.row ≡ draws.now }
+    ensures all { (seat.new.log.ended ≡ 1) ⊎ (length seat.new.log.drawn ≡ length seat.old.log.drawn + 256) }
 {
-    for _ in 0..MANY_JOBS {
+    for rounds in 0..MANY_JOBS {
         draws.draw(seat);
     }
 }
@@ -122,9 +123,11 @@ fn draw_all(draws: &Draws, seat: &mut DrawSeat)
 /// Draws until no job is left, and notes each.
 fn note_all(draws: &Draws, seat: &mut DrawSeat)
     requires { seat.old.row ≡ draws.now }
-    ensures { seat.new.row ≡ draws.now }
+    ensures row { seat.new.row ≡ draws.now }
+    ensures all { (seat.new.log.ended ≡ 1) ⊎ (length seat.new.log.drawn ≡ length seat.old.log.drawn + 256) }
+    ensures noted { length seat.new.log.noted + length seat.old.log.drawn ≡ length seat.old.log.noted + length seat.new.log.drawn }
 {
-    for _ in 0..MANY_JOBS {
+    for rounds in 0..MANY_JOBS {
         if let Some(number) = draws.draw(seat) {
             draws.note(seat, number);
         }
