@@ -1,4 +1,4 @@
-ghost use Rattle.std.specs.Prelude.{◌≡◌, ◌/◌, ◌==◌, ◌&&◌, ℕ, if◌then◌else◌, None, IfOk, OnOk, OnErr, length, option_map};
+ghost use Rattle.std.specs.Prelude.{◌≡◌, ◌/◌, ◌==◌, ◌&&◌, ℕ, if◌then◌else◌, None, OnOk, OnErr, length, slice_index_or};
 ghost use Rattle.std.specs.Arc.{arc_value};
 ghost use Rattle.paged_memory.specs.PageTable.{pages_of_entry, pages_of_node};
 
@@ -17,32 +17,26 @@ pub(crate) struct Node<T: Drop> {
     ghost full: { length entries ≡ 32 },
 }
 
-/// The same child, where there is one.
-fn shared<T: Level>(entry: &Option<Arc<T>>) -> Result<Option<Arc<T>>, AllocError>
-    ensures { IfOk result (λ copy. option_map arc_value copy ≡ option_map arc_value entry.now) }
-{
-    match entry {
-        Some(child) => Ok(Some(Arc::try_clone(child)?)),
-        None => Ok(None),
-    }
-}
-
 impl<T: Level> Node<T> {
     /// All entries empty.
     fn empty() -> Self
-        ensures { (number : ℕ) → pages_of_node T.pages T.digit result.entries number ≡ None }
+        ensures entries { (index : ℕ) → slice_index_or result.entries index None ≡ None }
+        ensures pages { (number : ℕ) → pages_of_node T.pages T.digit result.entries number ≡ None }
     {
         Node {
             entries: Default::default(),
         }
     }
 
-    /// Takes the children of another node in place of its own. Both share them.
+    /// Gives an empty node the children of another one. Both share them.
     fn share_children(&mut self, other: &Self) -> Result<(), AllocError>
+        requires { (index : ℕ) → slice_index_or self.old.entries index None ≡ None }
         ensures { OnOk result ((number : ℕ) → pages_of_node T.pages T.digit self.new.entries number ≡ pages_of_node T.pages T.digit other.now.entries number) }
     {
         for index in 0..ENTRIES {
-            self.entries[index] = shared(&other.entries[index])?;
+            if let Some(child) = &other.entries[index] {
+                self.entries[index] = Some(Arc::try_clone(child)?);
+            }
         }
         Ok(())
     }
