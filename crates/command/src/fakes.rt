@@ -34,6 +34,16 @@ pub struct MemoryFiles<'a> {
     pub room: usize,
     /// How many more outputs there are that can be put in their files' places.
     pub good_ends: u32,
+    /// The outputs in the making.
+    parts: Parts,
+}
+
+/// For which files of `MemoryFiles` an output was begun that was neither put in its file's place nor abandoned.
+#[derive(Clone, Copy)]
+struct Parts {
+    trace: bool,
+    report: bool,
+    digest: bool,
 }
 
 impl<'a> MemoryFiles<'a> {
@@ -52,6 +62,11 @@ impl<'a> MemoryFiles<'a> {
             digest: Vec::new(alloc),
             room: usize::MAX,
             good_ends: u32::MAX,
+            parts: Parts {
+                trace: false,
+                report: false,
+                digest: false,
+            },
         }
     }
 
@@ -64,8 +79,16 @@ impl<'a> MemoryFiles<'a> {
         Ok(files)
     }
 
-    /// Fails the test unless the files are still those of `with_old_files`.
+    /// Fails the test where an output was begun that was neither put in its file's place nor abandoned.
+    pub fn assert_no_part(&self, rt: &impl Abort) {
+        assert!(rt; !self.parts.trace, "the trace's part is left");
+        assert!(rt; !self.parts.report, "the report's part is left");
+        assert!(rt; !self.parts.digest, "the digest's part is left");
+    }
+
+    /// Fails the test unless the files are still those of `with_old_files`, and no part is left.
     pub fn assert_old(&self, rt: &impl Abort) {
+        self.assert_no_part(rt);
         for file in [&self.trace, &self.report, &self.digest] {
             assert_eq!(rt; file.len(), 1000);
             assert!(rt; file.as_slice().ends_with(b"x"));
@@ -79,6 +102,16 @@ impl<'a> MemoryFiles<'a> {
             REPORT => Some(&mut self.report),
             DIGEST => Some(&mut self.digest),
             _ => None,
+        }
+    }
+
+    /// Notes whether there is an output in the making for the file at a path.
+    fn note_part(&mut self, path: &str, is_there: bool) {
+        match path {
+            TRACE => self.parts.trace = is_there,
+            REPORT => self.parts.report = is_there,
+            DIGEST => self.parts.digest = is_there,
+            _ => {}
         }
     }
 }
@@ -106,7 +139,10 @@ impl Files for MemoryFiles<'_> {
 
     fn begin(&mut self, alloc: Global, path: &str) -> Result<MemoryOutput, WriteFault> {
         match path {
-            TRACE | REPORT | DIGEST => Ok(MemoryOutput::new(alloc, self.room)),
+            TRACE | REPORT | DIGEST => {
+                self.note_part(path, true);
+                Ok(MemoryOutput::new(alloc, self.room))
+            }
             _ => Err(WriteFault::WriteFailed),
         }
     }
@@ -116,6 +152,7 @@ impl Files for MemoryFiles<'_> {
     }
 
     fn finish(&mut self, path: &str, output: MemoryOutput) -> Result<(), WriteFault> {
+        self.note_part(path, false);
         if self.good_ends == 0 {
             return Err(WriteFault::WriteFailed);
         }
@@ -131,7 +168,9 @@ impl Files for MemoryFiles<'_> {
         }
     }
 
-    fn abandon(&mut self, _path: &str, _output: MemoryOutput) {}
+    fn abandon(&mut self, path: &str, _output: MemoryOutput) {
+        self.note_part(path, false);
+    }
 }
 
 /// A text in memory, which takes so many more bytes before its writes fail.

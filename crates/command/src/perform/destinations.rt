@@ -101,6 +101,26 @@ fn a_path_that_cannot_be_written_is_found_before_the_first_turn(
         124,
         line,
     )?;
+    let arguments = [
+        "dthreads",
+        "run",
+        "a.elf",
+        "--trace",
+        "trace",
+        "--report",
+        "report",
+        "--digest",
+        "no/digest",
+    ];
+    let line = "cannot write no/digest\n";
+    check_line(
+        &rt,
+        &arguments,
+        letter.as_slice(),
+        &mut io::empty(),
+        124,
+        line,
+    )?;
     Ok(())
 }
 
@@ -153,6 +173,12 @@ fn a_write_that_fails_in_the_middle_leaves_the_old_files(rt: HostRuntime) -> Res
         performed.assert_is(&rt, 124, b"", "cannot write trace\n");
         files.assert_old(&rt);
     }
+    let reported = ["dthreads", "run", "a.elf", "--report", "report"];
+    let mut files = MemoryFiles::with_old_files(rt.alloc(), race.as_slice())?;
+    files.room = 1;
+    let performed = Performed::new(&rt, &reported, &mut files, &mut io::empty());
+    performed.assert_is(&rt, 124, b"", "cannot write report\n");
+    files.assert_old(&rt);
     let printed = ["dthreads", "run", "a.elf", "--trace", "-"];
     let mut files = MemoryFiles::new(rt.alloc(), race.as_slice());
     files.room = 100;

@@ -11,8 +11,8 @@ use std::sync::Wait;
 use std::test::Fail;
 use std::thread::Threads;
 
-const RUN: [&str; 7] = [
-    "dthreads", "run", "a.elf", "--trace", "trace", "--report", "report",
+const RUN: [&str; 9] = [
+    "dthreads", "run", "a.elf", "--trace", "trace", "--report", "report", "--digest", "digest",
 ];
 
 /// How many writes and flushes succeed, how many bytes each write takes, and how many of the eight bytes of
@@ -139,6 +139,17 @@ fn records_that_cannot_be_written(rt: HostRuntime) -> Result<(), Fail> {
     )?;
     assert!(rt; files.trace.as_slice().starts_with(b"1 0 lock "));
     assert_eq!(rt; files.report.len(), 1000);
+    files.good_ends = 2;
+    check(
+        &rt,
+        &RUN,
+        &mut files,
+        &mut stdout,
+        124,
+        "cannot write digest\n",
+    )?;
+    assert!(rt; files.report.as_slice().starts_with(b"page=00020000 "));
+    assert_eq!(rt; files.digest.len(), 1000);
     Ok(())
 }
 
@@ -167,6 +178,7 @@ fn check<H: Abort + AllocGlobal + Threads + Wait + Sync>(
         stderr.as_slice() == line.as_bytes(),
         "where {line:?} is wanted"
     );
+    files.assert_no_part(rt);
     Ok(())
 }
 
