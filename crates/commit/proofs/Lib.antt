@@ -4,6 +4,7 @@ mod Counting
 mod Patching
 mod ByteMaps
 mod Merges
+mod Parts
 mod Growing
 mod Comparing
 mod Viewed

@@ -2,4 +2,5 @@ pub mod ByteMap
 pub mod Bytes
 pub mod Changed
 pub mod Merge
+pub mod Mine
 pub mod Patched

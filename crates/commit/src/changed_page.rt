@@ -2,10 +2,14 @@ ghost use Rattle.std.specs.Prelude.{◌≡◌, ◌^◌, ◌<◌, [], ◌∷◌, 
 ghost use Rattle.std.specs.Arc.{arc_value};
 ghost use Rattle.guest_memory.specs.Layout.{page_size};
 ghost use Rattle.paged_memory.specs.Page.{PageValue};
-ghost use Rattle.commit.specs.Bytes.{merged_bytes};
+ghost use Rattle.commit.specs.Bytes.{differing_count, merged_bytes};
+ghost use Rattle.commit.specs.Mine.{bytes_left};
 ghost use Rattle.commit.specs.Patched.{PageChange};
 
-use crate::kernels::{count_page, merge_page, push_differing};
+use crate::comparison::Comparison;
+use crate::group::Group;
+use crate::kernels::{count_group, count_page, merge_page, push_differing};
+use crate::mine::Mine;
 use guest_memory::layout::PAGE_SIZE;
 use paged_memory::{Page, Snapshot};
 use std::alloc::{AllocError, Global};
@@ -18,14 +22,14 @@ pub(crate) struct ChangedPage {
     number: u32,
     /// The page as the thread found it.
     copy: Arc<Page>,
-    /// The page as the thread left it.
-    mine: Arc<Page>,
+    /// How the thread left it.
+    mine: Mine,
 }
 
 impl Model for ChangedPage {
     ghost Value = { PageChange };
 
-    ghost view = { λ p. record { number = p.number; copy = (arc_value p.copy).bytes; mine = (arc_value p.mine).bytes } };
+    ghost view = { λ p. record { number = p.number; copy = (arc_value p.copy).bytes; mine = bytes_left (arc_value p.copy).bytes p.mine } };
 
     ghost invariant = { λ p. p.number < 2 ^ 20 };
 }
@@ -35,11 +39,29 @@ impl ChangedPage {
     ghost use Rattle.commit.specs.Patched.{patched, addresses_in};
     ghost use Rattle.paged_memory.specs.Snapshot.{cells_of, pages_of};
 
-    pub(crate) fn new(number: u32, copy: Arc<Page>, mine: Arc<Page>) -> Self
-        requires { number < 2 ^ 20 }
-        ensures { result ≡ record { number = number; copy = (arc_value copy).bytes; mine = (arc_value mine).bytes } }
+    /// A page as a thread found it and as it left it. Where all bytes that differ are of one group, only that
+    /// group is kept.
+    pub(crate) fn new(
+        alloc: Global,
+        number: u32,
+        copy: &Arc<Page>,
+        mine: &Page,
+        found: Comparison,
+    ) -> Result<Self, AllocError>
+        requires number { number < 2 ^ 20 }
+        requires found { found.count ≡ differing_count (arc_value copy.now).bytes mine.now.bytes }
+        ensures { IfOk result (λ page. page ≡ record { number = number; copy = (arc_value copy.now).bytes; mine = mine.now.bytes }) }
     {
-        ChangedPage { number, copy, mine }
+        let left = if count_group(copy.bytes(), mine.bytes(), found.last) == found.count {
+            Mine::Group(Group::of(mine.bytes(), found.last))
+        } else {
+            Mine::Page(Arc::new(alloc, *mine)?)
+        };
+        Ok(ChangedPage {
+            number,
+            copy: Arc::try_clone(copy)?,
+            mine: left,
+        })
     }
 
     /// Merges it into the page of its number, where that is mapped. The pages stay when memory runs out.
@@ -50,36 +72,16 @@ impl ChangedPage {
         let Some(page) = snapshot.page(self.number) else {
             return Ok(());
         };
-        let merged = self.merged(snapshot.allocator(), page)?;
-        snapshot.replace(self.number, merged)
-    }
-
-    /// What it makes of the present page. Where nobody else changed the page, that is the thread's own page, which
-    /// is shared then.
-    fn merged(&self, alloc: Global, now: &Page) -> Result<Arc<Page>, AllocError>
-        ensures merged { IfOk result (λ page. arc_value page ≡ record { perm = now.now.perm; bytes = merged_bytes now.now.bytes self.now.copy self.now.mine }) }
-        ensures now { length now.now.bytes ≡ page_size }
-        ensures copy { length self.now.copy ≡ page_size }
-        ensures mine { length self.now.mine ≡ page_size }
-    {
-        if count_page(now.bytes(), self.copy.bytes()) == 0 && now.perm() == self.mine.perm() {
-            return Arc::try_clone(&self.mine);
+        match &self.mine {
+            Mine::Group(group) => {
+                let merged = group.merged(page.bytes(), self.copy.bytes());
+                snapshot.write_part(self.number, group.at(), &merged)
+            }
+            Mine::Page(mine) => {
+                let merged = merged(snapshot.allocator(), page, &self.copy, mine)?;
+                snapshot.replace(self.number, merged)
+            }
         }
-        self.merged_copy(alloc, now)
-    }
-
-    /// The present page with what it changes, as a page of its own.
-    #[inline(never)]
-    fn merged_copy(&self, alloc: Global, now: &Page) -> Result<Arc<Page>, AllocError>
-        ensures merged { IfOk result (λ page. arc_value page ≡ record { perm = now.now.perm; bytes = merged_bytes now.now.bytes self.now.copy self.now.mine }) }
-        ensures now { length now.now.bytes ≡ page_size }
-        ensures copy { length self.now.copy ≡ page_size }
-        ensures mine { length self.now.mine ≡ page_size }
-    {
-        let mut bytes = *now.bytes();
-        merge_page(&mut bytes, self.copy.bytes(), self.mine.bytes());
-        let merged = Arc::new(alloc, Page::new(now.perm(), bytes))?;
-        Ok(merged)
     }
 
     /// Pushes the addresses of its bytes that differ, ascending.
@@ -89,11 +91,38 @@ impl ChangedPage {
         ensures copy { length self.now.copy ≡ page_size }
         ensures mine { length self.now.mine ≡ page_size }
     {
-        push_differing(
-            addresses,
-            self.number * PAGE_SIZE,
-            self.copy.bytes(),
-            self.mine.bytes(),
-        )
+        let first = self.number * PAGE_SIZE;
+        match &self.mine {
+            Mine::Group(group) => group.push_differing(addresses, first, self.copy.bytes()),
+            Mine::Page(mine) => push_differing(addresses, first, self.copy.bytes(), mine.bytes()),
+        }
     }
+}
+
+/// What a thread's page makes of the present page. Where nobody else changed the page, that is the thread's page,
+/// which is shared then.
+fn merged(alloc: Global, now: &Page, copy: &Page, mine: &Arc<Page>) -> Result<Arc<Page>, AllocError>
+    ensures merged { IfOk result (λ page. arc_value page ≡ record { perm = now.now.perm; bytes = merged_bytes now.now.bytes copy.now.bytes (arc_value mine.now).bytes }) }
+    ensures now { length now.now.bytes ≡ page_size }
+    ensures copy { length copy.now.bytes ≡ page_size }
+    ensures mine { length (arc_value mine.now).bytes ≡ page_size }
+{
+    if count_page(now.bytes(), copy.bytes()) == 0 && now.perm() == mine.perm() {
+        return Arc::try_clone(mine);
+    }
+    merged_copy(alloc, now, copy, mine)
+}
+
+/// The present page with what a thread's page changes, as a page of its own.
+#[inline(never)]
+fn merged_copy(alloc: Global, now: &Page, copy: &Page, mine: &Page) -> Result<Arc<Page>, AllocError>
+    ensures merged { IfOk result (λ page. arc_value page ≡ record { perm = now.now.perm; bytes = merged_bytes now.now.bytes copy.now.bytes mine.now.bytes }) }
+    ensures now { length now.now.bytes ≡ page_size }
+    ensures copy { length copy.now.bytes ≡ page_size }
+    ensures mine { length mine.now.bytes ≡ page_size }
+{
+    let mut bytes = *now.bytes();
+    merge_page(&mut bytes, copy.bytes(), mine.bytes());
+    let merged = Arc::new(alloc, Page::new(now.perm(), bytes))?;
+    Ok(merged)
 }

@@ -6,7 +6,7 @@ ghost use Rattle.paged_memory.specs.Page.{PageValue};
 ghost use Rattle.commit.specs.Patched.{PageChange, byte_of_change, patched, addresses_with, numbers_of, AreBelow, AreCounted};
 
 use crate::changed_page::ChangedPage;
-use crate::kernels::count_page;
+use crate::kernels::compare_page;
 use paged_memory::{Page, PageMemory};
 use std::alloc::{AllocError, Global};
 use std::marker::Model;
@@ -81,12 +81,11 @@ impl ChangedPages {
         ensures added { OnOk result ((address : ℕ) → patched self.new address ≡ (if number == page_of address then byte_of_change (record { number = number; copy = (arc_value copy.now).bytes; mine = mine.now.bytes }) address else patched self.old address)) }
         ensures below { OnOk result (AreBelow self.new (number + 1)) }
     {
-        let count = count_page(copy.bytes(), mine.bytes());
-        if count > 0 {
-            let mine = Arc::new(alloc, mine.clone()?)?;
-            let page = ChangedPage::new(number, Arc::try_clone(copy)?, mine);
+        let found = compare_page(copy.bytes(), mine.bytes());
+        if found.count > 0 {
+            let page = ChangedPage::new(alloc, number, copy, mine, found)?;
             self.pages.push(page)?;
-            self.count += u64::from(count);
+            self.count += u64::from(found.count);
         }
         Ok(())
     }

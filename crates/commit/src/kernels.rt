@@ -2,28 +2,26 @@
 //! time.
 #![tactic(auto, unfolding(crate::specs::Bytes::differing_count, crate::specs::Bytes::merged_bytes))]
 
-ghost use Rattle.std.specs.Prelude.{◌≡◌, ◌+◌, ◌^◌, ◌≤◌, ◌++◌, OnOk, true, bit_xor, length};
+ghost use Rattle.std.specs.Prelude.{◌≡◌, ◌+◌, ◌%◌, ◌^◌, ◌≤◌, ◌++◌, OnOk, true, bit_xor, length};
 ghost use Rattle.std.specs.Simd.Lanes.{chunk, put_chunk, zip2};
 ghost use Rattle.commit.specs.Bytes.{differing_count, differing_from, merged_bytes};
 
+use crate::comparison::Comparison;
 use guest_memory::layout::PAGE_SIZE;
 use std::alloc::AllocError;
 use std::simd::prelude::*;
 
 /// The bytes of a page.
-const PAGE_BYTES: usize = PAGE_SIZE as usize;
+pub(crate) const PAGE_BYTES: usize = PAGE_SIZE as usize;
 
 /// The bytes that are looked at together.
 const LANES: usize = 32;
-
-/// The blocks of so many bytes in a page.
-const BLOCKS: usize = PAGE_BYTES / LANES;
 
 /// The blocks that are passed over together where nothing differs in them.
 const GROUP_BLOCKS: usize = 4;
 
 /// The bytes of such a group.
-const GROUP: usize = GROUP_BLOCKS * LANES;
+pub(crate) const GROUP: usize = GROUP_BLOCKS * LANES;
 
 /// The groups in a page.
 const GROUPS: usize = PAGE_BYTES / GROUP;
@@ -32,33 +30,58 @@ const GROUPS: usize = PAGE_BYTES / GROUP;
 pub fn count_page(copy: &[u8; PAGE_BYTES], mine: &[u8; PAGE_BYTES]) -> u32
     ensures { result ≡ differing_count copy.now mine.now }
 {
+    compare_page(copy, mine).count
+}
+
+/// How many bytes of two pages differ, and where the last group of such bytes begins.
+pub(crate) fn compare_page(copy: &[u8; PAGE_BYTES], mine: &[u8; PAGE_BYTES]) -> Comparison
+    ensures { result.count ≡ differing_count copy.now mine.now }
+{
     let mut count = 0;
+    let mut last = 0;
     for group in 0..GROUPS {
-        count += count_group(copy, mine, group * GROUP);
+        let differing = count_group(copy, mine, group * GROUP);
+        if differing > 0 {
+            count += differing;
+            last = group * GROUP;
+        }
     }
-    count
+    Comparison { count, last }
 }
 
 /// Replaces each byte of a page by that of `mine` where `mine` and `copy` differ.
 pub fn merge_page(now: &mut [u8; PAGE_BYTES], copy: &[u8; PAGE_BYTES], mine: &[u8; PAGE_BYTES])
     ensures { now.new ≡ merged_bytes now.old copy.now mine.now }
 {
-    for block in 0..BLOCKS {
+    merge(now, copy, mine);
+}
+
+/// Replaces each of some bytes by that of `mine` where `mine` and `copy` differ.
+#[inline(always)]
+pub(crate) fn merge(now: &mut [u8], copy: &[u8], mine: &[u8])
+    requires whole { length now.old % LANES ≡ 0 }
+    requires copy { length copy.now ≡ length now.old }
+    requires mine { length mine.now ≡ length now.old }
+    ensures { now.new ≡ merged_bytes now.old copy.now mine.now }
+{
+    for block in 0..now.len() / LANES {
         merge_block(now, copy, mine, block * LANES);
     }
 }
 
-/// Pushes the numbers of the bytes of two pages that differ, where the pages' first byte has this number.
+/// Pushes the numbers of the bytes that differ, where the first byte has this number.
 pub(crate) fn push_differing(
     numbers: &mut Vec<u32>,
     first: u32,
-    copy: &[u8; PAGE_BYTES],
-    mine: &[u8; PAGE_BYTES],
+    copy: &[u8],
+    mine: &[u8],
 ) -> Result<(), AllocError>
-    requires { first + PAGE_BYTES ≤ 2 ^ 32 }
+    requires whole { length copy.now % LANES ≡ 0 }
+    requires mine { length mine.now ≡ length copy.now }
+    requires first { first + length copy.now ≤ 2 ^ 32 }
     ensures { OnOk result (numbers.new.items ≡ numbers.old.items ++ differing_from first copy.now mine.now) }
 {
-    for block in 0..BLOCKS {
+    for block in 0..copy.len() / LANES {
         push_block(numbers, first, copy, mine, block * LANES)?;
     }
     Ok(())
@@ -90,7 +113,7 @@ fn push_block(
 
 /// How many bytes of a group differ.
 #[inline(always)]
-fn count_group(copy: &[u8], mine: &[u8], at: usize) -> u32
+pub(crate) fn count_group(copy: &[u8], mine: &[u8], at: usize) -> u32
     requires copy { at + GROUP ≤ length copy.now }
     requires mine { at + GROUP ≤ length mine.now }
     ensures { result ≡ differing_count (chunk at GROUP copy.now) (chunk at GROUP mine.now) }

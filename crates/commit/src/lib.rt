@@ -4,8 +4,11 @@
 
 mod changed_page;
 mod changed_pages;
+mod comparison;
+mod group;
 pub mod kernels;
 pub mod merging;
+mod mine;
 pub mod patch;
 
 pub use kernels::{count_page, merge_page};

@@ -138,6 +138,24 @@ fn two_views_are_merged_byte_by_byte(rt: HostRuntime) -> Result<(), Fail> {
 }
 
 #[test]
+fn far_bytes_of_a_page_are_merged_with_others_between_them(rt: HostRuntime) -> Result<(), Fail> {
+    // The first and the last byte of 128 side by side, and neighbours of both, by two threads.
+    let ends = [(1, DATA + 0x80, 1), (1, DATA + 0xFF, 2)];
+    let beside = [(2, DATA + 0x7E, 0x0403), (4, DATA + 0x100, 0x0807_0605)];
+    let between = [(1, DATA + 0x81, 9), (1, DATA + 0xFE, 10)];
+    for (first, second) in [(ends, beside), (beside, between), (between, ends)] {
+        let mut now = sample(rt.alloc())?;
+        let a = view_with(&rt, &now, &first)?;
+        let b = view_with(&rt, &now, &second)?;
+        merge(rt.alloc(), &mut now, &a)?;
+        merge(rt.alloc(), &mut now, &b)?;
+        assert_loads(&rt, &now, &first);
+        assert_loads(&rt, &now, &second);
+    }
+    Ok(())
+}
+
+#[test]
 fn a_patch_has_the_bytes_that_differ(rt: HostRuntime) -> Result<(), Fail> {
     let base = sample(rt.alloc())?;
     for (stores, wanted) in [
@@ -176,16 +194,19 @@ fn bytes_of_an_unmapped_page_are_dropped(rt: HostRuntime) -> Result<(), Fail> {
 
 #[test]
 fn permissions_are_those_of_the_snapshot(rt: HostRuntime) -> Result<(), Fail> {
-    let mut now = sample(rt.alloc())?;
-    let view = view_with(&rt, &now, &[(1, DATA, 5)])?;
-    now.unmap(DATA_PAGE, 1)?;
-    now.map_zero(DATA_PAGE, 1, READ_ONLY)?;
-    merge(rt.alloc(), &mut now, &view)?;
-    let cells = [
-        (DATA, Some((5, READ_ONLY))),
-        (DATA + 1, Some((0, READ_ONLY))),
-    ];
-    assert_cells(&rt, &now, &cells);
+    for last in [0, 6] {
+        let mut now = sample(rt.alloc())?;
+        let view = view_with(&rt, &now, &[(1, DATA, 5), (1, DATA + 0xFFF, last)])?;
+        now.unmap(DATA_PAGE, 1)?;
+        now.map_zero(DATA_PAGE, 1, READ_ONLY)?;
+        merge(rt.alloc(), &mut now, &view)?;
+        let cells = [
+            (DATA, Some((5, READ_ONLY))),
+            (DATA + 1, Some((0, READ_ONLY))),
+            (DATA + 0xFFF, Some((last as u8, READ_ONLY))),
+        ];
+        assert_cells(&rt, &now, &cells);
+    }
     Ok(())
 }
 

@@ -1,10 +1,10 @@
-use Rattle.std.specs.Prelude.{◌≡◌, ℕ, ◌%◌, ◌==◌, if◌then◌else◌, Option, Some, None, MatchOption, Bool, length, slice_index, option_map}
+use Rattle.std.specs.Prelude.{◌≡◌, ℕ, ◌%◌, ◌==◌, if◌then◌else◌, Option, Some, None, MatchOption, Bool, List, length, slice_index, option_map}
 use Rattle.std.specs.Option.{option_and_then}
 use Rattle.guest_memory.specs.Memory.{Memory}
 use Rattle.guest_memory.specs.Layout.{page_of, page_size}
 use Rattle.guest_memory.specs.declared.perm.Perm.{Perm}
 use Rattle.paged_memory.specs.Page.{PageValue}
-use Rattle.paged_memory.specs.Bytes.{with_low_bytes}
+use Rattle.paged_memory.specs.Bytes.{with_low_bytes, with_part}
 
 -- which page each page number has, or none where it isn't mapped
 abbrev pub PageMap : Type 0
@@ -18,6 +18,10 @@ memory_of_pages pages address =
 -- the pages with what one number has replaced by what is made of it
 unfoldable pub with_page : ℕ → (Option PageValue → Option PageValue) → PageMap → PageMap
 with_page number made pages other = if number == other then made (pages other) else pages other
+
+-- a page with the bytes from an offset on replaced by a part
+abbrev pub with_part_in : ℕ → List ℕ → PageValue → PageValue
+with_part_in offset part page = record { perm = page.perm; bytes = with_part offset part page.bytes }
 
 -- a page with the count bytes from an offset on replaced by those of a number, the lowest first
 abbrev pub with_number_in : ℕ → ℕ → ℕ → PageValue → PageValue

@@ -13,7 +13,7 @@ pub(crate) trait Change: Drop {
     ghost makes: { Self → Option PageValue → Option PageValue };
 
     /// Does it. When memory runs out the page stays.
-    fn make(self, page: &mut Option<Arc<Page>>) -> Result<(), AllocError>
+    fn make(self, alloc: Global, page: &mut Option<Arc<Page>>) -> Result<(), AllocError>
         ensures made { OnOk result (option_map arc_value page.new ≡ makes self (option_map arc_value page.old)) }
         ensures kept { OnErr result (option_map arc_value page.new ≡ option_map arc_value page.old) };
 }
@@ -70,10 +70,10 @@ impl Level for Page {
 
     fn change<C: Change>(
         entry: &mut Option<Arc<Self>>,
-        _alloc: Global,
+        alloc: Global,
         _number: u32,
         change: C,
     ) -> Result<(), AllocError> {
-        change.make(entry)
+        change.make(alloc, entry)
     }
 }

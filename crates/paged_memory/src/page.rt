@@ -4,7 +4,7 @@ ghost use Rattle.elf32_reader.specs.LoadSegment.{LoadSegment, first_page, last_p
 ghost use Rattle.paged_memory.specs.Mapping.{is_among};
 ghost use Rattle.paged_memory.specs.Page.{PageValue};
 ghost use Rattle.paged_memory.specs.Bytes.{number_from, with_low_bytes};
-ghost use Rattle.paged_memory.specs.PageMap.{with_number_in};
+ghost use Rattle.paged_memory.specs.PageMap.{with_number_in, with_part_in};
 ghost use Rattle.paged_memory.specs.Number.{width_of, value_of};
 
 use crate::little_endian::{read16, read32, write8, write16, write32};
@@ -12,11 +12,10 @@ use crate::number::Number;
 use elf32_reader::Segment;
 use guest_memory::Perm;
 use guest_memory::layout::PAGE_SIZE;
-use std::alloc::AllocError;
 use std::marker::Model;
 
 /// A page of a guest's memory: what it permits, and its 4096 bytes.
-#[derive(Drop)]
+#[derive(Clone, Copy)]
 pub struct Page {
     bytes: [u8; PAGE_SIZE as usize],
     perm: Perm,
@@ -26,6 +25,8 @@ impl Model for Page {
     ghost Value = { PageValue };
 
     ghost view = { λ p. record { perm = p.perm; bytes = p.bytes } };
+
+    ghost inverse = { λ page. record { bytes = page.bytes; perm = page.perm } };
 }
 
 impl Page {
@@ -105,6 +106,14 @@ impl Page {
         }
     }
 
+    /// Writes bytes from an offset on.
+    pub(crate) fn write_part(&mut self, offset: usize, part: &[u8])
+        requires { offset + length part.now ≤ page_size }
+        ensures { self.new ≡ with_part_in offset part.now self.old }
+    {
+        self.bytes[offset..offset + part.len()].copy_from_slice(part);
+    }
+
     /// Writes bytes from an offset on, as many as the page has place for.
     fn fill(&mut self, offset: usize, bytes: &[u8])
         requires { offset < page_size }
@@ -130,18 +139,5 @@ impl Page {
             page.fill(start.saturating_sub(page_start) as usize, &bytes[done..]);
         }
         page
-    }
-}
-
-impl Clone for Page {
-    ghost is_clone = { λ page copy. copy ≡ page };
-
-    ghost is_infallible = { λ _. Unit {0} };
-
-    fn clone(&self) -> Result<Self, AllocError> {
-        Ok(Page {
-            perm: self.perm,
-            bytes: self.bytes,
-        })
     }
 }

@@ -14,14 +14,13 @@ overflow_add-self c =
     let all : length (addresses_with (patched c.self.inside.pages.items)) ≤ 2 ^ 32 = length-addresses_with (patched c.self.inside.pages.items) in
     record { fits = omega arith }
 
-pub invariant_of-self-then-count-gt0 : goal.invariant_of-self-then-count-gt0
-invariant_of-self-then-count-gt0 c =
+pub invariant_of-self-then-found-gt0 : goal.invariant_of-self-then-found-gt0
+invariant_of-self-then-found-gt0 c =
     let change : PageChange = record { number = c.args.number; copy = (arc_value c.args.copy.now).bytes; mine = c.args.mine.now.bytes } in
-    let page : c.new-page.result ≡ change = rw (c.new-page.ensures, c.in_ok-try_clone.ensures, c.in_ok-mine.ensures.ok, c.in_ok-clone.ensures.cases) refl in
     let items : c.push.new.self.items ≡ c.self.inside.pages.items ++ change ∷ [] =
-    c.in_ok-push.ensures.items ∙ ap (λ (one : PageChange). c.self.inside.pages.items ++ one ∷ []) page in
+    c.in_ok-push.ensures.items ∙ ap (λ (one : PageChange). c.self.inside.pages.items ++ one ∷ []) c.in_ok-page.ensures in
     let copied : c.bytes.result.now ≡ change.copy = c.bytes.ensures.bytes ∙ ap (λ (value : PageValue). value.bytes) c.deref.ensures in
-    let count : c.from.result ≡ differing_count change.copy change.mine = rw (c.from.ensures, c.count_page-count.ensures, copied, c.bytes-2.ensures.bytes) refl in
+    let count : c.from.result ≡ differing_count change.copy change.mine = rw (c.from.ensures, c.compare_page-found.ensures, copied, c.bytes-2.ensures.bytes) refl in
     rw (items, count)
     (AreCounted-more c.self.inside.pages.items change c.self.inside.count c.self.invariant (rw c.self.view_is c.requires.below) c.requires.number
     (rw (← c.deref.ensures) c.bytes.ensures.size) c.bytes-2.ensures.size)
@@ -29,13 +28,12 @@ invariant_of-self-then-count-gt0 c =
 pub returns-in_ok-push-clause-added : goal.returns-in_ok-push-clause-added
 returns-in_ok-push-clause-added c address =
     let change : PageChange = record { number = c.args.number; copy = (arc_value c.args.copy.now).bytes; mine = c.args.mine.now.bytes } in
-    let page : c.new-page.result ≡ change = rw (c.new-page.ensures, c.in_ok-try_clone.ensures, c.in_ok-mine.ensures.ok, c.in_ok-clone.ensures.cases) refl in
     let items : c.push.new.self.items ≡ c.self.inside.pages.items ++ change ∷ [] =
-    c.in_ok-push.ensures.items ∙ ap (λ (one : PageChange). c.self.inside.pages.items ++ one ∷ []) page in
+    c.in_ok-push.ensures.items ∙ ap (λ (one : PageChange). c.self.inside.pages.items ++ one ∷ []) c.in_ok-page.ensures in
     rw (items, ← c.self.view_is) (patched-more c.self.inside.pages.items change (rw c.self.view_is c.requires.below) address)
 
-pub returns-else-count-gt0-clause-added : goal.returns-else-count-gt0-clause-added
-returns-else-count-gt0-clause-added c address =
+pub returns-else-found-gt0-clause-added : goal.returns-else-found-gt0-clause-added
+returns-else-found-gt0-clause-added c address =
     let copied : c.bytes.result.now ≡ (arc_value c.args.copy.now).bytes = c.bytes.ensures.bytes ∙ ap (λ (value : PageValue). value.bytes) c.deref.ensures in
     let none : differing_count (arc_value c.args.copy.now).bytes c.args.mine.now.bytes ≡ 0 = rw (← copied, ← c.bytes-2.ensures.bytes) (omega arith) in
     let size : length (arc_value c.args.copy.now).bytes ≡ 4096 = rw (← c.deref.ensures) c.bytes.ensures.size in

@@ -1,4 +1,4 @@
-use Rattle.std.proofs.Common.{◌≡◌, ◌&&◌, Bool, true, false, Result, Ok, Err, IfOk, ℕ, List, length, refl, ap, sym, ◌∙◌}
+use Rattle.std.proofs.Common.{◌≡◌, ◌&&◌, Bool, true, false, Result, Ok, Err, IfOk, ℕ, List, length, refl, ap, ap₂, sym, ◌∙◌}
 use Rattle.std.proofs.Math.Bool.{beq}
 use Rattle.std.proofs.lemmas.Bool.{and_parts}
 use Rattle.std.specs.Arc.{arc_value}
@@ -6,7 +6,7 @@ use Rattle.guest_memory.specs.declared.perm.Perm.{Perm}
 use Rattle.paged_memory.specs.Page.{PageValue}
 use Rattle.commit.specs.Bytes.{differing_count, merged_bytes}
 use Rattle.commit.proofs.Merges.{merged_bytes-unchanged}
-use Rattle.commit.proofs.changed_page.ChangedPage.merged.Goals as goal
+use Rattle.commit.proofs.changed_page.merged.Goals as goal
 
 same_bool : (one other : Bool) → beq one other ≡ true → one ≡ other
 same_bool true true same = refl
@@ -34,20 +34,19 @@ own_page now mine copy permits size size' none =
 pub returns-then-eq-clause-merged : goal.returns-then-eq-clause-merged
 returns-then-eq-clause-merged c =
     let now : PageValue = c.args.now.now in
-    let mine : PageValue = arc_value c.self.inside.mine in
-    let copy : List ℕ = (arc_value c.self.inside.copy).bytes in
+    let mine : PageValue = arc_value c.args.mine.now in
+    let copy : List ℕ = c.args.copy.now.bytes in
     let permits : now.perm ≡ mine.perm =
     sym c.perm.ensures.perm ∙ same_perm c.perm.result c.perm-then-count_page-eq0.result (sym c.if-eq.ensures)
-    ∙ c.perm-then-count_page-eq0.ensures.perm ∙ ap (λ (value : PageValue). value.perm) c.deref-then-count_page-eq0.ensures in
-    let size : length copy ≡ 4096 = rw (← c.deref.ensures) c.bytes-2.ensures.size in
-    let size' : length mine.bytes ≡ 4096 = rw (← c.deref-then-count_page-eq0.ensures) c.perm-then-count_page-eq0.ensures.size in
+    ∙ c.perm-then-count_page-eq0.ensures.perm ∙ ap (λ (value : PageValue). value.perm) c.deref.ensures in
+    let size : length copy ≡ 4096 = c.bytes-2.ensures.size in
+    let size' : length mine.bytes ≡ 4096 = rw (← c.deref.ensures) c.perm-then-count_page-eq0.ensures.size in
     let none : differing_count now.bytes copy ≡ 0 =
-    ap (λ (list : List ℕ). differing_count list copy) (sym c.bytes.ensures.bytes)
-    ∙ ap (differing_count c.bytes.result.now) (sym (c.bytes-2.ensures.bytes ∙ ap (λ (value : PageValue). value.bytes) c.deref.ensures))
+    ap₂ differing_count (sym c.bytes.ensures.bytes) (sym c.bytes-2.ensures.bytes)
     ∙ sym c.count_page.ensures ∙ c.if-count_page-eq0.true in
     let own : mine ≡ record { perm = now.perm; bytes = merged_bytes now.bytes copy mine.bytes } =
     own_page now mine copy permits (size ∙ sym c.bytes.ensures.size) (size' ∙ sym c.bytes.ensures.size) none in
-    rw (← c.self.view_is) (shared c.try_clone.result mine _ arc_value c.try_clone.ensures own)
+    shared c.try_clone.result mine _ arc_value c.try_clone.ensures own
   where
     shared : {E A : Type 0} (result : Result A E) (mine merged : PageValue) (value : A → PageValue) → IfOk result (λ page. value page ≡ mine) → mine ≡ merged → IfOk result (λ page. value page ≡ merged)
     shared (Ok page) mine merged value is own = is ∙ own

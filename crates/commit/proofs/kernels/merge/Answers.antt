@@ -1,6 +1,6 @@
 use Rattle.std.proofs.Common.{◌≡◌, ◌+◌, ◌*◌, arith}
 use Rattle.commit.proofs.Blocks.{merged_below-more}
-use Rattle.commit.proofs.kernels.merge_page.Goals as goal
+use Rattle.commit.proofs.kernels.merge.Goals as goal
 
 pub loop-block-preserved : goal.loop-block-preserved
 loop-block-preserved c =

@@ -2,7 +2,7 @@ use Rattle.std.proofs.Common.{◌≡◌, ◌+◌, ◌*◌, ◌≤◌, length, ta
 use Rattle.std.proofs.lemmas.List.{length-take-le}
 use Rattle.commit.specs.Bytes.{differing_count}
 use Rattle.commit.proofs.Blocks.{differing_count-small, differing_count-more}
-use Rattle.commit.proofs.kernels.count_page.Goals as goal
+use Rattle.commit.proofs.kernels.compare_page.Goals as goal
 
 pub overflow_add-count : goal.overflow_add-count
 overflow_add-count c =
