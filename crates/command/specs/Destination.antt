@@ -1,5 +1,7 @@
 -- Where the texts of a run go.
-use Rattle.std.specs.Prelude.{◌≡◌, ℕ, Option, Some, None, List, []}
+use Rattle.std.specs.Borrow.{Bor}
+use Rattle.std.specs.Prelude.{◌≡◌, ℕ, if◌then◌else◌, Option, Some, None, List, [], nat_eq, codes}
+use Rattle.std.specs.Cmp.Lexicographic.{pointwise}
 use Rattle.std.specs.Io.KnownBytes.{Appends}
 use Rattle.files.specs.Content.{Content, Has, Holds}
 use Rattle.files.specs.Names.{part_of}
@@ -7,6 +9,10 @@ use Rattle.command.specs.declared.destination.Destination.{Destination}
 use Rattle.command.specs.declared.destination.Destination.TheVariants.{StandardOutput, File}
 use Rattle.command.specs.declared.place.Place.{Place}
 use Rattle.command.specs.declared.place.Place.TheVariants as place
+
+-- the destination that an argument names: standard output is -
+abbrev pub destination_of : Bor (List ℕ) → Destination
+destination_of argument = if pointwise nat_eq argument.now (codes "-") then StandardOutput else File argument
 
 -- what a text for a destination is written to
 abbrev pub place_of : Destination → Place

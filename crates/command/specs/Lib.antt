@@ -1,5 +1,6 @@
 pub mod Destination
 pub mod Failure
+pub mod Names
 pub mod Recorders
 pub mod Records
 pub mod Replays

@@ -11,10 +11,12 @@ pub enum Destination<'a> {
 
 impl<'a> Destination<'a> {
     ghost use Rattle.std.specs.Prelude.{◌≡◌};
-    ghost use Rattle.command.specs.Destination.{place_of};
+    ghost use Rattle.command.specs.Destination.{destination_of, place_of};
 
     /// The destination that an argument names: standard output is `-`.
-    pub fn named(argument: &'a str) -> Self {
+    pub fn named(argument: &'a str) -> Self
+        ensures { result ≡ destination_of argument.entry }
+    {
         match argument {
             "-" => Destination::StandardOutput,
             path => Destination::File(path),

@@ -1,6 +1,7 @@
 //! Whether two arguments of a run name one file.
-ghost use Rattle.std.specs.Prelude.{◌≡◌, true, IfErr, IfOk};
+ghost use Rattle.std.specs.Prelude.{◌≡◌, ◌++◌, true, None, Contains, IfErr, IfOk, IfSome, OnOk};
 ghost use Rattle.files.specs.Names.{text_of};
+ghost use Rattle.command.specs.Names.{counts, names_in, names_of, IsUnlike, AreUnlike, Stand};
 
 use crate::destination::Destination;
 use crate::failure::Failure;
@@ -17,7 +18,9 @@ pub fn named_twice<'a, F: Files>(
     records: &Records<'a>,
     files: &F,
 ) -> Result<Option<(FileName<'a>, FileName<'a>)>, Failure<'a>>
-    ensures { IfErr result (λ failure. failure ≡ Failure.OutOfMemory) }
+    ensures none { IfOk result (λ twins. twins ≡ None → AreUnlike (names_of file.entry records.now)) }
+    ensures some { IfOk result (λ twins. IfSome twins (λ two. Stand two.0 two.1 (names_of file.entry records.now))) }
+    ensures err { IfErr result (λ failure. failure ≡ Failure.OutOfMemory) }
 {
     let names = names_of(alloc, file, records)?;
     first_twins(alloc, names.as_slice(), files)
@@ -28,9 +31,11 @@ fn names_of<'a>(
     alloc: Global,
     file: &'a str,
     records: &Records<'a>,
-) -> Result<Vec<FileName<'a>>, AllocError> {
+) -> Result<Vec<FileName<'a>>, AllocError>
+    ensures { IfOk result (λ names. names.items ≡ names_of file.entry records.now) }
+{
     let mut names = Vec::new(alloc);
-    if counts(file) {
+    if is_counted(file) {
         names.push(FileName::At(file))?;
     }
     add_names(records.trace, &mut names)?;
@@ -43,9 +48,11 @@ fn names_of<'a>(
 fn add_names<'a>(
     destination: Option<Destination<'a>>,
     names: &mut Vec<FileName<'a>>,
-) -> Result<(), AllocError> {
+) -> Result<(), AllocError>
+    ensures { OnOk result (names.new.items ≡ names.old.items ++ names_in destination.entry) }
+{
     if let Some(Destination::File(path)) = destination
-        && counts(path)
+        && is_counted(path)
     {
         names.push(FileName::At(path))?;
         names.push(FileName::PartOf(path))?;
@@ -54,8 +61,10 @@ fn add_names<'a>(
 }
 
 /// Whether a path is one of those of which each names a file of its own.
-fn counts(path: &str) -> bool {
-    path != "-" && !path.starts_with("/dev/")
+fn is_counted(path: &str) -> bool
+    ensures { result ≡ counts path.now }
+{
+    path != "-" && !path.as_bytes().starts_with(b"/dev/")
 }
 
 /// The first two of these names that are of one file.
@@ -64,14 +73,17 @@ fn first_twins<'a, F: Files>(
     names: &[FileName<'a>],
     files: &F,
 ) -> Result<Option<(FileName<'a>, FileName<'a>)>, Failure<'a>>
-    ensures { IfErr result (λ failure. failure ≡ Failure.OutOfMemory) }
+    ensures none { IfOk result (λ twins. twins ≡ None → AreUnlike names.now) }
+    ensures some { IfOk result (λ twins. IfSome twins (λ two. Stand two.0 two.1 names.now)) }
+    ensures err { IfErr result (λ failure. failure ≡ Failure.OutOfMemory) }
 {
-    for (place, name) in names.iter().enumerate() {
-        if let Some(twin) = twin_of(alloc, *name, &names[place + 1..], files)? {
-            return Ok(Some((*name, twin)));
-        }
+    let [name, others @ ..] = names else {
+        return Ok(None);
+    };
+    match twin_of(alloc, *name, others, files)? {
+        Some(twin) => Ok(Some((*name, twin))),
+        None => first_twins(alloc, others, files),
     }
-    Ok(None)
 }
 
 /// The first of these names that is of the same file as this one.
@@ -81,7 +93,9 @@ fn twin_of<'a, F: Files>(
     others: &[FileName<'a>],
     files: &F,
 ) -> Result<Option<FileName<'a>>, Failure<'a>>
-    ensures { IfErr result (λ failure. failure ≡ Failure.OutOfMemory) }
+    ensures none { IfOk result (λ twin. twin ≡ None → IsUnlike name.entry others.now) }
+    ensures some { IfOk result (λ twin. IfSome twin (λ other. Contains others.now other)) }
+    ensures err { IfErr result (λ failure. failure ≡ Failure.OutOfMemory) }
 {
     for other in others {
         if is_one_file(alloc, name, *other, files)? {
