@@ -21,6 +21,9 @@ pub const REPORT: &str = "report";
 /// The path of the file of `MemoryFiles` for a digest.
 pub const DIGEST: &str = "digest";
 
+/// A path of `MemoryFiles` that can't be compared with another one, since memory is refused for that.
+pub const REFUSED: &str = "refused";
+
 /// A program, a schedule, and files in memory for a trace, a report and a digest. No other path has a file, and none can be
 /// written.
 #[derive(Drop)]
@@ -134,6 +137,9 @@ impl Files for MemoryFiles<'_> {
         one: FileName<'_>,
         other: FileName<'_>,
     ) -> Result<bool, WriteFault> {
+        if one.path() == REFUSED || other.path() == REFUSED {
+            return Err(WriteFault::OutOfMemory);
+        }
         Ok(one.text(alloc)? == other.text(alloc)?)
     }
 

@@ -3,7 +3,7 @@
 use super::performed::Performed;
 use super::{conclude, perform};
 use crate::failure::Failure;
-use crate::fakes::{FailingReader, FailingWriter, MemoryFiles};
+use crate::fakes::{FailingReader, FailingWriter, MemoryFiles, REFUSED};
 use crate::place::Place;
 use elf32_reader::ElfFault;
 use files::FileName;
@@ -217,6 +217,18 @@ fn some_files_may_be_named_twice(rt: HostRuntime) -> Result<(), Fail> {
         );
     }
     Ok(())
+}
+
+#[test]
+fn names_that_memory_is_refused_to_compare_are_not_taken_for_two_files(rt: HostRuntime) {
+    let rows: [&[&str]; 3] = [
+        &["dthreads", "run", "a", "--trace", REFUSED],
+        &["dthreads", "run", REFUSED, "--digest", "d"],
+        &["dthreads", "run", "-", "--trace", "t", "--report", REFUSED],
+    ];
+    for arguments in rows {
+        asked(&rt, arguments).assert_is(&rt, 125, b"", "out of memory\n");
+    }
 }
 
 #[test]
