@@ -1,30 +1,8 @@
-//! The program: it reads the arguments of its command line and does what they ask for.
+//! The program: the commands on the host's files and streams.
 #![tactic(auto)]
 
-mod arguments;
-mod command_line;
-mod destination;
-mod disasm;
-mod failure;
-#[cfg(test)]
-mod fakes;
-mod made_outputs;
-mod naming;
-mod outputs;
-mod perform;
-mod place;
-mod publishing;
-mod records;
-mod replay_failure;
-mod replaying;
-mod request;
-mod running;
-mod text_recorders;
-
-use arguments::arguments_of;
-use failure::Failure;
+use commands::{arguments_of, conclude, perform};
 use files::HostFiles;
-use perform::{conclude, perform};
 use runtime::WriteSink;
 use std::process::ExitCode;
 

@@ -105,7 +105,7 @@ impl Phase {
         }
         let mut send = ||
             requires { IsSync R.row × IsSync G.row × IsSync J.row × IsSend J.row × (0 < length others.items) × All (λ other. other.row ≡ self.now.row) others.items × (J.jobs ≡ self.now.jobs) × (J.memory ≡ cells_of self.now.base) }
-        { self.send_by_all::<J, G, R>(rt, others.as_mut_slice(), gate, &sender) };
+        { self.send_by_all::<J, G, R>(rt, gate, &sender, others.as_mut_slice()) };
         let mut take = || -> Result<(), AllocError>
             requires { (seat.row ≡ self.now.row) × (J.jobs ≡ self.now.jobs) × (J.memory ≡ cells_of self.now.base) × IsTakerOf self.now.jobs (cells_of self.now.base) (T.turns_of taker.now) (T.begins_with taker.now) (T.taker_stage taker.now) New }
             ensures { (T.turns_of taker.exit.now ≡ T.turns_of taker.entry.now) × (T.begins_with taker.exit.now ≡ T.begins_with taker.entry.now) × OnOk result (IsThrough self.entry.now.jobs (T.taker_stage taker.exit.now)) × OnErr result (IsCutShort self.entry.now.jobs (T.taker_stage taker.exit.now)) }

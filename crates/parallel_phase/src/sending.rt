@@ -10,8 +10,7 @@ use claim_table::DrawSeat;
 use crossbeam_channel::Sender;
 use gate::Gate;
 use std::sync::Wait;
-use std::thread;
-use std::thread::Threads;
+use std::thread::{Threads, join_mut};
 
 impl Phase {
     /// Draws a job, runs it and sends what became of it. Whether to go on: not where no job is left.
@@ -52,26 +51,33 @@ impl Phase {
         }
     }
 
-    /// Works by some seats, each in a thread of its own where one can be started.
+    /// Works by some seats, each in a thread of its own where one can be started, the last one in the caller's, which
+    /// starts all others.
+    #[cycle(senders)]
     pub(crate) fn send_by_all<J: PhaseName + Send + Sync, G: Gate + Sync, R: Threads + Wait + Sync>(
         &self,
         rt: &R,
-        seats: &mut [DrawSeat],
         gate: &G,
         results: &Sender<Message<J>>,
+        seats: &mut [DrawSeat],
     )
         requires some { 0 < length seats.old }
         requires row { All (λ seat. seat.row ≡ self.now.row) seats.old }
         requires named { (J.jobs ≡ self.now.jobs) × (J.memory ≡ cells_of self.now.base) }
     {
-        let threads = seats.len();
-        thread::for_each_mut(
+        if seats.len() < 2 {
+            self.send_all(rt, &mut seats[0], gate, results);
+            return;
+        }
+        let (first, others) = seats.split_at_mut(1);
+        join_mut(
             rt,
-            seats,
-            threads,
-            &|_, seat: &mut DrawSeat|
-                requires { IsSync R.row × IsSync G.row × IsSync J.row × IsSend J.row × (seat.old.row ≡ self.now.row) × (J.jobs ≡ self.now.jobs) × (J.memory ≡ cells_of self.now.base) }
-            { self.send_all(rt, seat, gate, results) },
+            &mut ||
+                requires { IsSync R.row × IsSync G.row × IsSync J.row × IsSend J.row × (0 < length first.now) × All (λ seat. seat.row ≡ self.now.row) first.now × (J.jobs ≡ self.now.jobs) × (J.memory ≡ cells_of self.now.base) }
+            { self.send_by_all(rt, gate, results, first) },
+            &mut ||
+                requires { IsSync R.row × IsSync G.row × IsSync J.row × IsSend J.row × (0 < length others.now) × All (λ seat. seat.row ≡ self.now.row) others.now × (J.jobs ≡ self.now.jobs) × (J.memory ≡ cells_of self.now.base) }
+            { self.send_by_all(rt, gate, results, others) },
         );
     }
 }

@@ -17,8 +17,7 @@ use claim_table::DrawSeat;
 use gate::Gate;
 use paged_memory::Snapshot;
 use std::alloc::{AllocError, Global};
-use std::thread;
-use std::thread::Threads;
+use std::thread::{Threads, join_mut};
 
 /// How many seats so many workers take for so many jobs: no more than there are jobs, but one.
 pub fn seats_for(jobs: usize, workers: u32) -> u32
@@ -44,20 +43,28 @@ impl Phase {
         Ok(works)
     }
 
-    /// Does the works, each in a thread of its own where one can be started, the last one in the caller's.
-    fn work_all<G: Gate + Sync, R: Threads + Sync>(&self, rt: &R, works: &mut [WorkDone], gate: &G)
+    /// Does the works, each in a thread of its own where one can be started, the last one in the caller's, which starts
+    /// all others.
+    #[cycle(works)]
+    fn work_all<G: Gate + Sync, R: Threads + Sync>(&self, rt: &R, gate: &G, works: &mut [WorkDone])
         requires { (0 < length works.old) × All (IsUnbegun self.now) works.old }
         ensures { (length works.new ≡ length works.old) × All (IsWorkOf self.now) works.new }
     {
-        let threads = works.len();
-        thread::for_each_mut(
+        if works.len() < 2 {
+            self.work_on(&mut works[0], gate);
+            return;
+        }
+        let (first, others) = works.split_at_mut(1);
+        join_mut(
             rt,
-            works,
-            threads,
-            &|_, work: &mut WorkDone|
-                requires { IsSync G.row × IsUnbegun self.now work.old }
-                ensures { IsWorkOf self.entry.now work.new }
-            { self.work_on(work, gate) },
+            &mut ||
+                requires { IsSync R.row × IsSync G.row × (0 < length first.now) × All (IsUnbegun self.now) first.now }
+                ensures { (length first.exit.now ≡ length first.entry.now) × All (IsWorkOf self.entry.now) first.exit.now }
+            { self.work_all(rt, gate, first) },
+            &mut ||
+                requires { IsSync R.row × IsSync G.row × (0 < length others.now) × All (IsUnbegun self.now) others.now }
+                ensures { (length others.exit.now ≡ length others.entry.now) × All (IsWorkOf self.entry.now) others.exit.now }
+            { self.work_all(rt, gate, others) },
         );
     }
 }
@@ -80,6 +87,6 @@ pub fn run_phase<G: Gate + Sync, R: Threads + Sync>(
 {
     let (phase, seats) = Phase::open(alloc, jobs, seats_for(jobs.len(), workers), base)?;
     let mut works = phase.unbegun(seats)?;
-    phase.work_all(rt, works.as_mut_slice(), gate);
+    phase.work_all(rt, gate, works.as_mut_slice());
     phase.collect(works)
 }

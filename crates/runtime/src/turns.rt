@@ -3,6 +3,7 @@ ghost use Rattle.std.specs.Prelude.{◌≡◌, ◌-◌, ◌^◌, ◌<◌, ◌≤
 ghost use Rattle.token.specs.RunInTurn.{point_of};
 ghost use Rattle.runtime.specs.Sending.{CountsFailures, SendsOn};
 ghost use Rattle.runtime.specs.Turns.{Moves};
+ghost use denote.Param.Send.{IsSync, IsSend};
 
 use crate::run_fault::RunFault;
 use crate::sending::send;
@@ -12,10 +13,7 @@ use std::alloc::Global;
 use std::sync::Wait;
 use std::thread::{Threads, join_mut};
 use token::{Need, Recorder, RunOutcome, Serial, TurnFault};
-use worker_pool::{OfRun, Pool};
-
-/// The number of the first worker. The caller is worker 0.
-const FIRST_WORKER: u32 = 1;
+use worker_pool::{Crew, OfRun, Pool};
 
 /// Does the next turn, or answers how the run ended where there is none.
 fn take_turn<B: OfRun + Send + Sync, R: Wait, K: Recorder, G: Gate>(
@@ -78,7 +76,7 @@ fn send_turn<B: OfRun + Send + Sync, R: Wait, K: Recorder, G: Gate, S: Sink>(
 }
 
 /// Does turns, and sends the output of each before the next one, until the run has ended, and answers how; or until a
-/// phase has work for workers that aren't hired.
+/// phase has work for one worker more.
 fn go_on<B: OfRun + Send + Sync, R: Wait, K: Recorder, G: Gate, S: Sink>(
     rt: &R,
     serial: &mut Serial<K>,
@@ -95,7 +93,7 @@ fn go_on<B: OfRun + Send + Sync, R: Wait, K: Recorder, G: Gate, S: Sink>(
     ensures fault { IfErr result (λ fault. fault ≡ RunFault.RecordFailed → K.writes) }
 {
     for _ in rt.forever() {
-        if pool.wants_workers(serial) {
+        if pool.wants_worker(serial) {
             return Ok(None);
         }
         if let Some(outcome) = send_turn(rt, serial, pool, gate, sink)? {
@@ -129,29 +127,13 @@ fn go_to_end<B: OfRun + Send + Sync, R: Wait, K: Recorder, G: Gate, S: Sink>(
     unreachable!()
 }
 
-/// Does the rest of the turns, and tells the workers then that the run has ended.
-fn conclude<B: OfRun + Send + Sync, R: Wait, K: Recorder, G: Gate, S: Sink>(
-    rt: &R,
-    serial: &mut Serial<K>,
-    pool: &mut Pool<B>,
-    gate: &G,
-    sink: &mut S,
-) -> Result<RunOutcome, RunFault>
-    requires failures { S.failed sink.old < 2 ^ 64 - 1 }
-    requires run { (point_of serial.old).setup ≡ B.setup }
-    ensures setup { (point_of serial.new).setup ≡ (point_of serial.old).setup }
-    ensures ended { IfOk result (λ outcome. (point_of serial.new).ended ≡ Some outcome) }
-    ensures sent { SendsOn result (point_of serial.old).state.output (point_of serial.new).state.output (S.taken sink.old) (S.taken sink.new) }
-    ensures failures { CountsFailures result (S.failed sink.old) (S.failed sink.new) }
-    ensures fault { IfErr result (λ fault. fault ≡ RunFault.RecordFailed → K.writes) }
-{
-    let result = go_to_end(rt, serial, pool, gate, sink);
-    pool.dismiss();
-    result
-}
-
-/// Does the rest of the turns, while workers that are hired for it execute segments.
-fn go_on_hired<
+/// Does the rest of the turns, and answers how the run ended. Each time that a phase has work for one worker more, that
+/// one is started, as long as so many are left.
+///
+/// Each is started by the caller, since the system puts a thread beside the one that starts it: where workers started
+/// each other, two of them shared a processor for as long as some short runs take.
+#[cycle(hiring)]
+fn go_on_with<
     B: OfRun + Send + Sync,
     R: Threads + Wait + Sync,
     K: Recorder,
@@ -163,6 +145,58 @@ fn go_on_hired<
     pool: &mut Pool<B>,
     gate: &G,
     sink: &mut S,
+    crew: &Crew<B>,
+    left: u32,
+) -> Result<RunOutcome, RunFault>
+    requires failures { S.failed sink.old < 2 ^ 64 - 1 }
+    requires run { (point_of serial.old).setup ≡ B.setup }
+    ensures setup { (point_of serial.new).setup ≡ (point_of serial.old).setup }
+    ensures ended { IfOk result (λ outcome. (point_of serial.new).ended ≡ Some outcome) }
+    ensures sent { SendsOn result (point_of serial.old).state.output (point_of serial.new).state.output (S.taken sink.old) (S.taken sink.new) }
+    ensures failures { CountsFailures result (S.failed sink.old) (S.failed sink.new) }
+    ensures fault { IfErr result (λ fault. fault ≡ RunFault.RecordFailed → K.writes) }
+{
+    if left == 0 {
+        return go_to_end(rt, serial, pool, gate, sink);
+    }
+    if let Some(outcome) = go_on(rt, serial, pool, gate, sink)? {
+        return Ok(outcome);
+    }
+    pool.add_worker();
+    let others = left - 1;
+    let (_, result) = join_mut(
+        rt,
+        &mut || crew.serve(rt, gate),
+        &mut || -> Result<RunOutcome, RunFault>
+            requires { IsSync R.row × IsSync G.row × IsSync B.row × IsSend B.row × (S.failed sink.now < 2 ^ 64 - 1) × ((point_of serial.now).setup ≡ B.setup) }
+            ensures setup { (point_of serial.exit.now).setup ≡ (point_of serial.entry.now).setup }
+            ensures ended { IfOk result (λ outcome. (point_of serial.exit.now).ended ≡ Some outcome) }
+            ensures sent { SendsOn result (point_of serial.entry.now).state.output (point_of serial.exit.now).state.output (S.taken sink.entry.now) (S.taken sink.exit.now) }
+            ensures failures { CountsFailures result (S.failed sink.entry.now) (S.failed sink.exit.now) }
+            ensures fault { IfErr result (λ fault. fault ≡ RunFault.RecordFailed → K.writes) }
+        {
+            let outcome = go_on_with(rt, serial, pool, gate, sink, crew, others);
+            pool.dismiss();
+            outcome
+        },
+    );
+    result
+}
+
+/// Does the rest of the turns, beside so many workers at most, and answers how the run ended.
+fn go_on_hiring<
+    B: OfRun + Send + Sync,
+    R: Threads + Wait + Sync,
+    K: Recorder,
+    G: Gate + Sync,
+    S: Sink,
+>(
+    rt: &R,
+    serial: &mut Serial<K>,
+    pool: &mut Pool<B>,
+    gate: &G,
+    sink: &mut S,
+    workers: u32,
 ) -> Result<RunOutcome, RunFault>
     requires failures { S.failed sink.old < 2 ^ 64 - 1 }
     requires run { (point_of serial.old).setup ≡ B.setup }
@@ -173,14 +207,7 @@ fn go_on_hired<
     ensures fault { IfErr result (λ fault. fault ≡ RunFault.RecordFailed → K.writes) }
 {
     let crew = pool.hire()?;
-    let (_, result) = join_mut(
-        rt,
-        &mut || crew.serve(rt, gate, FIRST_WORKER),
-        &mut ||
-            requires { (S.failed sink.now < 2 ^ 64 - 1) × ((point_of serial.now).setup ≡ B.setup) }
-        { conclude(rt, serial, pool, gate, sink) },
-    );
-    result
+    go_on_with(rt, serial, pool, gate, sink, &crew, workers)
 }
 
 /// Does all turns with so many host threads at most, the caller's included, and sends the output of each before the
@@ -212,5 +239,5 @@ pub(crate) fn take_turns<
     if let Some(outcome) = go_on(rt, serial, &mut pool, gate, sink)? {
         return Ok(outcome);
     }
-    go_on_hired(rt, serial, &mut pool, gate, sink)
+    go_on_hiring(rt, serial, &mut pool, gate, sink, workers - 1)
 }

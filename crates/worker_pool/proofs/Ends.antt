@@ -1,19 +1,16 @@
 -- An end that a host thread made of a phase's job is what the run needs of that thread in that phase.
-use Rattle.std.proofs.Common.{◌≡◌, ◌∙◌, ℕ, ◌-◌, ◌<◌, Option, Some, None, List, [], ◌∷◌, length, refl, sym, ap, subst, zero, suc, arith}
+use Rattle.std.proofs.Common.{◌≡◌, ◌∙◌, ℕ, ◌<◌, Option, Some, None, List, [], ◌∷◌, length, sym, ap, subst, zero, suc, arith}
 use Rattle.std.proofs.Common.{get_or}
 use Rattle.std.proofs.lemmas.Option.{slice_get-map}
 use Rattle.std.specs.Option.{option_map}
 use Rattle.std.specs.Prelude.{map, slice_get}
 use Rattle.guest_memory.specs.Memory.{Memory}
-use Rattle.commit.specs.Merge.{changes}
-use Rattle.hart.specs.Segment.{Segment}
 use Rattle.parallel_phase.specs.Job.{IsJobEnd}
 use Rattle.parallel_phase.specs.Stands.{UnderwayState}
 use Rattle.parallel_phase.specs.Underway.{IsProgress}
 use Rattle.parallel_phase.specs.declared.job.Job.{Job}
 use Rattle.parallel_phase.specs.declared.job_end.JobEnd.{JobEnd}
 use Rattle.parallel_phase.specs.declared.progress.Progress.TheVariants.{GoesOn}
-use Rattle.paged_memory.specs.Snapshot.{cells_of}
 use Rattle.thread_table.specs.declared.thread.Thread.{Thread}
 use Rattle.token.specs.History.{History}
 use Rattle.token.specs.Point.{Point, IsEndOf, due_at, need_at, need_by, need_of}
@@ -21,7 +18,6 @@ use Rattle.token.specs.Serial.{StandsAfter}
 use Rattle.token.specs.Setup.{Setup}
 use Rattle.token.specs.declared.due.Due.{Due}
 use Rattle.token.specs.declared.due.Due.TheVariants as due
-use Rattle.token.specs.declared.need.Need.{Need}
 use Rattle.token.specs.declared.need.Need.TheVariants as need
 use Rattle.token.specs.declared.need.Work.{Work}
 use Rattle.token.specs.declared.outcome.RunOutcome.{RunOutcome}

@@ -1,6 +1,6 @@
 -- The seats of a phase, and what is left of them.
-use Rattle.std.proofs.Common.{◌≡◌, ◌∙◌, ℕ, zero, suc, ◌+◌, ◌<◌, ◌≤◌, List, [], ◌∷◌, length, take, drop, refl, sym, ap, subst, arith}
-use Rattle.std.specs.Prelude.{All, map, slice_index_or}
+use Rattle.std.proofs.Common.{◌≡◌, ℕ, zero, suc, List, [], ◌∷◌, drop, refl, arith}
+use Rattle.std.specs.Prelude.{All, map}
 use Rattle.claim_table.specs.Logs.{new_log}
 use Rattle.claim_table.specs.Seat.{Row, SeatState}
 

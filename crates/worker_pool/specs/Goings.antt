@@ -1,5 +1,4 @@
 -- What became of a job that a seat drew.
-use Rattle.std.specs.Prelude.{ℕ}
 use Rattle.claim_table.specs.Seat.{SeatState}
 use Rattle.parallel_phase.specs.Work.{PhaseState}
 use Rattle.worker_pool.specs.Sharing.{IsHeld}

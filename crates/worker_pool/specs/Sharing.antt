@@ -1,5 +1,5 @@
 -- A worker's job of a shared phase.
-use Rattle.std.specs.Prelude.{◌≡◌, ℕ, ◌<◌, Option, IfSome}
+use Rattle.std.specs.Prelude.{◌≡◌, ◌<◌, Option, IfSome}
 use Rattle.claim_table.specs.Logs.{times}
 use Rattle.claim_table.specs.Seat.{SeatState}
 use Rattle.paged_memory.specs.Snapshot.{cells_of}

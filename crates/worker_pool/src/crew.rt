@@ -1,5 +1,4 @@
 ghost use Rattle.std.specs.Prelude.{◌≡◌, ◌<◌, length};
-ghost use denote.Param.Send.{IsSync, IsSend};
 ghost use Rattle.claim_table.specs.Logs.{times};
 
 use crate::flags::Flags;
@@ -12,7 +11,6 @@ use claim_table::DrawSeat;
 use crossbeam_channel::{Receiver, Sender};
 use gate::Gate;
 use std::sync::{Arc, Wait};
-use std::thread::{Threads, join};
 
 /// How often a worker without work looks for some before it sleeps.
 const LOOKS: u32 = 2000;
@@ -23,58 +21,17 @@ pub struct Crew<B: OfRun> {
     pub(crate) offers: Receiver<Offer<B>>,
     pub(crate) posts: Sender<Post<B>>,
     pub(crate) flags: Arc<Flags>,
-    /// How many workers there may be, the caller counted.
-    pub(crate) most: u32,
 }
 
 impl<B: OfRun + Send + Sync> Crew<B> {
-    /// Works until the run has ended, as the worker with this number, and starts the next worker once there is work
-    /// for one more.
-    pub fn serve<R: Threads + Wait + Sync, G: Gate + Sync>(&self, rt: &R, gate: &G, number: u32) {
-        let next = number.saturating_add(1);
-        if next >= self.most {
-            self.serve_on(rt, gate, None);
-            return;
-        }
-        let Some(offer) = self.serve_alone(rt, gate, number) else {
-            return;
-        };
-        join(
-            rt,
-            ||
-                requires { IsSync R.row × IsSync G.row × IsSync B.row × IsSend B.row }
-            { self.serve(rt, gate, next) },
-            ||
-                requires { IsSync R.row × IsSync G.row × IsSync B.row × IsSend B.row }
-            { self.serve_on(rt, gate, Some(offer)) },
-        );
-    }
-
-    /// Works until the run has ended.
-    fn serve_on<R: Wait, G: Gate>(&self, rt: &R, gate: &G, first: Option<Offer<B>>) {
-        let mut offered = first;
+    /// Works until the run has ended, as one of the workers.
+    pub fn serve<R: Wait, G: Gate>(&self, rt: &R, gate: &G) {
         for _ in rt.forever() {
-            if let Some(offer) = offered {
-                self.work_off(rt, gate, offer);
-            }
-            offered = self.next_offer(rt);
-            if offered.is_none() {
+            let Some(offer) = self.next_offer(rt) else {
                 return;
-            }
-        }
-    }
-
-    /// Works until there is work for one worker more, and then answers what it was offered. None where the run has
-    /// ended.
-    fn serve_alone<R: Wait, G: Gate>(&self, rt: &R, gate: &G, number: u32) -> Option<Offer<B>> {
-        for _ in rt.forever() {
-            let offer = self.next_offer(rt)?;
-            if number < self.flags.wanted() {
-                return Some(offer);
-            }
+            };
             self.work_off(rt, gate, offer);
         }
-        unreachable!()
     }
 
     /// Waits for an offer. None where the run has ended.

@@ -1,9 +1,9 @@
 //! One pool of host threads for a whole run: whichever of them executes a job, the caller is given the end of the
 //! segment that the run needs next.
 //!
-//! [`Pool`] is the caller's. Once a phase has work for more host threads it hires a [`Crew`], whose workers draw jobs of
-//! the phases that the caller offers, and send the end of each. What is sent carries its fact: that it is the end of that
-//! thread's segment in that phase of this run.
+//! [`Pool`] is the caller's. [`Crew`] is what its workers share: they draw jobs of the phases that the caller offers, and
+//! send the end of each. What is sent carries its fact: that it is the end of that thread's segment in that phase of this
+//! run.
 #![tactic(auto)]
 
 mod board;

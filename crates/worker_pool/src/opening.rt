@@ -172,7 +172,6 @@ pub(crate) fn share_out<B: OfRun + Send + Sync, R: Wait, K: Recorder>(
         None => None,
     };
     let shared = Arc::new(alloc, shared)?;
-    line.flags.want(hands - 1);
     offer_all(rt, line, &shared, seats);
     Ok(Some(Board::new(shared, seat, mine, posts)))
 }

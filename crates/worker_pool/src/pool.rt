@@ -44,6 +44,8 @@ pub struct Pool<B: OfRun> {
     /// How many host threads there may be, the caller counted.
     most: u32,
     ghost most_is: { (0 < most) × (most ≤ most_seats) },
+    /// How many host threads there are, the caller counted.
+    hands: u32,
     line: Option<Line<B>>,
     /// The phase that the rest speaks of.
     phase: u64,
@@ -61,6 +63,7 @@ impl<B: OfRun + Send + Sync> Pool<B> {
         Pool {
             alloc,
             most,
+            hands: 1,
             line: None,
             phase: 0,
             taken: 0,
@@ -69,15 +72,20 @@ impl<B: OfRun + Send + Sync> Pool<B> {
         }
     }
 
-    /// Whether the present phase has work for more host threads than the caller, and none were hired.
-    pub fn wants_workers<K: Recorder>(&self, serial: &Serial<K>) -> bool {
-        self.most > 1
-            && self.line.is_none()
-            && serial.list().len() > 1
-            && serial.base_threads().ready_list().len() > 1
+    /// Whether the present phase has work for one host thread more.
+    pub fn wants_worker<K: Recorder>(&self, serial: &Serial<K>) -> bool {
+        let hands = self.hands as usize;
+        self.hands < self.most
+            && serial.list().len() > hands
+            && serial.base_threads().ready_list().len() > hands
     }
 
-    /// Hires workers. They work once somebody lets them serve.
+    /// One host thread more serves.
+    pub fn add_worker(&mut self) {
+        self.hands = self.hands.saturating_add(1);
+    }
+
+    /// What the workers of the run share. Each works once somebody lets it serve.
     pub fn hire(&mut self) -> Result<Crew<B>, AllocError> {
         let (offers, left) = bounded(self.alloc, MOST_OFFERS)?;
         let (posts, received) = bounded(self.alloc, JOBS)?;
@@ -86,7 +94,6 @@ impl<B: OfRun + Send + Sync> Pool<B> {
             offers: left.clone()?,
             posts,
             flags: Arc::try_clone(&flags)?,
-            most: self.most,
         };
         self.line = Some(Line {
             offers,
