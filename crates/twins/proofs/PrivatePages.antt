@@ -182,6 +182,18 @@ pub number-read : (pages : List PrivatePage) (index : ℕ) (old : PrivatePage) �
     slice_index (numbers_of pages) index ≡ old.number
 number-read pages index old inside at = number-at pages index old inside ∙ sym (ap (λ private. private.number) at)
 
+-- a page that was read from the list is the private page of its number, and stands where it was read
+pub StandsAt-read : (pages : List PrivatePage) (index number : ℕ) (private : PrivatePage) → index < length pages → private ≡ slice_index_or pages index private →
+    private.number ≡ number → StandsAt pages number index
+StandsAt-read pages index number private inside at same =
+    let here : slice_index (numbers_of pages) index ≡ number = number-read pages index private inside at ∙ same in
+    record { inside = inside; number_there = here; present = private_at-present pages index number inside here }
+
+pub private_at-read : (place : ℕ → ℕ) (pages : List PrivatePage) → AreListed place (numbers_of pages) → (index number : ℕ) (private : PrivatePage) →
+    index < length pages → private ≡ slice_index_or pages index private → private.number ≡ number → private_at pages number ≡ Some private.page.value
+private_at-read place pages listed index number private inside at same =
+    private_at-stands place pages listed number index private inside (number-read pages index private inside at ∙ same) ∙ ap (λ it. Some it.page.value) (sym at)
+
 -- a page is replaced by what is made of it
 module _ (place : ℕ → ℕ) (pages : List PrivatePage) (listed : AreListed place (numbers_of pages))
     (index : ℕ) (old new : PrivatePage) (inside : index < length pages) (at : old ≡ slice_index_or pages index old) (same : old.number ≡ new.number) where
