@@ -1,4 +1,4 @@
-//! Runs the samples in C, each with 1, 2 and 4 workers, and compares outputs and statuses with the wanted ones. It runs in the
+//! Runs the samples in C, each with 1, 2, 3, 4 and 64 workers, and compares outputs and statuses with the wanted ones. It runs in the
 //! folder of the samples, whose file `list` names them.
 #![tactic(auto)]
 
@@ -14,7 +14,7 @@ use std::sync::Wait;
 use std::thread::Threads;
 
 /// The numbers of workers that each sample is run with.
-const WORKERS: [u32; 3] = [1, 2, 4];
+const WORKERS: [u32; 5] = [1, 2, 3, 4, 64];
 
 fn main(rt: HostRuntime) -> Result<()> {
     let list = fs::read(&rt, "list")?;
