@@ -16,11 +16,7 @@ mod files;
 #[cfg(test)]
 mod fixtures;
 #[cfg(test)]
-mod gates;
-#[cfg(test)]
 mod guest_runs;
-#[cfg(test)]
-mod hands;
 #[cfg(test)]
 mod harts;
 #[cfg(test)]

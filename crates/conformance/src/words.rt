@@ -4,7 +4,7 @@ use decoder::*;
 use disassembler::*;
 use elf32_reader::{Image, Segment, read};
 use guest_memory::Perm;
-use guest_programs::{MEASURED, Program, Run, runs};
+use guest_programs::{LATE_WORK, MEASURED, Program, Run, runs};
 use std::alloc::{AllocError, Global};
 use std::process::Abort;
 use std::test::Fail;
@@ -251,5 +251,5 @@ fn programs_have_their_listings(rt: HostRuntime) -> Result<(), Fail> {
     for program in &MEASURED {
         assert_listing(&rt, rt.alloc(), program)?;
     }
-    Ok(())
+    assert_listing(&rt, rt.alloc(), &LATE_WORK)
 }

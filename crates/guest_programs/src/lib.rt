@@ -41,7 +41,7 @@ pub use output::Output;
 pub use part::Part;
 pub use program::Program;
 pub use run::Run;
-pub use shared_bytes::{COUNTER, LATE_TRAP, RACE, RACE_TRACE, RUNS as SHARED_BYTES};
+pub use shared_bytes::{COUNTER, LATE_TRAP, LATE_WORK, RACE, RACE_TRACE, RUNS as SHARED_BYTES};
 pub use single_call::{SingleCall, single_calls};
 pub use threads::{ENDLESS, KEEPER_EXIT, KEEPER_EXIT_TRACE, RELEASE_RACE, RUNS as THREADS};
 pub use transfers::RUNS as TRANSFERS;

@@ -121,6 +121,28 @@ pub const LATE_TRAP: Program = Program {
     zeros: &PAGE,
 };
 
+/// Threads 1 and 2 call sync twenty times each, and then count down for long, in phase 22. No run of it stands below: its
+/// trace is longer than all others here.
+pub const LATE_WORK: Program = Program {
+    name: "late-work",
+    listing: &[
+        PRELUDE,
+        "\
+0001004c: 01400313 addi x6,x0,20
+00010050: 00e00893 addi x17,x0,14
+00010054: 00000073 ecall
+00010058: fff30313 addi x6,x6,-1
+0001005c: fe031ae3 bne x6,x0,0x00010050
+00010060: 0007a3b7 lui x7,0x0007a
+00010064: fff38393 addi x7,x7,-1
+00010068: fe039ee3 bne x7,x0,0x00010064
+0001006c: 00200893 addi x17,x0,2
+00010070: 00000073 ecall
+",
+    ],
+    zeros: &PAGE,
+};
+
 /// Threads 0, 1 and 2 store to one byte in one phase.
 pub const THREE_WRITERS: Program = Program {
     name: "three-writers",

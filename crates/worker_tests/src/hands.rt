@@ -1,89 +1,22 @@
 //! Runs with two workers whose gate holds one host thread until another one has come somewhere: jobs run side by
-//! side, turns are taken beside running jobs, and a run ends beside an endless one.
+//! side, turns are taken beside running jobs, and a run ends beside an endless one, which is some slices old by then.
 
-use guest_programs::{KEEPER_EXIT, KEEPER_EXIT_TRACE, Program, RACE, RACE_TRACE};
-use runtime::{Config, Gate, MAX_BOUND, RunOutcome, run};
+use crate::seen::{BEFORE, Seen, TIMES, comes, is_reached, linger, reach};
+use guest_programs::{KEEPER_EXIT, KEEPER_EXIT_TRACE, LATE_WORK, Program, RACE, RACE_TRACE};
+use runtime::{Config, Gate, MAX_BOUND, Report, RunOutcome, run};
 use std::alloc::Global;
-use std::hint::spin_loop;
 use std::process::Abort;
 use std::sync::Wait;
-use std::sync::atomic::{AtomicBool, AtomicU64, Ordering};
 use std::test::Fail;
 use std::thread::Threads;
 use tracer::trace_text;
 
-/// How many rounds a host thread waits before the test fails: half a minute and more, since on a busy machine the
-/// others may be kept from their processor for whole seconds.
-const ROUNDS: u64 = 4_000_000_000;
-
-/// How often each run is made.
-const TIMES: u32 = 100;
-
-/// How many turns phase 1 has, in both programs.
-const BEFORE: u64 = 4;
-
 /// The number of the caller among the workers.
 const CALLER: u32 = 0;
 
-/// Waits until a test holds. Whether it did in time.
-fn comes<F: Fn() -> bool>(test: F) -> bool
-    requires { F.IsAlwaysCallable test }
-{
-    for _ in 0..ROUNDS {
-        if test() {
-            return true;
-        }
-        spin_loop();
-    }
-    false
-}
-
-/// What has happened in a run: how many turns were done, where the host threads came, and whether one of them waited
-/// in vain.
-#[derive(Drop)]
-struct Seen {
-    turns: AtomicU64,
-    first: AtomicBool,
-    second: AtomicBool,
-    missed: AtomicBool,
-}
-
-impl Seen {
-    fn nothing() -> Self {
-        Seen {
-            turns: AtomicU64::new(0),
-            first: AtomicBool::new(false),
-            second: AtomicBool::new(false),
-            missed: AtomicBool::new(false),
-        }
-    }
-
-    /// Whether so many turns were done.
-    fn has_done(&self, turns: u64) -> bool {
-        self.turns.load(Ordering::SeqCst) >= turns
-    }
-
-    fn count_turn(&self) {
-        self.turns.fetch_add(1, Ordering::SeqCst);
-    }
-
-    /// Keeps that a wait was in vain, if it was.
-    fn note(&self, came: bool) {
-        if !came {
-            self.missed.store(true, Ordering::SeqCst);
-        }
-    }
-}
-
-/// Says that a host thread has come here.
-fn reach(place: &AtomicBool) {
-    place.store(true, Ordering::SeqCst);
-}
-
-/// Whether a host thread has come here.
-fn is_reached(place: &AtomicBool) -> bool {
-    place.load(Ordering::SeqCst)
-}
+/// How many turns of `late-work` come before phase 22. So many phases with two jobs were short by then that the caller
+/// executes the beginning of a long job alone.
+const BEFORE_LATE: u64 = 45;
 
 /// Jobs 0 and 1 of phase 2 wait for each other.
 #[derive(Drop)]
@@ -141,7 +74,7 @@ impl Gate for Overlap {
     }
 }
 
-/// The endless job of phase 2, its job 2, runs on the worker: the caller waits for that.
+/// The endless job of phase 2, its job 2, runs on the worker: the caller waits for that, and then some more.
 #[derive(Drop)]
 struct EndlessWorker {
     seen: Seen,
@@ -155,6 +88,7 @@ impl Gate for EndlessWorker {
         }
         if worker == CALLER {
             seen.note(comes(|| is_reached(&seen.first)));
+            linger();
         } else if job == 2 {
             reach(&seen.first);
         }
@@ -165,8 +99,8 @@ impl Gate for EndlessWorker {
     }
 }
 
-/// The endless job of phase 2, its job 2, runs on the caller: the worker waits for that, and the caller before its
-/// first job for the worker.
+/// The endless job of phase 2, its job 2, runs on the caller: the worker waits for that, and then some more, and the
+/// caller before its first job for the worker.
 #[derive(Drop)]
 struct EndlessCaller {
     seen: Seen,
@@ -181,6 +115,7 @@ impl Gate for EndlessCaller {
         if worker != CALLER {
             reach(&seen.first);
             seen.note(comes(|| is_reached(&seen.second)));
+            linger();
         } else if job == 2 {
             reach(&seen.second);
         } else {
@@ -193,6 +128,41 @@ impl Gate for EndlessCaller {
     }
 }
 
+/// Sees whether the worker takes a job of phase 22 of `late-work` beside the first one, whose turn comes first there.
+#[derive(Drop)]
+struct LateWork {
+    seen: Seen,
+}
+
+impl Gate for LateWork {
+    fn pass(&self, worker: u32, _job: u32) {
+        let seen = &self.seen;
+        if worker != CALLER && seen.has_done(BEFORE_LATE) && !seen.has_done(BEFORE_LATE + 1) {
+            reach(&seen.first);
+        }
+    }
+
+    fn turned(&self, _thread: u32) {
+        self.seen.count_turn();
+    }
+}
+
+/// The report of a run of a program with two workers.
+fn report_of<G: Gate + Sync>(
+    rt: &(impl Threads + Wait + Sync),
+    alloc: Global,
+    program: &Program,
+    gate: &G,
+) -> Result<Report, Fail> {
+    let file = program.file(alloc)?;
+    let config = Config {
+        bound: MAX_BOUND,
+        quantum: None,
+        workers: 2,
+    };
+    Ok(run(rt, alloc, &file, &[], &config, gate)?)
+}
+
 /// Asserts that a run of a program with two workers ends so, with this trace.
 fn assert_run<G: Gate + Sync>(
     rt: &(impl Abort + Threads + Wait + Sync),
@@ -200,13 +170,7 @@ fn assert_run<G: Gate + Sync>(
     (program, trace, status): (&Program, &str, u32),
     gate: &G,
 ) -> Result<(), Fail> {
-    let file = program.file(alloc)?;
-    let config = Config {
-        bound: MAX_BOUND,
-        quantum: None,
-        workers: 2,
-    };
-    let report = run(rt, alloc, &file, &[], &config, gate)?;
+    let report = report_of(rt, alloc, program, gate)?;
     assert_eq!(rt; report.outcome, RunOutcome::Exit(status));
     assert_eq!(rt; trace_text(alloc, &report.trace)?.as_str(), trace);
     Ok(())
@@ -257,5 +221,25 @@ fn a_keeper_exits_beside_an_endless_job_of_the_caller(rt: HostRuntime) -> Result
         assert_run(&rt, rt.alloc(), (&KEEPER_EXIT, KEEPER_EXIT_TRACE, 9), &gate)?;
         assert!(rt; !is_reached(&gate.seen.missed));
     }
+    Ok(())
+}
+
+/// The worker has the milliseconds of one job to come in, and has to in one run at least.
+#[test]
+fn a_phase_whose_first_job_the_caller_began_alone_is_shared_out(
+    rt: HostRuntime,
+) -> Result<(), Fail> {
+    let mut is_shared = false;
+    for _ in 0..TIMES {
+        let gate = LateWork {
+            seen: Seen::nothing(),
+        };
+        let report = report_of(&rt, rt.alloc(), &LATE_WORK, &gate)?;
+        assert_eq!(rt; report.outcome, RunOutcome::Exit(0));
+        if is_reached(&gate.seen.first) {
+            is_shared = true;
+        }
+    }
+    assert!(rt; is_shared);
     Ok(())
 }
