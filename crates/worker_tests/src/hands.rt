@@ -1,7 +1,7 @@
 //! Runs with two workers whose gate holds one host thread until another one has come somewhere: jobs run side by
 //! side, turns are taken beside running jobs, and a run ends beside an endless one, which is some slices old by then.
 
-use crate::seen::{BEFORE, Seen, TIMES, comes, is_reached, linger, reach};
+use crate::seen::{BEFORE, Seen, comes, is_reached, linger, reach};
 use guest_programs::{KEEPER_EXIT, KEEPER_EXIT_TRACE, LATE_WORK, Program, RACE, RACE_TRACE};
 use runtime::{Config, Gate, MAX_BOUND, Report, RunOutcome, run};
 use std::alloc::Global;
@@ -11,6 +11,9 @@ use std::test::Fail;
 use std::thread::Threads;
 use tracer::trace_text;
 
+/// How often each run is made.
+const TIMES: u32 = 100;
+
 /// The number of the caller among the workers.
 const CALLER: u32 = 0;
 
@@ -18,18 +21,45 @@ const CALLER: u32 = 0;
 /// executes the beginning of a long job alone.
 const BEFORE_LATE: u64 = 45;
 
-/// Jobs 0 and 1 of phase 2 wait for each other.
-#[derive(Drop)]
-struct Meeting {
-    seen: Seen,
+/// What host threads do once phase 1 is over, before each job that they have drawn.
+trait Holding {
+    fn hold(&self, seen: &Seen, worker: u32, job: u32);
 }
 
-impl Gate for Meeting {
-    fn pass(&self, _worker: u32, job: u32) {
-        let seen = &self.seen;
-        if !seen.has_done(BEFORE) {
-            return;
+/// A gate that counts turns, and holds host threads once phase 1 is over.
+#[derive(Drop)]
+struct Held<'a, H> {
+    seen: Seen,
+    holding: &'a H,
+}
+
+impl<'a, H> Held<'a, H> {
+    fn by(holding: &'a H) -> Self {
+        Held {
+            seen: Seen::nothing(),
+            holding,
         }
+    }
+}
+
+impl<'a, H: Holding> Gate for Held<'a, H> {
+    fn pass(&self, worker: u32, job: u32) {
+        if self.seen.has_done(BEFORE) {
+            self.holding.hold(&self.seen, worker, job);
+        }
+    }
+
+    fn turned(&self, _thread: u32) {
+        self.seen.count_turn();
+    }
+}
+
+/// Jobs 0 and 1 of phase 2 wait for each other.
+#[derive(Drop)]
+struct Meeting;
+
+impl Holding for Meeting {
+    fn hold(&self, seen: &Seen, _worker: u32, job: u32) {
         match job {
             0 => {
                 reach(&seen.first);
@@ -42,23 +72,16 @@ impl Gate for Meeting {
             _ => {}
         }
     }
-
-    fn turned(&self, _thread: u32) {
-        self.seen.count_turn();
-    }
 }
 
 /// In phase 2 the caller waits until another worker has come to a job above 0, or until thread 0's turn. That worker
 /// waits there for thread 0's turn.
 #[derive(Drop)]
-struct Overlap {
-    seen: Seen,
-}
+struct Overlap;
 
-impl Gate for Overlap {
-    fn pass(&self, worker: u32, job: u32) {
-        let seen = &self.seen;
-        if !seen.has_done(BEFORE) || seen.has_done(BEFORE + 3) {
+impl Holding for Overlap {
+    fn hold(&self, seen: &Seen, worker: u32, job: u32) {
+        if seen.has_done(BEFORE + 3) {
             return;
         }
         if worker == CALLER {
@@ -68,24 +91,14 @@ impl Gate for Overlap {
             seen.note(comes(|| seen.has_done(BEFORE + 1)));
         }
     }
-
-    fn turned(&self, _thread: u32) {
-        self.seen.count_turn();
-    }
 }
 
 /// The endless job of phase 2, its job 2, runs on the worker: the caller waits for that, and then some more.
 #[derive(Drop)]
-struct EndlessWorker {
-    seen: Seen,
-}
+struct EndlessWorker;
 
-impl Gate for EndlessWorker {
-    fn pass(&self, worker: u32, job: u32) {
-        let seen = &self.seen;
-        if !seen.has_done(BEFORE) {
-            return;
-        }
+impl Holding for EndlessWorker {
+    fn hold(&self, seen: &Seen, worker: u32, job: u32) {
         if worker == CALLER {
             seen.note(comes(|| is_reached(&seen.first)));
             linger();
@@ -93,25 +106,15 @@ impl Gate for EndlessWorker {
             reach(&seen.first);
         }
     }
-
-    fn turned(&self, _thread: u32) {
-        self.seen.count_turn();
-    }
 }
 
 /// The endless job of phase 2, its job 2, runs on the caller: the worker waits for that, and then some more, and the
 /// caller before its first job for the worker.
 #[derive(Drop)]
-struct EndlessCaller {
-    seen: Seen,
-}
+struct EndlessCaller;
 
-impl Gate for EndlessCaller {
-    fn pass(&self, worker: u32, job: u32) {
-        let seen = &self.seen;
-        if !seen.has_done(BEFORE) {
-            return;
-        }
+impl Holding for EndlessCaller {
+    fn hold(&self, seen: &Seen, worker: u32, job: u32) {
         if worker != CALLER {
             reach(&seen.first);
             seen.note(comes(|| is_reached(&seen.second)));
@@ -122,28 +125,17 @@ impl Gate for EndlessCaller {
             seen.note(comes(|| is_reached(&seen.first)));
         }
     }
-
-    fn turned(&self, _thread: u32) {
-        self.seen.count_turn();
-    }
 }
 
 /// Sees whether the worker takes a job of phase 22 of `late-work` beside the first one, whose turn comes first there.
 #[derive(Drop)]
-struct LateWork {
-    seen: Seen,
-}
+struct LateWork;
 
-impl Gate for LateWork {
-    fn pass(&self, worker: u32, _job: u32) {
-        let seen = &self.seen;
+impl Holding for LateWork {
+    fn hold(&self, seen: &Seen, worker: u32, _job: u32) {
         if worker != CALLER && seen.has_done(BEFORE_LATE) && !seen.has_done(BEFORE_LATE + 1) {
             reach(&seen.first);
         }
-    }
-
-    fn turned(&self, _thread: u32) {
-        self.seen.count_turn();
     }
 }
 
@@ -163,65 +155,43 @@ fn report_of<G: Gate + Sync>(
     Ok(run(rt, alloc, &file, &[], &config, gate)?)
 }
 
-/// Asserts that a run of a program with two workers ends so, with this trace.
-fn assert_run<G: Gate + Sync>(
+/// Asserts that runs of a program with two workers end so, with this trace, and that no host thread waits in vain.
+fn assert_runs<H: Holding + Sync>(
     rt: &(impl Abort + Threads + Wait + Sync),
     alloc: Global,
     (program, trace, status): (&Program, &str, u32),
-    gate: &G,
+    holding: &H,
 ) -> Result<(), Fail> {
-    let report = report_of(rt, alloc, program, gate)?;
-    assert_eq!(rt; report.outcome, RunOutcome::Exit(status));
-    assert_eq!(rt; trace_text(alloc, &report.trace)?.as_str(), trace);
+    for _ in 0..TIMES {
+        let gate = Held::by(holding);
+        let report = report_of(rt, alloc, program, &gate)?;
+        assert_eq!(rt; report.outcome, RunOutcome::Exit(status));
+        assert_eq!(rt; trace_text(alloc, &report.trace)?.as_str(), trace);
+        assert!(rt; !is_reached(&gate.seen.missed));
+    }
     Ok(())
 }
 
 #[test]
 fn jobs_run_side_by_side(rt: HostRuntime) -> Result<(), Fail> {
-    for _ in 0..TIMES {
-        let gate = Meeting {
-            seen: Seen::nothing(),
-        };
-        assert_run(&rt, rt.alloc(), (&RACE, RACE_TRACE, 2), &gate)?;
-        assert!(rt; !is_reached(&gate.seen.missed));
-    }
-    Ok(())
+    assert_runs(&rt, rt.alloc(), (&RACE, RACE_TRACE, 2), &Meeting)
 }
 
 #[test]
 fn turns_are_taken_beside_running_jobs(rt: HostRuntime) -> Result<(), Fail> {
-    for _ in 0..TIMES {
-        let gate = Overlap {
-            seen: Seen::nothing(),
-        };
-        assert_run(&rt, rt.alloc(), (&RACE, RACE_TRACE, 2), &gate)?;
-        assert!(rt; !is_reached(&gate.seen.missed));
-    }
-    Ok(())
+    assert_runs(&rt, rt.alloc(), (&RACE, RACE_TRACE, 2), &Overlap)
 }
 
 #[test]
 fn a_keeper_exits_beside_an_endless_worker(rt: HostRuntime) -> Result<(), Fail> {
-    for _ in 0..TIMES {
-        let gate = EndlessWorker {
-            seen: Seen::nothing(),
-        };
-        assert_run(&rt, rt.alloc(), (&KEEPER_EXIT, KEEPER_EXIT_TRACE, 9), &gate)?;
-        assert!(rt; !is_reached(&gate.seen.missed));
-    }
-    Ok(())
+    let case = (&KEEPER_EXIT, KEEPER_EXIT_TRACE, 9);
+    assert_runs(&rt, rt.alloc(), case, &EndlessWorker)
 }
 
 #[test]
 fn a_keeper_exits_beside_an_endless_job_of_the_caller(rt: HostRuntime) -> Result<(), Fail> {
-    for _ in 0..TIMES {
-        let gate = EndlessCaller {
-            seen: Seen::nothing(),
-        };
-        assert_run(&rt, rt.alloc(), (&KEEPER_EXIT, KEEPER_EXIT_TRACE, 9), &gate)?;
-        assert!(rt; !is_reached(&gate.seen.missed));
-    }
-    Ok(())
+    let case = (&KEEPER_EXIT, KEEPER_EXIT_TRACE, 9);
+    assert_runs(&rt, rt.alloc(), case, &EndlessCaller)
 }
 
 /// The worker has the milliseconds of one job to come in, and has to in one run at least.
@@ -231,9 +201,7 @@ fn a_phase_whose_first_job_the_caller_began_alone_is_shared_out(
 ) -> Result<(), Fail> {
     let mut is_shared = false;
     for _ in 0..TIMES {
-        let gate = LateWork {
-            seen: Seen::nothing(),
-        };
+        let gate = Held::by(&LateWork);
         let report = report_of(&rt, rt.alloc(), &LATE_WORK, &gate)?;
         assert_eq!(rt; report.outcome, RunOutcome::Exit(0));
         if is_reached(&gate.seen.first) {

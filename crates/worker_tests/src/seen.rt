@@ -10,10 +10,7 @@ const ROUNDS: u64 = 4_000_000_000;
 /// How many rounds a host thread waits so that another one goes on some slices with its job.
 const WHILE: u32 = 100_000;
 
-/// How often each run is made.
-pub const TIMES: u32 = 100;
-
-/// How many turns phase 1 has, in all three programs.
+/// How many turns phase 1 has, in each of the programs.
 pub const BEFORE: u64 = 4;
 
 /// Waits until a test holds. Whether it did in time.
@@ -34,12 +31,16 @@ pub fn comes<F: Fn() -> bool>(test: F) -> bool
 #[derive(Drop)]
 pub struct Seen {
     turns: AtomicU64,
+    /// A host thread has come to the one place that others wait for.
     pub first: AtomicBool,
+    /// A host thread has come to the other one.
     pub second: AtomicBool,
+    /// A wait was in vain.
     pub missed: AtomicBool,
 }
 
 impl Seen {
+    /// What has happened before a run begins.
     pub fn nothing() -> Self {
         Seen {
             turns: AtomicU64::new(0),
@@ -54,6 +55,7 @@ impl Seen {
         self.turns.load(Ordering::SeqCst) >= turns
     }
 
+    /// One turn more was done.
     pub fn count_turn(&self) {
         self.turns.fetch_add(1, Ordering::SeqCst);
     }
