@@ -1,0 +1,1 @@
+"""The commands of tools/dt, and what they share."""
