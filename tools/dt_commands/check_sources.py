@@ -1,0 +1,86 @@
+"""Checks that no source file makes up an out-of-memory error.
+
+Prints each value that says out of memory although no allocator refused anything, each exception of its lists that matches no
+line, and ends with 1 if there is any. Files that only tests use (modules under `#[cfg(test)]`, and the fakes listed here) may make such values.
+"""
+import os
+import re
+
+from . import sources
+from .repository import TOP
+
+# Fakes that tests put in the place of a reader or a writer, and the program that tells refusals by itself.
+FAKES = {
+    "crates/command_tests/src/fakes.rt",
+    "crates/alloc_failures/src/failed.rt",
+    "crates/alloc_failures/src/programs.rt",
+    "crates/alloc_failures/src/quiet.rt",
+    "crates/alloc_failures/src/worlds.rt",
+}
+
+# Lines that hand on the only error that the call before them has, an `AllocError`, or that a run which writes nothing can have.
+HANDED_ON = {
+    ("crates/schedule_core/src/event_fault.rt", "EventFault::OutOfMemory"),
+    ("crates/elf32_reader/src/reader.rt", "Err(_) => Err(ElfFault::OutOfMemory),"),
+    ("crates/commands/src/arguments.rt", ".map_err(|_| Failure::OutOfMemory),"),
+    ("crates/commands/src/disasm.rt", "Err(_) => Err(Failure::OutOfMemory),"),
+}
+
+# Lines that say so where no host could have the time: a run of 2^63 turns, or of 2^62 turns and changed bytes.
+BEYOND_ANY_HOST = {
+    ("crates/token/src/serial.rt", "return Err(TurnFault::OutOfMemory);"),
+    ("crates/sharing_report/src/sharing_recorder.rt", "return Err(TurnFault::OutOfMemory);"),
+}
+
+
+def arguments(parser):
+    pass
+
+
+def files_of(top):
+    """Yields the source files of all crates."""
+    for crate in sorted(os.listdir(f"{top}/crates")):
+        for folder, _, names in sorted(os.walk(f"{top}/crates/{crate}/src")):
+            yield from (f"{folder}/{it}" for it in sorted(names) if it.endswith(".rt"))
+
+
+def read(file):
+    with open(file, encoding="utf-8") as it:
+        return it.read()
+
+
+def test_modules(files):
+    """Returns the files and folders of the modules that are there for tests alone."""
+    found = set()
+    for file in files:
+        base = os.path.dirname(file) if re.search(r"/(lib|main)\.rt$", file) else file[:-3]
+        for name in re.findall(r"#\[cfg\(test\)\]\s*(?:pub\(\w+\) )?mod (\w+);", read(file)):
+            found |= {f"{base}/{name}.rt", f"{base}/{name}/"}
+    return found
+
+
+def lines_found(top):
+    """Returns the number of sources, and file, line number, name and text of each value that nobody told."""
+    files = list(files_of(top))
+    tests, found = test_modules(files), []
+    for file in files:
+        name = os.path.relpath(file, top)
+        if name in FAKES or any(file == it or it.endswith("/") and file.startswith(it) for it in tests):
+            continue
+        text = read(file)
+        lines = text.split("\n")
+        found += [(name, number, what, lines[number - 1].strip()) for number, what in sources.complaints(text)]
+    return len(files), found
+
+
+def run(options):
+    count, found = lines_found(TOP)
+    excepted = HANDED_ON | BEYOND_ANY_HOST
+    matched = {(name, line) for name, _, _, line in found}
+    bad = [f"{name}:{number}: makes up an {what}: {line}" for name, number, what, line in found if (name, line) not in excepted]
+    bad += [f"{name}: no such value is there, so the exception must go: {line}" for name, line in sorted(excepted - matched)]
+    bad += [f"{name}: no such file is there, so the exception must go" for name in sorted(FAKES) if not os.path.exists(f"{TOP}/{name}")]
+    for it in bad:
+        print(it)
+    print(f"{count} sources, {len(bad)} made-up errors of memory and needless exceptions")
+    return 1 if bad else 0
