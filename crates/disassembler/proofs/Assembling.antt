@@ -4,7 +4,7 @@ use Rattle.std.specs.Str.Parse.{digits_value}
 use Rattle.decoder.specs.Word.{bits}
 use Rattle.decoder.specs.Forms.{i_immediate, s_immediate, b_immediate, u_immediate, j_immediate}
 use Rattle.decoder.specs.Decoding.{entry}
-use Rattle.hexadecimal.specs.Digits.{hexadecimal}
+use Rattle.text_output.specs.Digits.{hexadecimal}
 use Rattle.disassembler.specs.Operands.{register_text, signed_text}
 use Rattle.disassembler.proofs.Separators.{before, after, two, three, two-joined, three-joined}
 use Rattle.disassembler.proofs.Numerals.{register_read, signed_read, hexadecimal_read, of_indirect, decimal_lacks, decimal_back, register_lacks, register_back, signed_back, indirect_back, hexadecimal_back}

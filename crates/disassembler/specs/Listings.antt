@@ -2,7 +2,7 @@ use Rattle.std.specs.Prelude.{ℕ, ◌+◌, ◌-◌, ◌*◌, ◌%◌, ◌^◌, 
 use Rattle.std.specs.List.{range_with_len, flat_map}
 use Rattle.elf32_reader.specs.LoadSegment.{LoadSegment}
 use Rattle.elf32_reader.specs.LoadImage.{LoadImage}
-use Rattle.hexadecimal.specs.Digits.{hexadecimal}
+use Rattle.text_output.specs.Digits.{hexadecimal}
 use Rattle.disassembler.specs.Texts.{text_of}
 
 -- a word's line: its address, the word, its text

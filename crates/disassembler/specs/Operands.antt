@@ -1,7 +1,7 @@
 use Rattle.std.specs.Prelude.{ℕ, ◌/◌, ◌^◌, List, [], ◌∷◌, ◌++◌, codes, decimal}
 use Rattle.std.specs.Fmt.{signed_decimal}
 use Rattle.std.specs.Int.{w32, cast_signed}
-use Rattle.hexadecimal.specs.Digits.{hexadecimal}
+use Rattle.text_output.specs.Digits.{hexadecimal}
 use Rattle.disassembler.specs.declared.operand.Operand.{Operand}
 use Rattle.disassembler.specs.declared.operand.Operand.TheVariants.{Register, Unsigned, Signed, Upper, Address, Indirect}
 

@@ -1,7 +1,7 @@
 use Rattle.std.specs.Prelude.{ℕ, List, Option, Some, None, ◌++◌, codes}
 use Rattle.decoder.specs.Decoding.{decoded}
 use Rattle.decoder.specs.declared.instr.Instr.{Instr}
-use Rattle.hexadecimal.specs.Digits.{hexadecimal}
+use Rattle.text_output.specs.Digits.{hexadecimal}
 use Rattle.disassembler.specs.Instructions.{instruction_text}
 
 -- the text of a word that has this instruction or none

@@ -4,8 +4,8 @@ ghost use Rattle.disassembler.specs.Texts.{text_from, text_of};
 
 use crate::instruction::write_instruction;
 use decoder::decode;
-use hexadecimal::write_hexadecimal;
 use std::alloc::{AllocError, Global};
+use text_output::write_hexadecimal;
 
 /// The text of an instruction word at an address. The target of a branch or a jump is modulo 2^32.
 pub fn text(alloc: Global, address: u32, word: u32) -> Result<String, AllocError>

@@ -3,9 +3,9 @@ ghost use Rattle.std.specs.String.{string_bytes};
 ghost use Rattle.disassembler.specs.Operands.{operand_text, register_text, signed_text};
 
 use decoder::{Immediate, UpperImmediate};
-use hexadecimal::write_hexadecimal;
 use itoa::Buffer;
 use std::alloc::AllocError;
+use text_output::write_hexadecimal;
 
 /// An operand of an instruction, by the way in which it is written.
 #[derive(Clone, Copy)]

@@ -4,8 +4,8 @@ ghost use Rattle.disassembler.specs.Listings.{word_from, word_line, has_word, se
 
 use crate::disassembly::write_text;
 use elf32_reader::{Image, Segment};
-use hexadecimal::write_hexadecimal;
 use std::alloc::{AllocError, Global};
+use text_output::write_hexadecimal;
 
 /// The listing of a program: for each executable segment, in the order of the file, each word whose address
 /// is a multiple of 4 and whose four bytes the file has, ascending. A line is the address, a colon and a

@@ -4,7 +4,7 @@ use Rattle.guest_memory.specs.Layout.{page_size}
 use Rattle.guest_memory.specs.Memory.{Cell, Memory}
 use Rattle.guest_memory.specs.declared.perm.Perm.{Perm}
 use Rattle.call_table.specs.Effects.{bytes_of}
-use Rattle.hexadecimal.specs.Digits.{hexadecimal}
+use Rattle.text_output.specs.Digits.{hexadecimal}
 use Rattle.paged_memory.specs.Page.{PageValue}
 
 -- the number of what a page permits: 1 for loads, 2 for stores and 4 for fetches, added

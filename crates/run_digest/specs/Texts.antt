@@ -4,7 +4,7 @@ use Rattle.std.specs.List.{flat_map}
 use Rattle.guest_memory.specs.Memory.{Memory}
 use Rattle.hart.specs.Cause.{number_of as cause_number}
 use Rattle.hart.specs.declared.trap.Trap.{Trap as Trapped}
-use Rattle.hexadecimal.specs.Digits.{hexadecimal}
+use Rattle.text_output.specs.Digits.{hexadecimal}
 use Rattle.sha2.specs.Sha256.{sha256}
 use Rattle.token.specs.declared.outcome.RunOutcome.{RunOutcome}
 use Rattle.token.specs.declared.outcome.RunOutcome.TheVariants.{Exit, Finished, Trap, Deadlock}

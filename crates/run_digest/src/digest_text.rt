@@ -3,9 +3,9 @@ ghost use Rattle.std.specs.String.{string_bytes};
 ghost use Rattle.run_digest.specs.Texts.{digest_lines, hash_text, outcome_text, place_text, trap_text};
 
 use hart::Trap;
-use hexadecimal::write_hexadecimal;
 use itoa::Buffer;
 use std::alloc::AllocError;
+use text_output::write_hexadecimal;
 use token::RunOutcome;
 
 /// Appends the lines of a digest with these hashes.

@@ -6,10 +6,10 @@ ghost use Rattle.sha2.specs.Sha256.{sha256};
 
 use guest_memory::Perm;
 use guest_memory::layout::PAGE_SIZE;
-use hexadecimal::write_hexadecimal;
 use paged_memory::{Page, Snapshot};
 use sha2::{Digest, Sha256};
 use std::alloc::{AllocError, Global};
+use text_output::write_hexadecimal;
 
 /// How many pages there are addresses of.
 const PAGES: u32 = 1 << 20;

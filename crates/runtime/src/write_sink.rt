@@ -3,7 +3,8 @@ ghost use Rattle.std.specs.Io.{WritesAtMost};
 ghost use Rattle.std.specs.Io.KnownBytes.{Appends, Keeps, WriteAppends};
 
 use crate::sink::{Sink, SinkFault};
-use std::io::{ErrorKind, Write};
+use std::io::Write;
+use text_output::write_some;
 
 /// A sink of a writer. Each piece is flushed, so that it stands where the writer writes to while the run goes on.
 /// It tells its bytes where the writer knows them.
@@ -63,27 +64,12 @@ impl<W: Write> WriteSink<W> {
         if self.is_lost {
             return Err(SinkFault);
         }
-        let count = write_some(&mut self.writer, bytes)?;
+        let Ok(count) = write_some(&mut self.writer, bytes) else {
+            return Err(SinkFault);
+        };
         self.is_lost = self.writer.flush().is_err();
         Ok(count)
     }
-}
-
-/// Writes a prefix of these bytes and answers its length, which isn't 0. A write that a signal interrupts is
-/// made again.
-fn write_some<W: Write>(writer: &mut W, bytes: &[u8]) -> Result<usize, SinkFault>
-    ensures within { WritesAtMost result bytes.now }
-    ensures some { IfOk result (λ count. 0 < count) }
-    ensures bytes { WriteAppends (W.contents writer.old) (W.contents writer.new) result bytes.now }
-{
-    'tries: for _ in 0..u64::MAX {
-        match writer.write(bytes) {
-            Ok(count) if count > 0 => return Ok(count),
-            Err(error) if error.kind() == ErrorKind::Interrupted => {}
-            Ok(_) | Err(_) => break,
-        }
-    }
-    Err(SinkFault)
 }
 
 impl<W: Write> Sink for WriteSink<W> {

@@ -1,6 +1,6 @@
 use Rattle.std.specs.Prelude.{ℕ, List, ◌++◌, codes, decimal}
 use Rattle.std.specs.List.{flat_map}
-use Rattle.hexadecimal.specs.Digits.{hexadecimal}
+use Rattle.text_output.specs.Digits.{hexadecimal}
 use Rattle.sharing_report.specs.declared.page_row.PageRow.{PageRow}
 
 -- the line of a row

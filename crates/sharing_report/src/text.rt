@@ -3,9 +3,9 @@ ghost use Rattle.std.specs.String.{string_bytes};
 ghost use Rattle.sharing_report.specs.Texts.{row_text, text_of};
 
 use crate::page_row::PageRow;
-use hexadecimal::write_hexadecimal;
 use itoa::Buffer;
 use std::alloc::{AllocError, Global};
+use text_output::write_hexadecimal;
 
 /// The text of a report: a line for each row.
 pub fn report_text(alloc: Global, rows: &[PageRow]) -> Result<String, AllocError>

@@ -8,7 +8,7 @@ use Rattle.abi.specs.declared.reply.Reply.{Reply}
 use Rattle.abi.specs.declared.reply.Reply.TheVariants.{Completed, Waits, Ends}
 use Rattle.hart.specs.Cause.{number_of as cause_number}
 use Rattle.hart.specs.declared.trap.Trap.{Trap as Trapped}
-use Rattle.hexadecimal.specs.Digits.{hexadecimal}
+use Rattle.text_output.specs.Digits.{hexadecimal}
 use Rattle.token.specs.declared.turn.Turn.{Turn}
 use Rattle.token.specs.declared.turn.TurnStop.{TurnStop}
 use Rattle.token.specs.declared.turn.TurnStop.TheVariants.{Call, Trap, Quantum, Wake}

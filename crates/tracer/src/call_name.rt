@@ -3,8 +3,8 @@ ghost use Rattle.std.specs.String.{string_bytes};
 ghost use Rattle.tracer.specs.TraceText.{name_text};
 
 use abi::CallKind;
-use hexadecimal::write_hexadecimal;
 use std::alloc::AllocError;
+use text_output::write_hexadecimal;
 
 /// Appends the name of the call with this number, or `call_` and the number's eight digits where no call
 /// has it.

@@ -3,9 +3,9 @@ ghost use Rattle.std.specs.String.{string_bytes};
 ghost use Rattle.tracer.specs.TraceText.{result_text};
 
 use abi::Reply;
-use hexadecimal::write_hexadecimal;
 use itoa::Buffer;
 use std::alloc::AllocError;
+use text_output::write_hexadecimal;
 
 /// Appends what a call came to: its code and the value that it has, or that it waits or ended.
 #[tactic(auto, unfolding(crate::specs::TraceText::result_text))]

@@ -5,8 +5,8 @@ use crate::turn_line::write_line;
 use commit::Patch;
 use std::alloc::Global;
 use std::io::Write;
+use text_output::write_some;
 use token::{Recorder, Turn, TurnFault};
-use writing::write_some;
 
 /// So many bytes of lines are written at once.
 const FULL: usize = 8192;

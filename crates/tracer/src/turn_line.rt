@@ -6,9 +6,9 @@ use crate::call_name::write_call_name;
 use crate::reply::write_reply;
 use abi::Reply;
 use hart::Trap;
-use hexadecimal::write_hexadecimal;
 use itoa::Buffer;
 use std::alloc::{AllocError, Global};
+use text_output::write_hexadecimal;
 use token::{Turn, TurnStop};
 
 /// The line of a turn, with the newline that ends it.

@@ -1,7 +1,7 @@
 use Rattle.std.proofs.Common.{◌≡◌, ◌++◌, take}
 use Rattle.std.specs.List.{flat_map}
 use Rattle.std.specs.String.{string_bytes}
-use Rattle.hexadecimal.specs.Digits.{hexadecimal}
+use Rattle.text_output.specs.Digits.{hexadecimal}
 use Rattle.run_digest.proofs.digest_text.write_hash.Given as goal
 
 abbrev pub invariant-loop-byte : goal.invariant-loop-byte

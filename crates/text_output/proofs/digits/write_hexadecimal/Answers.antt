@@ -1,7 +1,7 @@
 use Rattle.std.proofs.Common.{◌≡◌, ◌+◌, ◌-◌, ◌<◌, arith, rules, append_assoc}
 use Rattle.std.proofs.lemmas.Grind.{common_steps}
-use Rattle.hexadecimal.proofs.Hexadecimal.{hexadecimal-more, hexadecimal-none}
-use Rattle.hexadecimal.proofs.digits.write_hexadecimal.Goals as goal
+use Rattle.text_output.proofs.Hexadecimal.{hexadecimal-more, hexadecimal-none}
+use Rattle.text_output.proofs.digits.write_hexadecimal.Goals as goal
 
 pub loop-place-init : goal.loop-place-init
 loop-place-init c = grind (arith, common_steps, hexadecimal-none)

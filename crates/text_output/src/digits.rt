@@ -1,6 +1,6 @@
 ghost use Rattle.std.specs.Prelude.{◌≡◌, ◌++◌, ◌≤◌, OnOk};
 ghost use Rattle.std.specs.String.{string_bytes};
-ghost use Rattle.hexadecimal.specs.Digits.{hexadecimal};
+ghost use Rattle.text_output.specs.Digits.{hexadecimal};
 
 use std::alloc::AllocError;
 

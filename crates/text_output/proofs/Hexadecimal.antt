@@ -1,7 +1,7 @@
 use Rattle.std.proofs.Common.{◌≡◌, ℕ, suc, ◌+◌, ◌-◌, ◌*◌, ◌/◌, ◌%◌, ◌^◌, ◌<◌, [], ◌∷◌, ◌++◌, ap, ◌∙◌, arith}
 use Rattle.std.specs.Char.{digit_char}
 use Rattle.std.proofs.lemmas.Nat.{shr-shr}
-use Rattle.hexadecimal.specs.Digits.{hexadecimal}
+use Rattle.text_output.specs.Digits.{hexadecimal}
 
 -- one digit more, at a lower place
 pub hexadecimal-more : (count place number : ℕ) → place < count → hexadecimal (count - place) (number / 2 ^ (4 * place)) ≡ hexadecimal (count - (place + 1)) (number / 2 ^ (4 * (place + 1))) ++ digit_char (number / 2 ^ (4 * place) % 16) ∷ []

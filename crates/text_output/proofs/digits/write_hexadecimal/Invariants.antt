@@ -1,7 +1,7 @@
 use Rattle.std.proofs.Common.{◌≡◌, ◌-◌, ◌*◌, ◌/◌, ◌^◌, ◌++◌}
 use Rattle.std.specs.String.{string_bytes}
-use Rattle.hexadecimal.specs.Digits.{hexadecimal}
-use Rattle.hexadecimal.proofs.digits.write_hexadecimal.Given as goal
+use Rattle.text_output.specs.Digits.{hexadecimal}
+use Rattle.text_output.proofs.digits.write_hexadecimal.Given as goal
 
 abbrev pub invariant-loop-place : goal.invariant-loop-place
 invariant-loop-place l =

@@ -1,0 +1,11 @@
+//! What the texts of the program are written by: digits into a text, and pieces of bytes to any writer.
+//!
+//! - [`write_hexadecimal`] appends hexadecimal digits to a text.
+//! - [`write_some`] writes a first piece of some bytes and says how many it has.
+#![tactic(auto)]
+
+pub mod digits;
+pub mod some;
+
+pub use digits::write_hexadecimal;
+pub use some::{NotWritten, write_some};
