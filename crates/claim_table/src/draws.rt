@@ -1,6 +1,6 @@
 ghost use Rattle.std.specs.Prelude.{◌≡◌, ℕ, ◌+◌, ◌<◌, ◌≤◌, [], ◌++◌, ◌∷◌, All, map, length, IfOk, OnOk, IfSome, IfNone, OnSome};
 ghost use Rattle.std.specs.List.{range_with_len};
-ghost use Rattle.claim_table.specs.Logs.{tally, IsSame};
+ghost use Rattle.claim_table.specs.Logs.{tally, IsSame, NotesDrawn};
 ghost use Rattle.claim_table.specs.Seat.{done};
 
 use crate::rule::{Drawing, Fair, Joining, Looking, Noting, Parting};
@@ -40,7 +40,7 @@ impl Model for Draws {
 }
 
 impl Draws {
-    ghost use Rattle.claim_table.specs.Logs.{most_jobs, most_seats, new_log, tally, times, with_noted};
+    ghost use Rattle.claim_table.specs.Logs.{NotesDrawn, most_jobs, most_seats, new_log, tally, times, with_noted};
     ghost use Rattle.claim_table.specs.Draws.{AreDraws, IsDrawnOut};
     ghost use Rattle.std.specs.Prelude.{◌≡◌, ℕ, ◌+◌, ◌<◌, ◌≤◌, [], ◌++◌, ◌∷◌, All, map, length, IfOk, OnOk, IfSome, IfNone, OnSome};
     ghost use Rattle.std.specs.List.{range_with_len};
@@ -121,6 +121,7 @@ impl Draws {
         requires row { All (λ seat. seat.row ≡ self) seats.items }
         ensures logs { IfOk result (λ logs. logs.items ≡ map (λ seat. done seat.log) seats.items) }
         ensures numbered { OnOk result (All (λ seat. seat.number < self.size.seats) seats.items) }
+        ensures notes { OnOk result (All (λ seat. NotesDrawn seat.log) seats.items) }
         ensures draws { (word0 : ℕ) × (word1 : ℕ) × AreDraws self.size.jobs word0 word1 (tally (map (λ seat. seat.log) seats.items)) }
         ensures complete { IsDrawnOut self.size.jobs (tally (map (λ seat. seat.log) seats.items)) }
     {
@@ -140,6 +141,7 @@ impl Draws {
 fn logs_of(alloc: Global, seats: &[DrawSeat]) -> Result<Vec<SeatLog>, AllocError>
     ensures logs { IfOk result (λ logs. logs.items ≡ map (λ seat. done seat.log) seats.now) }
     ensures numbered { OnOk result (All (λ seat. seat.number < seat.row.size.seats) seats.now) }
+    ensures notes { OnOk result (All (λ seat. NotesDrawn seat.log) seats.now) }
 {
     let mut logs = Vec::with_capacity(alloc, seats.len())?;
     for seat in seats {

@@ -30,7 +30,7 @@ impl Model for DrawSeat {
 }
 
 impl DrawSeat {
-    ghost use Rattle.claim_table.specs.Logs.{new_log};
+    ghost use Rattle.claim_table.specs.Logs.{NotesDrawn, new_log};
     ghost use Rattle.claim_table.specs.Seat.{done};
 
     /// A seat that has done nothing.
@@ -61,6 +61,7 @@ impl DrawSeat {
     pub(crate) fn log(&self, alloc: Global) -> Result<SeatLog, AllocError>
         ensures log { IfOk result (λ log. log ≡ done self.now.log) }
         ensures numbered { self.now.number < self.now.row.size.seats }
+        ensures notes { NotesDrawn self.now.log }
     {
         let mut drawn = Vec::with_capacity(alloc, self.drawn.len())?;
         drawn.extend_from_slice(self.drawn.as_slice())?;

@@ -1,6 +1,6 @@
 use Rattle.std.proofs.Common.{◌≡◌, ◌∙◌, arith, ap, sym, subst, ◌<◌, rules, List, All, map}
 use Rattle.claim_table.specs.declared.size.Size.{Size}
-use Rattle.claim_table.specs.Logs.{tally}
+use Rattle.claim_table.specs.Logs.{NotesDrawn, tally}
 use Rattle.claim_table.specs.Draws.{AreDraws}
 use Rattle.claim_table.specs.Seat.{Row, SeatState}
 use Rattle.claim_table.proofs.Gathers.{all_numbered, on_ok}
@@ -18,6 +18,7 @@ returns c =
     record {
       logs = search rules;
       numbered = on_ok c.logs_of-logs.result (λ each. all_numbered c.args.self c.args.seats.items c.requires.row (subst (λ (seats : List SeatState). All (λ (seat : SeatState). seat.number < seat.row.size.seats) seats) c.as_slice.ensures.value each)) c.logs_of-logs.ensures.numbered;
+      notes = on_ok c.logs_of-logs.result (λ each. subst (λ (seats : List SeatState). All (λ (seat : SeatState). NotesDrawn seat.log) seats) c.as_slice.ensures.value each) c.logs_of-logs.ensures.notes;
       draws = (kept.word0, kept.word1, draws);
       complete = drawn_out _ _ _ _ draws;
     }
