@@ -1,5 +1,6 @@
 pub mod Decoding
 pub mod Encoding
+pub mod Encoded
 pub mod Forms
 pub mod Groups
 pub mod Word

@@ -3,6 +3,7 @@
 ghost use Rattle.std.specs.Prelude.{◌≡◌, ℕ, ◌^◌, ◌<◌};
 ghost use Rattle.decoder.specs.Forms.{RForm, IForm, SForm, BForm, UForm, JForm, FenceForm};
 ghost use Rattle.decoder.specs.Encoding.{Encodes};
+ghost use Rattle.decoder.specs.Encoded.{encoded, r_word, i_word, s_word, b_word, u_word, j_word, fence_word};
 
 use crate::field::{FenceField, ShiftAmount};
 use crate::instr::Instr;
@@ -11,10 +12,11 @@ use crate::register::Register;
 use crate::signed_word::{BranchOffset, Immediate, JumpOffset, UpperImmediate};
 
 /// The word that encodes an instruction.
-#[tactic(auto, unfolding(crate::specs::Encoding::Encodes))]
+#[tactic(auto, unfolding(crate::specs::Encoding::Encodes, crate::specs::Encoded::encoded))]
 pub fn encode(instr: &Instr) -> u32
     ensures value { Encodes result instr.now }
     ensures only { (w : ℕ) → w < 2 ^ 32 → Encodes w instr.now → w ≡ result }
+    ensures computed { result ≡ encoded instr.now }
 {
     match *instr {
         Instr::Lui { rd, immediate } => u_form(immediate, rd, opcode::LUI),
@@ -83,6 +85,7 @@ fn placed(funct7: u32, rs2: u32, rs1: Register, funct3: u32, rd: u32, opcode: u3
     requires opcode { opcode < 2 ^ 7 }
     ensures value { RForm result funct7 rs2 rs1 funct3 rd opcode }
     ensures only { (w : ℕ) → w < 2 ^ 32 → RForm w funct7 rs2 rs1 funct3 rd opcode → w ≡ result }
+    ensures computed { result ≡ r_word funct7 rs2 rs1 funct3 rd opcode }
 {
     let high = funct7 * (1 << 25) + rs2 * (1 << 20) + rs1.number() as u32 * (1 << 15);
     high + funct3 * (1 << 12) + rd * (1 << 7) + opcode
@@ -94,6 +97,7 @@ fn r_form(funct7: u32, rs2: Register, rs1: Register, funct3: u32, rd: Register) 
     requires funct3 { funct3 < 2 ^ 3 }
     ensures value { RForm result funct7 rs2 rs1 funct3 rd 0b0110011 }
     ensures only { (w : ℕ) → w < 2 ^ 32 → RForm w funct7 rs2 rs1 funct3 rd 0b0110011 → w ≡ result }
+    ensures computed { result ≡ r_word funct7 rs2 rs1 funct3 rd 0b0110011 }
 {
     placed(
         funct7,
@@ -111,6 +115,7 @@ fn shift_form(funct7: u32, amount: ShiftAmount, rs1: Register, funct3: u32, rd: 
     requires funct3 { funct3 < 2 ^ 3 }
     ensures value { RForm result funct7 amount rs1 funct3 rd 0b0010011 }
     ensures only { (w : ℕ) → w < 2 ^ 32 → RForm w funct7 amount rs1 funct3 rd 0b0010011 → w ≡ result }
+    ensures computed { result ≡ r_word funct7 amount rs1 funct3 rd 0b0010011 }
 {
     placed(
         funct7,
@@ -128,6 +133,7 @@ fn i_form(immediate: Immediate, rs1: Register, funct3: u32, rd: Register, opcode
     requires opcode { opcode < 2 ^ 7 }
     ensures value { IForm result immediate rs1 funct3 rd opcode }
     ensures only { (w : ℕ) → w < 2 ^ 32 → IForm w immediate rs1 funct3 rd opcode → w ≡ result }
+    ensures computed { result ≡ i_word immediate rs1 funct3 rd opcode }
 {
     let immediate = immediate.word();
     placed(
@@ -145,6 +151,7 @@ fn s_form(offset: Immediate, rs2: Register, rs1: Register, funct3: u32) -> u32
     requires { funct3 < 2 ^ 3 }
     ensures value { SForm result offset rs2 rs1 funct3 0b0100011 }
     ensures only { (w : ℕ) → w < 2 ^ 32 → SForm w offset rs2 rs1 funct3 0b0100011 → w ≡ result }
+    ensures computed { result ≡ s_word offset rs2 rs1 funct3 0b0100011 }
 {
     let offset = offset.word();
     placed(
@@ -162,6 +169,7 @@ fn b_form(offset: BranchOffset, rs2: Register, rs1: Register, funct3: u32) -> u3
     requires { funct3 < 2 ^ 3 }
     ensures value { BForm result offset rs2 rs1 funct3 0b1100011 }
     ensures only { (w : ℕ) → w < 2 ^ 32 → BForm w offset rs2 rs1 funct3 0b1100011 → w ≡ result }
+    ensures computed { result ≡ b_word offset rs2 rs1 funct3 0b1100011 }
 {
     let offset = offset.word();
     let high = (offset >> 31) * 64 + (offset >> 5) % 64;
@@ -174,6 +182,7 @@ fn u_form(immediate: UpperImmediate, rd: Register, opcode: u32) -> u32
     requires { opcode < 2 ^ 7 }
     ensures value { UForm result immediate rd opcode }
     ensures only { (w : ℕ) → w < 2 ^ 32 → UForm w immediate rd opcode → w ≡ result }
+    ensures computed { result ≡ u_word immediate rd opcode }
 {
     immediate.word() + rd.number() as u32 * (1 << 7) + opcode
 }
@@ -182,6 +191,7 @@ fn u_form(immediate: UpperImmediate, rd: Register, opcode: u32) -> u32
 fn j_form(offset: JumpOffset, rd: Register) -> u32
     ensures value { JForm result offset rd 0b1101111 }
     ensures only { (w : ℕ) → w < 2 ^ 32 → JForm w offset rd 0b1101111 → w ≡ result }
+    ensures computed { result ≡ j_word offset rd 0b1101111 }
 {
     let offset = offset.word();
     let high = (offset >> 31) * (1 << 31) + (offset >> 1) % 1024 * (1 << 21);
@@ -199,6 +209,7 @@ fn fence_form(
 ) -> u32
     ensures value { FenceForm result fm pred succ rs1 0b000 rd 0b0001111 }
     ensures only { (w : ℕ) → w < 2 ^ 32 → FenceForm w fm pred succ rs1 0b000 rd 0b0001111 → w ≡ result }
+    ensures computed { result ≡ fence_word fm pred succ rs1 0b000 rd 0b0001111 }
 {
     let order = fm.number() as u32 * (1 << 8)
         + pred.number() as u32 * (1 << 4)

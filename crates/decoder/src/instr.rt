@@ -9,7 +9,7 @@ use std::fmt;
 ///
 /// `rd` is the register that an instruction writes, `rs1` and `rs2` are those that it reads. Sums are modulo
 /// 2^32. What each instruction does is said here in short; the ISA has it whole.
-#[derive(Clone, Copy, PartialEq, Eq)]
+#[derive(Clone, Copy)]
 pub enum Instr {
     /// LUI: the immediate into `rd`.
     Lui {
@@ -291,6 +291,32 @@ pub enum Instr {
     Ecall,
     /// EBREAK: a breakpoint.
     Ebreak,
+}
+
+/// Two instructions are equal exactly if their words are. Written by hand, since a derived impl compares each of the 48 cases
+/// with each, which takes longer to prove than most of the crate.
+impl PartialEq for Instr {
+    ghost use Rattle.std.specs.Prelude.{◌≡◌, ◌==◌, ◌↔◌, IsTrue};
+    ghost use Rattle.std.specs.Cmp.{on_equiv, partial_equiv_from_equiv, nat_eq_equiv};
+    ghost use Rattle.decoder.specs.Encoded.{encoded};
+
+    ghost eq = { λ a b. encoded a == encoded b };
+
+    ghost laws = { partial_equiv_from_equiv (on_equiv encoded nat_eq_equiv) };
+
+    fn eq(&self, other: &Instr) -> bool
+        ensures computed { result ≡ (encoded self.now == encoded other.now) }
+        ensures same { IsTrue result ↔ (self.now ≡ other.now) }
+    {
+        encode(self) == encode(other)
+    }
+}
+
+impl Eq for Instr {
+    ghost use Rattle.std.specs.Cmp.{on_equiv, nat_eq_equiv};
+    ghost use Rattle.decoder.specs.Encoded.{encoded};
+
+    ghost laws = { on_equiv encoded nat_eq_equiv };
 }
 
 /// Its word. Written by hand, since the derived impl of this many cases takes longer to prove than most of the crate.
