@@ -1,5 +1,3 @@
-pub mod Coding
-pub mod Runs
 pub mod Stages
 pub mod Works
 pub mod Events

@@ -5,9 +5,9 @@ use Rattle.std.proofs.lemmas.List.{length-set}
 use Rattle.std.proofs.lemmas.Option.{slice_get_within, get_or_from_slice_get}
 use Rattle.std.specs.Prelude.{slice_get, slice_set}
 use Rattle.guest_memory.specs.Memory.{Memory}
-use Rattle.parallel_phase.specs.declared.job.Job.{Job}
-use Rattle.parallel_phase.specs.declared.outcome.Outcome.{Outcome}
-use Rattle.parallel_phase.specs.declared.outcome.Outcome.TheVariants.{Skipped}
+use Rattle.phase_jobs.specs.declared.job.Job.{Job}
+use Rattle.phase_jobs.specs.declared.outcome.Outcome.{Outcome}
+use Rattle.phase_jobs.specs.declared.outcome.Outcome.TheVariants.{Skipped}
 use Rattle.parallel_phase.specs.Turns.{AreWaiting, IsResult}
 use Rattle.parallel_phase.proofs.Fates.{get_set_same, get_set_other, some_is}
 

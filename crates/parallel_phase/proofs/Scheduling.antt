@@ -20,12 +20,14 @@ use Rattle.schedule.specs.declared.event.Event.{Event}
 use Rattle.schedule.specs.declared.fate.Fate.{Fate}
 use Rattle.schedule.specs.declared.fate.Fate.TheVariants as fate
 use Rattle.parallel_phase.specs.Events.{AreByEvents, TakeInOrder, LeadTo, events_of, fate_of, steps_to, verdict_of_job, verdicts}
-use Rattle.parallel_phase.specs.Job.{IsRanOf}
+use Rattle.phase_jobs.specs.Job.{IsRanOf}
 use Rattle.parallel_phase.specs.Outcomes.{AreFates, IsWhole, filed}
-use Rattle.parallel_phase.specs.Work.{PhaseState, WorkState, FitsNumber, Fits, SawBelow, ends}
-use Rattle.parallel_phase.specs.declared.job.Job.{Job}
-use Rattle.parallel_phase.specs.declared.outcome.Outcome.{Outcome}
-use Rattle.parallel_phase.specs.declared.outcome.Outcome.TheVariants.{Ran, Skipped}
+use Rattle.phase_jobs.specs.Outcome.{ends}
+use Rattle.phase_jobs.specs.SharedJobs.{PhaseState, SawBelow}
+use Rattle.parallel_phase.specs.Work.{WorkState, FitsNumber, Fits}
+use Rattle.phase_jobs.specs.declared.job.Job.{Job}
+use Rattle.phase_jobs.specs.declared.outcome.Outcome.{Outcome}
+use Rattle.phase_jobs.specs.declared.outcome.Outcome.TheVariants.{Ran, Skipped}
 use Rattle.parallel_phase.proofs.Events.{idle, does_nothing, leads_on, least_after, ran_one, skipped_one}
 use Rattle.parallel_phase.proofs.Fates.{AreWorks, all_at, at_number, counted_by, drawn_by, drawn_of, filed_length, logs_of, nothing_there, number_at, numbers, once, part_of_total, some_is, stands_once, total_drawn, work_of}
 

@@ -10,11 +10,13 @@ use Rattle.claim_table.specs.declared.log.Log.{Log}
 use Rattle.claim_table.specs.Logs.{times, new_log, with_drawn, with_end}
 use Rattle.claim_table.specs.Seat.{SeatState}
 use Rattle.claim_table.proofs.Totals.{times_push, times_empty}
-use Rattle.parallel_phase.specs.declared.job.Job.{Job}
-use Rattle.parallel_phase.specs.declared.drawn.Drawn.{Drawn}
-use Rattle.parallel_phase.specs.declared.outcome.Outcome.{Outcome}
-use Rattle.parallel_phase.specs.declared.outcome.Outcome.TheVariants.{Ran, Skipped}
-use Rattle.parallel_phase.specs.Work.{Looks, Works, SawBelow, IsOutcome, FitsNumber, Fits, HasEnd, AreOutcomes, AreOver, IsOver, ends, noted_if}
+use Rattle.phase_jobs.specs.declared.job.Job.{Job}
+use Rattle.phase_jobs.specs.declared.drawn.Drawn.{Drawn}
+use Rattle.phase_jobs.specs.declared.outcome.Outcome.{Outcome}
+use Rattle.phase_jobs.specs.declared.outcome.Outcome.TheVariants.{Ran, Skipped}
+use Rattle.phase_jobs.specs.Outcome.{IsOutcome, ends}
+use Rattle.phase_jobs.specs.SharedJobs.{Looks, SawBelow, noted_if}
+use Rattle.parallel_phase.specs.Work.{Works, FitsNumber, Fits, HasEnd, AreOutcomes, AreOver, IsOver}
 
 noted_is : (test : Bool) (log : Log) (number : ℕ) → (noted_if test log number).noted ≡ (if test then log.noted ++ number ∷ [] else log.noted)
 noted_is true log number = refl

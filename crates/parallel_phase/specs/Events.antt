@@ -12,9 +12,9 @@ use Rattle.schedule.specs.declared.event.Event.TheVariants.{Draw, Step, Note, Sk
 use Rattle.schedule.specs.declared.fate.Fate.{Fate}
 use Rattle.schedule.specs.declared.fate.Fate.TheVariants as fate
 use Rattle.parallel_phase.specs.Work.{WorkState}
-use Rattle.parallel_phase.specs.declared.job.Job.{Job}
-use Rattle.parallel_phase.specs.declared.outcome.Outcome.{Outcome}
-use Rattle.parallel_phase.specs.declared.outcome.Outcome.TheVariants.{Ran, Skipped}
+use Rattle.phase_jobs.specs.declared.job.Job.{Job}
+use Rattle.phase_jobs.specs.declared.outcome.Outcome.{Outcome}
+use Rattle.phase_jobs.specs.declared.outcome.Outcome.TheVariants.{Ran, Skipped}
 
 -- what a job on this memory comes to after so many steps; a number that is no job's has no end
 abbrev pub verdict_of_job : Memory → Option Job → ℕ → Verdict

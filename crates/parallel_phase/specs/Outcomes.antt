@@ -1,12 +1,13 @@
 -- What becomes of the jobs of a phase.
 use Rattle.std.specs.Prelude.{◌≡◌, ℕ, ◌<◌, true, false, Some, List, [], ◌∷◌, length, slice_get, slice_set}
 use Rattle.guest_memory.specs.Memory.{Memory}
-use Rattle.parallel_phase.specs.declared.job.Job.{Job}
-use Rattle.parallel_phase.specs.declared.drawn.Drawn.{Drawn}
-use Rattle.parallel_phase.specs.declared.outcome.Outcome.{Outcome}
-use Rattle.parallel_phase.specs.declared.outcome.Outcome.TheVariants.{Ran, Skipped}
-use Rattle.parallel_phase.specs.Job.{IsRanOf}
-use Rattle.parallel_phase.specs.Work.{WorkState, AreOutcomes, ends}
+use Rattle.phase_jobs.specs.declared.job.Job.{Job}
+use Rattle.phase_jobs.specs.declared.drawn.Drawn.{Drawn}
+use Rattle.phase_jobs.specs.declared.outcome.Outcome.{Outcome}
+use Rattle.phase_jobs.specs.declared.outcome.Outcome.TheVariants.{Ran, Skipped}
+use Rattle.phase_jobs.specs.Job.{IsRanOf}
+use Rattle.phase_jobs.specs.Outcome.{ends}
+use Rattle.parallel_phase.specs.Work.{WorkState, AreOutcomes}
 
 -- a job below this number was run, and the run ends by it
 abbrev pub EndsBelow : List Outcome → ℕ → Type 0

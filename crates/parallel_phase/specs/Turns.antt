@@ -1,13 +1,13 @@
 -- How the jobs of a phase come to a taker of turns.
 use Rattle.std.specs.Prelude.{◌≡◌, ℕ, ◌<◌, Bool, true, false, Option, Some, None, Result, Ok, Err, List, length, slice_get}
 use Rattle.guest_memory.specs.Memory.{Memory}
-use Rattle.parallel_phase.specs.declared.job.Job.{Job}
-use Rattle.parallel_phase.specs.declared.drawn.Drawn.{Drawn}
-use Rattle.parallel_phase.specs.declared.outcome.Outcome.{Outcome}
-use Rattle.parallel_phase.specs.declared.outcome.Outcome.TheVariants.{Ran, Skipped}
+use Rattle.phase_jobs.specs.declared.job.Job.{Job}
+use Rattle.phase_jobs.specs.declared.drawn.Drawn.{Drawn}
+use Rattle.phase_jobs.specs.declared.outcome.Outcome.{Outcome}
+use Rattle.phase_jobs.specs.declared.outcome.Outcome.TheVariants.{Ran, Skipped}
 use Rattle.parallel_phase.specs.declared.taker_stage.TakerStage.{TakerStage}
 use Rattle.parallel_phase.specs.declared.taker_stage.TakerStage.TheVariants.{New, Going, Stopped, Failed}
-use Rattle.parallel_phase.specs.Job.{IsRanOf}
+use Rattle.phase_jobs.specs.Job.{IsRanOf}
 
 -- how far it is after a call that answered this and made it so many turns
 abbrev pub after_call : {E : Type 0} → Result Bool E → ℕ → TakerStage

@@ -1,51 +1,17 @@
 -- What a seat of a phase does with the jobs that it draws.
-use Rattle.std.specs.Prelude.{◌≡◌, ℕ, ◌<◌, ◌≤◌, Bool, true, false, if◌then◌else◌, Some, List, [], ◌∷◌, ◌++◌, map, length, All, slice_get}
+use Rattle.std.specs.Prelude.{◌≡◌, ℕ, ◌<◌, ◌≤◌, Bool, true, false, if◌then◌else◌, List, [], ◌∷◌, ◌++◌, map, length, All, slice_get, Some}
 use Rattle.guest_memory.specs.Memory.{Memory}
 use Rattle.paged_memory.specs.Snapshot.{cells_of}
-use Rattle.paged_memory.specs.declared.snapshot.Snapshot.{Snapshot}
 use Rattle.claim_table.specs.declared.log.Log.{Log}
-use Rattle.claim_table.specs.Logs.{times, with_noted}
-use Rattle.claim_table.specs.Seat.{Row, SeatState}
-use Rattle.parallel_phase.specs.declared.job.Job.{Job}
-use Rattle.parallel_phase.specs.declared.drawn.Drawn.{Drawn}
-use Rattle.parallel_phase.specs.declared.outcome.Outcome.{Outcome}
-use Rattle.parallel_phase.specs.declared.outcome.Outcome.TheVariants.{Ran, Skipped}
-use Rattle.parallel_phase.specs.Job.{IsRanOf}
-use Rattle.schedule.specs.Verdict.{ends_run}
-
--- a phase: the row that its seats draw by, its jobs, and the memory that each begins with
-pub record PhaseState : Type 0 where
-  pub row : Row
-  pub jobs : List Job
-  pub base : Snapshot
-
--- a number below this one was seen
-abbrev pub SawBelow : Log → ℕ → Type 0
-SawBelow log number = (least : ℕ) × (least < number) × (0 < times least log.seen)
-
--- what became of a job: it was run on this memory, or skipped where a lower number was seen
-abbrev pub IsOutcome : List Job → Memory → Log → ℕ → Outcome → Type 0
-IsOutcome jobs memory log number (Ran ran) = IsRanOf jobs memory number ran
-IsOutcome jobs memory log number Skipped = SawBelow log number
-
--- whether the run ends by a job that was run
-abbrev pub ends : Outcome → Bool
-ends (Ran ran) = ends_run ran.end.hart ran.end.stop
-ends Skipped = false
-
--- the log where a number is noted, if it is to
-abbrev pub noted_if : Bool → Log → ℕ → Log
-noted_if test log number = if test then with_noted log number else log
-
--- a seat looked, and did nothing else
-pub record Looks (old new : SeatState) : Type 0 where
-  pub row : new.row ≡ old.row
-  pub number : new.number ≡ old.number
-  pub seats : new.log.seats ≡ old.log.seats
-  pub drawn : new.log.drawn ≡ old.log.drawn
-  pub noted : new.log.noted ≡ old.log.noted
-  pub ended : new.log.ended ≡ old.log.ended
-  pub seen : (number : ℕ) → 0 < times number old.log.seen → 0 < times number new.log.seen
+use Rattle.claim_table.specs.Logs.{times}
+use Rattle.claim_table.specs.Seat.{SeatState}
+use Rattle.phase_jobs.specs.Job.{IsRanOf}
+use Rattle.phase_jobs.specs.Outcome.{IsOutcome, ends}
+use Rattle.phase_jobs.specs.SharedJobs.{PhaseState, SawBelow}
+use Rattle.phase_jobs.specs.declared.job.Job.{Job}
+use Rattle.phase_jobs.specs.declared.drawn.Drawn.{Drawn}
+use Rattle.phase_jobs.specs.declared.outcome.Outcome.{Outcome}
+use Rattle.phase_jobs.specs.declared.outcome.Outcome.TheVariants.{Ran, Skipped}
 
 -- a seat drew a job, this became of it, and it was noted where the run ends by it
 pub record Works (jobs : List Job) (memory : Memory) (old new : SeatState) (drawn : Drawn) : Type 0 where

@@ -2,15 +2,11 @@
 
 ghost use Rattle.std.specs.Prelude.{◌<◌, length, IfOk};
 ghost use Rattle.paged_memory.specs.Snapshot.{cells_of};
-ghost use Rattle.parallel_phase.specs.Job.{IsJobEnd, IsRanOf};
+ghost use Rattle.phase_jobs.specs.Job.{IsJobEnd, IsRanOf};
 
-use crate::job::Job;
-use crate::job_end::JobEnd;
-use crate::phase::{Phase, SLICE};
-use crate::progress::Progress;
-use crate::ran::Ran;
-use crate::underway::Underway;
+use crate::phase::Phase;
 use paged_memory::Snapshot;
+use phase_jobs::{Job, JobEnd, Progress, Ran, SLICE, Underway};
 use std::alloc::AllocError;
 
 /// Runs a job to its end.
@@ -32,8 +28,8 @@ impl Phase {
         requires { number < length self.now.jobs }
         ensures { IfOk result (IsRanOf self.now.jobs (cells_of self.now.base) number) }
     {
-        let end = end_of(self.jobs[number as usize], &self.base)?;
-        let base = self.base.try_clone()?;
-        Ok(Ran::new(number, self.jobs[number as usize], base, end))
+        let end = end_of(self.jobs()[number as usize], self.base())?;
+        let base = self.base().try_clone()?;
+        Ok(Ran::new(number, self.jobs()[number as usize], base, end))
     }
 }

@@ -6,11 +6,10 @@ ghost use Rattle.parallel_phase.specs.Events.{AreByEvents};
 ghost use Rattle.parallel_phase.specs.Outcomes.{AreFates, IsWhole, filed};
 ghost use Rattle.parallel_phase.specs.Work.{IsWorkOf};
 
-use crate::drawn::Drawn;
-use crate::outcome::Outcome;
 use crate::phase::Phase;
 use crate::work_done::WorkDone;
 use claim_table::DrawSeat;
+use phase_jobs::{Drawn, Outcome};
 use std::alloc::{AllocError, Global};
 
 /// As many skipped jobs.
@@ -68,10 +67,10 @@ impl Phase {
         ensures fates { IfOk result (λ outcomes. AreFates self.jobs (cells_of self.base) outcomes.items) }
         ensures events { IfOk result (λ outcomes. AreByEvents self.jobs (cells_of self.base) works.items outcomes.items) }
     {
-        let alloc = self.base.allocator();
-        let mut outcomes = all_skipped(alloc, self.jobs.len())?;
+        let alloc = self.base().allocator();
+        let mut outcomes = all_skipped(alloc, self.jobs().len())?;
         let (seats, drawn) = parted(alloc, works)?;
-        self.draws.gather(seats)?;
+        self.shared.into_draws().gather(seats)?;
         file(outcomes.as_mut_slice(), drawn);
         Ok(outcomes)
     }

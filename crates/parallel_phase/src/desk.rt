@@ -1,16 +1,15 @@
 ghost use Rattle.std.specs.Prelude.{◌≡◌, ◌<◌, length, IfOk};
 ghost use Rattle.paged_memory.specs.Snapshot.{cells_of};
-ghost use Rattle.parallel_phase.specs.Job.{IsRanOf};
+ghost use Rattle.phase_jobs.specs.Job.{IsRanOf};
 ghost use Rattle.parallel_phase.specs.Turns.{AreWaiting};
 
 use crate::collect::all_skipped;
 use crate::message::{Message, PhaseName};
-use crate::outcome::Outcome;
 use crate::phase::Phase;
-use crate::ran::Ran;
 use claim_table::DrawSeat;
 use crossbeam_channel::Receiver;
 use gate::Gate;
+use phase_jobs::{Outcome, Ran};
 use std::alloc::AllocError;
 use std::sync::Wait;
 
@@ -30,8 +29,8 @@ impl Phase {
     pub(crate) fn desk(&self) -> Result<Desk, AllocError>
         ensures { IfOk result (λ desk. AreWaiting self.now.jobs (cells_of self.now.base) desk.places.items) }
     {
-        let coming = self.jobs.len();
-        let places = all_skipped(self.base.allocator(), coming)?;
+        let coming = self.jobs().len();
+        let places = all_skipped(self.base().allocator(), coming)?;
         Ok(Desk {
             places,
             coming,

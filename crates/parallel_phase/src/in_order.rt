@@ -7,7 +7,6 @@ ghost use Rattle.parallel_phase.specs.Turns.{IsCutShort, IsTakerOf, IsThrough};
 ghost use Rattle.parallel_phase.specs.declared.taker_stage.TakerStage.TheVariants.{New};
 ghost use denote.Param.Send.{IsSend, IsSync};
 
-use crate::job::Job;
 use crate::message::{Message, PhaseName};
 use crate::phase::Phase;
 use crate::turn_taker::TurnTaker;
@@ -16,6 +15,7 @@ use claim_table::DrawSeat;
 use crossbeam_channel::{Receiver, bounded};
 use gate::Gate;
 use paged_memory::Snapshot;
+use phase_jobs::Job;
 use std::alloc::{AllocError, Global};
 use std::marker::Brand;
 use std::sync::Wait;
@@ -50,7 +50,7 @@ impl Phase {
         if !taker.begin()? {
             return Ok(());
         }
-        for number in 0..self.jobs.len() as u32 {
+        for number in 0..self.jobs().len() as u32 {
             let ran = self.result_of(rt, &mut desk, seat, gate, results, number)?;
             if !taker.take(number, ran)? {
                 return Ok(());
@@ -97,8 +97,8 @@ impl Phase {
         ensures short { OnErr result (IsCutShort self.now.jobs (T.taker_stage taker.new)) }
     {
         let (sender, receiver) = bounded::<Message<J>, Global>(
-            self.base.allocator(),
-            self.jobs.len().max(1),
+            self.base().allocator(),
+            self.jobs().len().max(1),
         )?;
         if others.is_empty() {
             return self.take_turns(rt, &mut seat, gate, &receiver, taker);

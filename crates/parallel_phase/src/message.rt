@@ -1,9 +1,9 @@
 ghost use Rattle.std.specs.Prelude.{◌≡◌, List};
 ghost use Rattle.guest_memory.specs.Memory.{Memory};
-ghost use Rattle.parallel_phase.specs.declared.job.Job.{Job};
+ghost use Rattle.phase_jobs.specs.declared.job.Job.{Job};
 ghost use Rattle.parallel_phase.specs.Turns.{IsSent};
 
-use crate::drawn::Drawn;
+use phase_jobs::Drawn;
 use std::marker::{Brand, Model, PhantomData};
 
 /// Which jobs and which memory the messages of a call are of. Each call picks them.
@@ -32,7 +32,7 @@ impl<J: PhaseName> Model for Message<J> {
     ghost use Rattle.std.specs.Prelude.{Option};
     ghost use Rattle.std.specs.Coded.{codes};
     ghost use Rattle.commit.specs.contracts.patch.Patch as patch;
-    ghost use Rattle.parallel_phase.specs.declared.drawn.Drawn.{Drawn};
+    ghost use Rattle.phase_jobs.specs.declared.drawn.Drawn.{Drawn};
     ghost use Rattle.parallel_phase.specs.Turns.{IsSent};
 
     ghost Value = { Option Drawn };

@@ -1,13 +1,13 @@
 ghost use Rattle.std.specs.Prelude.{◌≡◌, ◌<◌, ◌+◌, List};
 ghost use Rattle.guest_memory.specs.Memory.{Memory};
-ghost use Rattle.parallel_phase.specs.declared.job.Job.{Job};
-ghost use Rattle.parallel_phase.specs.Job.{IsRanOf};
+ghost use Rattle.phase_jobs.specs.declared.job.Job.{Job};
+ghost use Rattle.phase_jobs.specs.Job.{IsRanOf};
 ghost use Rattle.parallel_phase.specs.Turns.{after_call};
 ghost use Rattle.parallel_phase.specs.declared.taker_stage.TakerStage.{TakerStage};
 ghost use Rattle.parallel_phase.specs.declared.taker_stage.TakerStage.TheVariants.{New, Going};
 ghost use Rattle.claim_table.specs.Logs.{most_jobs};
 
-use crate::ran::Ran;
+use phase_jobs::Ran;
 use std::alloc::AllocError;
 
 /// Who takes the turns of a phase's jobs, in the order of the jobs.

@@ -1,13 +1,11 @@
 ghost use Rattle.std.specs.Prelude.{◌≡◌, ◌<◌, length, IfSome};
 ghost use Rattle.paged_memory.specs.Snapshot.{cells_of};
-ghost use Rattle.parallel_phase.specs.Job.{IsRanOf};
+ghost use Rattle.phase_jobs.specs.Job.{IsRanOf};
 ghost use Rattle.parallel_phase.specs.Turns.{AreWaiting, IsResult};
 
 use crate::collect::put;
-use crate::drawn::Drawn;
-use crate::outcome::Outcome;
 use crate::phase::Phase;
-use crate::ran::Ran;
+use phase_jobs::{Drawn, Outcome, Ran};
 use std::mem::replace;
 
 impl Phase {

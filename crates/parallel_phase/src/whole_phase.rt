@@ -9,13 +9,12 @@ ghost use Rattle.parallel_phase.specs.Outcomes.{AreFates};
 ghost use Rattle.parallel_phase.specs.Work.{IsUnbegun, IsWorkOf};
 ghost use denote.Param.Send.{IsSync};
 
-use crate::job::Job;
-use crate::outcome::Outcome;
 use crate::phase::Phase;
 use crate::work_done::WorkDone;
 use claim_table::DrawSeat;
 use gate::Gate;
 use paged_memory::Snapshot;
+use phase_jobs::{Job, Outcome};
 use std::alloc::{AllocError, Global};
 use std::thread::{Threads, join_mut};
 
@@ -35,7 +34,7 @@ impl Phase {
         ensures long { IfOk result (λ works. length works.items ≡ length seats.items) }
         ensures works { IfOk result (λ works. All (IsUnbegun self.now) works.items) }
     {
-        let alloc = self.base.allocator();
+        let alloc = self.base().allocator();
         let mut works = Vec::with_capacity(alloc, seats.len())?;
         while let Some(seat) = seats.pop() {
             works.push(WorkDone::new(alloc, seat))?;

@@ -2,7 +2,7 @@
 use Rattle.std.specs.Prelude.{◌≡◌, ℕ, List}
 use Rattle.paged_memory.specs.Snapshot.{cells_of}
 use Rattle.paged_memory.specs.declared.snapshot.Snapshot.{Snapshot}
-use Rattle.parallel_phase.specs.declared.job.Job.{Job}
+use Rattle.phase_jobs.specs.declared.job.Job.{Job}
 use Rattle.parallel_phase.specs.declared.taker_stage.TakerStage.{TakerStage}
 use Rattle.token.specs.Point.{Point}
 use Rattle.token.specs.Setup.{Setup}

@@ -1,8 +1,8 @@
 ghost use Rattle.std.specs.Prelude.{◌≡◌, ◌<◌, ◌+◌, List, All, length, map, IfOk};
 ghost use Rattle.guest_memory.specs.Memory.{Memory};
 ghost use Rattle.paged_memory.specs.Snapshot.{cells_of};
-ghost use Rattle.parallel_phase.specs.Job.{IsRanOf};
-ghost use Rattle.parallel_phase.specs.declared.job.Job.{Job as JobValue};
+ghost use Rattle.phase_jobs.specs.Job.{IsRanOf};
+ghost use Rattle.phase_jobs.specs.declared.job.Job.{Job as JobValue};
 ghost use Rattle.token.specs.RunInTurn.{point_of};
 ghost use Rattle.worker_pool.specs.Jobs.{AreJobsIn, job_from};
 

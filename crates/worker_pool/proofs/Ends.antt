@@ -5,12 +5,12 @@ use Rattle.std.proofs.lemmas.Option.{slice_get-map}
 use Rattle.std.specs.Option.{option_map}
 use Rattle.std.specs.Prelude.{map, slice_get}
 use Rattle.guest_memory.specs.Memory.{Memory}
-use Rattle.parallel_phase.specs.Job.{IsJobEnd}
-use Rattle.parallel_phase.specs.Stands.{UnderwayState}
-use Rattle.parallel_phase.specs.Underway.{IsProgress}
-use Rattle.parallel_phase.specs.declared.job.Job.{Job}
-use Rattle.parallel_phase.specs.declared.job_end.JobEnd.{JobEnd}
-use Rattle.parallel_phase.specs.declared.progress.Progress.TheVariants.{GoesOn}
+use Rattle.phase_jobs.specs.Job.{IsJobEnd}
+use Rattle.phase_jobs.specs.Stands.{UnderwayState}
+use Rattle.phase_jobs.specs.Underway.{IsProgress}
+use Rattle.phase_jobs.specs.declared.job.Job.{Job}
+use Rattle.phase_jobs.specs.declared.job_end.JobEnd.{JobEnd}
+use Rattle.phase_jobs.specs.declared.progress.Progress.TheVariants.{GoesOn}
 use Rattle.thread_table.specs.declared.thread.Thread.{Thread}
 use Rattle.token.specs.History.{History}
 use Rattle.token.specs.Point.{Point, IsEndOf, due_at, need_at, need_by, need_of}

@@ -1,6 +1,6 @@
 -- What became of a job that a seat drew.
 use Rattle.claim_table.specs.Seat.{SeatState}
-use Rattle.parallel_phase.specs.Work.{PhaseState}
+use Rattle.phase_jobs.specs.SharedJobs.{PhaseState}
 use Rattle.worker_pool.specs.Sharing.{IsHeld}
 use Rattle.worker_pool.specs.declared.going.Going.{Going}
 use Rattle.worker_pool.specs.declared.going.Going.TheVariants.{On, Over}

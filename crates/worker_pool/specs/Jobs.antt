@@ -2,9 +2,9 @@
 use Rattle.std.specs.Prelude.{◌≡◌, ℕ, ◌-◌, ◌<◌, Option, List, length, map}
 use Rattle.guest_memory.specs.Memory.{Memory}
 use Rattle.paged_memory.specs.Snapshot.{cells_of}
-use Rattle.parallel_phase.specs.Stands.{UnderwayState}
-use Rattle.parallel_phase.specs.Work.{PhaseState}
-use Rattle.parallel_phase.specs.declared.job.Job.{Job}
+use Rattle.phase_jobs.specs.Stands.{UnderwayState}
+use Rattle.phase_jobs.specs.SharedJobs.{PhaseState}
+use Rattle.phase_jobs.specs.declared.job.Job.{Job}
 use Rattle.thread_table.specs.declared.thread.Thread.{Thread}
 use Rattle.token.specs.History.{History}
 use Rattle.token.specs.Point.{Point}

@@ -3,9 +3,9 @@ use Rattle.std.specs.Prelude.{◌≡◌, ◌<◌, Option, IfSome}
 use Rattle.claim_table.specs.Logs.{times}
 use Rattle.claim_table.specs.Seat.{SeatState}
 use Rattle.paged_memory.specs.Snapshot.{cells_of}
-use Rattle.parallel_phase.specs.Stage.{IsTakenOf}
-use Rattle.parallel_phase.specs.Work.{PhaseState}
-use Rattle.parallel_phase.specs.declared.taken.Taken.{Taken}
+use Rattle.phase_jobs.specs.Stage.{IsTakenOf}
+use Rattle.phase_jobs.specs.SharedJobs.{PhaseState}
+use Rattle.phase_jobs.specs.declared.taken.Taken.{Taken}
 
 -- a job of this phase that this seat drew, and that goes on
 pub record IsHeld (phase : PhaseState) (seat : SeatState) (taken : Taken) : Type 0 where

@@ -11,7 +11,7 @@ use crate::post::Post;
 use crate::shared_phase::SharedPhase;
 use claim_table::DrawSeat;
 use gate::Gate;
-use parallel_phase::Taken;
+use phase_jobs::Taken;
 use std::marker::Model;
 use std::sync::{Arc, Wait};
 

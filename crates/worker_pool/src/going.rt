@@ -1,6 +1,6 @@
 use crate::of_run::OfRun;
 use crate::post::Post;
-use parallel_phase::Taken;
+use phase_jobs::Taken;
 
 /// What became of a drawn job by now.
 #[derive(Drop)]

@@ -13,7 +13,7 @@ use crate::line::Line;
 use crate::of_run::OfRun;
 use crate::shared_phase::SharedPhase;
 use claim_table::DrawSeat;
-use parallel_phase::{Job, Phase, Taken, Underway};
+use phase_jobs::{Job, SharedJobs, Taken, Underway};
 use std::alloc::{AllocError, Global};
 use std::sync::{Arc, Wait};
 use thread_table::Threads;
@@ -65,12 +65,12 @@ pub(crate) fn shared_phase<B: OfRun, K: Recorder>(
         serial.bound(),
         serial.quantum(),
     )?;
-    let (phase, seats) = Phase::open(alloc, jobs.as_slice(), seats, serial.base())?;
+    let (phase, seats) = SharedJobs::open(alloc, jobs.as_slice(), seats, serial.base())?;
     Ok((SharedPhase::new(serial.phase(), threads, phase), seats))
 }
 
 /// Draws up to a job. Whether the seat drew it.
-fn draw_up_to(phase: &Phase, seat: &mut DrawSeat, number: u32) -> bool
+fn draw_up_to(phase: &SharedJobs, seat: &mut DrawSeat, number: u32) -> bool
     requires { seat.old.row ≡ phase.now.row }
     ensures row { seat.new.row ≡ seat.old.row }
     ensures drawn { result ≡ true → 0 < times number seat.new.log.drawn }

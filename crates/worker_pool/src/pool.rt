@@ -16,7 +16,7 @@ use crate::segment_end::{job_of, segment_end};
 use claim_table::JOBS;
 use crossbeam_channel::bounded;
 use gate::Gate;
-use parallel_phase::{Progress, Underway};
+use phase_jobs::{Progress, Underway};
 use std::alloc::{AllocError, Global};
 use std::sync::{Arc, Wait};
 use token::{Need, Recorder, SegmentEnd, Serial, Work};

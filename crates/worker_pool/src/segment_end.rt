@@ -1,6 +1,6 @@
 ghost use Rattle.std.specs.Prelude.{◌≡◌};
 
-use parallel_phase::{Job, JobEnd};
+use phase_jobs::{Job, JobEnd};
 use token::{SegmentEnd, Work};
 
 /// The end of a job as the end of its thread's segment.

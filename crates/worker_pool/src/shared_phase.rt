@@ -2,7 +2,7 @@ ghost use Rattle.std.specs.Prelude.{◌≡◌, ◌<◌, ℕ, List, length, IfSom
 ghost use Rattle.claim_table.specs.Logs.{times};
 ghost use Rattle.claim_table.specs.declared.log.Log.{Log};
 ghost use Rattle.paged_memory.specs.Snapshot.{cells_of};
-ghost use Rattle.parallel_phase.specs.Work.{IsOutcome};
+ghost use Rattle.phase_jobs.specs.Outcome.{IsOutcome};
 ghost use Rattle.worker_pool.specs.Jobs.{IsShared};
 ghost use Rattle.worker_pool.specs.Sharing.{IsHeld};
 ghost use Rattle.worker_pool.specs.Goings.{IsGoing};
@@ -12,7 +12,7 @@ use crate::of_run::OfRun;
 use crate::post::Post;
 use crate::segment_end::segment_end;
 use claim_table::DrawSeat;
-use parallel_phase::{Drawn, Outcome, Phase, Stage, Taken};
+use phase_jobs::{Drawn, Outcome, SharedJobs, Stage, Taken};
 use std::marker::{Model, PhantomData};
 
 /// A phase of a run whose jobs several host threads draw.
@@ -21,7 +21,7 @@ pub(crate) struct SharedPhase<B: OfRun> {
     number: u64,
     /// The threads that are ready in it, ascending. The jobs have their order.
     threads: Vec<u32>,
-    phase: Phase,
+    phase: SharedJobs,
     of: PhantomData<B>,
 }
 
@@ -36,7 +36,7 @@ impl<B: OfRun> Model for SharedPhase<B> {
 }
 
 impl<B: OfRun> SharedPhase<B> {
-    pub(crate) fn new(number: u64, threads: Vec<u32>, phase: Phase) -> Self
+    pub(crate) fn new(number: u64, threads: Vec<u32>, phase: SharedJobs) -> Self
         requires { IsShared B.setup number threads.items phase }
         ensures { result ≡ record { number = number; threads = threads.items; phase = phase } }
     {
@@ -56,7 +56,7 @@ impl<B: OfRun> SharedPhase<B> {
     }
 
     /// Its jobs, to be drawn.
-    pub(crate) fn phase(&self) -> &Phase
+    pub(crate) fn phase(&self) -> &SharedJobs
         ensures { result.now ≡ self.now.phase }
     {
         &self.phase

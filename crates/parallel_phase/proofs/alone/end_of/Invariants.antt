@@ -1,8 +1,8 @@
 use Rattle.std.proofs.Common.{ℕ, ◌-◌}
 use Rattle.paged_memory.specs.Snapshot.{cells_of}
-use Rattle.parallel_phase.specs.Underway.{IsProgress}
-use Rattle.parallel_phase.specs.declared.progress.Progress.{Progress}
-use Rattle.parallel_phase.specs.declared.progress.Progress.TheVariants.{GoesOn, Over}
+use Rattle.phase_jobs.specs.Underway.{IsProgress}
+use Rattle.phase_jobs.specs.declared.progress.Progress.{Progress}
+use Rattle.phase_jobs.specs.declared.progress.Progress.TheVariants.{GoesOn, Over}
 use Rattle.parallel_phase.proofs.alone.end_of.Given as goal
 
 abbrev left_by : Progress → ℕ

@@ -1,6 +1,7 @@
 use Rattle.std.proofs.Common.{ap, subst}
 use Rattle.paged_memory.specs.Snapshot.{cells_of}
-use Rattle.parallel_phase.specs.Work.{PhaseState, IsOutcome}
+use Rattle.phase_jobs.specs.Outcome.{IsOutcome}
+use Rattle.phase_jobs.specs.SharedJobs.{PhaseState}
 use Rattle.worker_pool.specs.Jobs.{SharedState}
 use Rattle.worker_pool.proofs.shared_phase.SharedPhase.begin.Goals as goal
 

@@ -1,7 +1,8 @@
 use Rattle.std.proofs.Common.{ap, subst}
 use Rattle.std.proofs.lemmas.Option.{slice_get_within}
 use Rattle.paged_memory.specs.Snapshot.{cells_of}
-use Rattle.parallel_phase.specs.Work.{PhaseState, IsOutcome}
+use Rattle.phase_jobs.specs.Outcome.{IsOutcome}
+use Rattle.phase_jobs.specs.SharedJobs.{PhaseState}
 use Rattle.worker_pool.specs.Jobs.{SharedState}
 use Rattle.worker_pool.proofs.shared_phase.SharedPhase.go_on.Goals as goal
 

@@ -1,0 +1,42 @@
+-- Looks of a seat, one after another.
+use Rattle.std.proofs.Common.{◌≡◌, ◌∙◌, ◌<◌, ℕ, Some, zero, suc, List, [], ◌∷◌, length, get_or, refl, sym, ap, arith}
+use Rattle.std.specs.Prelude.{slice_get}
+use Rattle.claim_table.specs.Logs.{times, with_seen}
+use Rattle.claim_table.proofs.Totals.{times_push, drawn_here}
+use Rattle.claim_table.specs.Seat.{SeatState}
+use Rattle.phase_jobs.specs.declared.job.Job.{Job}
+use Rattle.phase_jobs.specs.SharedJobs.{Looks, SawBelow}
+
+pub looks_none : (seat : SeatState) → Looks seat seat
+looks_none seat = record { row = refl; number = refl; seats = refl; drawn = refl; noted = refl; ended = refl; seen = λ number was. was }
+
+pub looks_again : (a b c : SeatState) → Looks a b → Looks b c → Looks a c
+looks_again a b c first then = record {
+  row = then.row ∙ first.row;
+  number = then.number ∙ first.number;
+  seats = then.seats ∙ first.seats;
+  drawn = then.drawn ∙ first.drawn;
+  noted = then.noted ∙ first.noted;
+  ended = then.ended ∙ first.ended;
+  seen = λ number was. then.seen number (first.seen number was);
+}
+
+-- a look that saw a number
+pub looks_at : (old new : SeatState) (least : ℕ) → new ≡ record old { log = with_seen old.log least } → Looks old new
+looks_at old new least is = record {
+  row = ap (λ (s : SeatState). s.row) is;
+  number = ap (λ (s : SeatState). s.number) is;
+  seats = ap (λ (s : SeatState). s.log.seats) is;
+  drawn = ap (λ (s : SeatState). s.log.drawn) is;
+  noted = ap (λ (s : SeatState). s.log.noted) is;
+  ended = ap (λ (s : SeatState). s.log.ended) is;
+  seen = λ number was. let e = ap (λ (s : SeatState). times number s.log.seen) is in let more = times_push number least old.log.seen in omega arith;
+}
+
+pub saw_below : (old new : SeatState) (least number : ℕ) → new ≡ record old { log = with_seen old.log least } → least < number → SawBelow new.log number
+saw_below old new least number is below = (least, below, let e = ap (λ (s : SeatState). times least s.log.seen) is in let here = drawn_here least old.log.seen in omega arith)
+
+pub job_at : (jobs : List Job) (number : ℕ) (job : Job) → number < length jobs → job ≡ get_or jobs number job → slice_get jobs number ≡ Some job
+job_at [] number job inside is = absurd (omega arith)
+job_at (x ∷ xs) zero job inside is = ap Some (sym is)
+job_at (x ∷ xs) (suc number) job inside is = job_at xs number job (omega arith) is
