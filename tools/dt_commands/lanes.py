@@ -20,12 +20,12 @@ def lanes_of_machine():
 
 def in_lanes(lanes, tasks, ended):
     """Runs tasks side by side, in their order. A task is an owner and a call; what the call returns goes to `ended` with its owner, and
-    the tasks that this returns are run before those that wait."""
-    waiting, running = list(tasks), {}
-    with ThreadPoolExecutor(lanes) as pool:
-        while waiting or running:
-            while waiting and len(running) < lanes:
-                owner, call = waiting.pop(0)
-                running[pool.submit(call)] = owner
-            for it in wait(running, return_when=FIRST_COMPLETED).done:
-                waiting[:0] = ended(running.pop(it), it.result())
+    the tasks that this returns are run before those that wait. An interrupt ends it at once, and waits for no task that runs."""
+    waiting, running, pool = list(tasks), {}, ThreadPoolExecutor(lanes)
+    while waiting or running:
+        while waiting and len(running) < lanes:
+            owner, call = waiting.pop(0)
+            running[pool.submit(call)] = owner
+        for it in wait(running, return_when=FIRST_COMPLETED).done:
+            waiting[:0] = ended(running.pop(it), it.result())
+    pool.shutdown()

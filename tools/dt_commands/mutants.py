@@ -133,6 +133,8 @@ class Session:
             else:
                 failures += [f"{it}: {kind.upper()}: {text}" for it, kind, text in trial.failed]
             tried, refused = tried + len(trial.edits), refused + len(trial.edits) - len(trial.failed)
+            for it in trial.weak:
+                print(f"mutants: note: {it} is refused by no goal of the function that it changes: {trial.results[it][1]}")
         for it in failures:
             print(f"mutants: {it}")
         how = f"{self.progress.done} checks, {self.progress.alone} of one edit, {self.progress.so_far()} on {lanes} lanes"
@@ -153,6 +155,8 @@ def run(options):
         return session.run()
     except KeyboardInterrupt:
         # (the checks end with this process)
-        session.clear()
         print("mutants: interrupted; the crates that passed are in mutants.lock", flush=True)
+        session.clear()
         os._exit(130)
+    finally:
+        session.clear()

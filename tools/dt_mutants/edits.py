@@ -37,9 +37,11 @@ class Edit:
 
     def __init__(self, crate, file, folder):
         self.crate, self.file, self.folder = crate, file, folder
-        self.name = os.path.basename(file)[: -len(".edit")]
+        self.name, ending = os.path.splitext(os.path.basename(file))
         self.pairs, self.changes, self.why = [], {}, None
         try:
+            if ending != ".edit":
+                raise BadEdit("an edit's name ends in .edit (or in .md, if it is only to be read)")
             self.pairs = pairs_of(text_of(file))
             self.changes = {path: text for path, text in made([self]).items() if text != self.before(path)}
             if not self.changes:
@@ -91,5 +93,5 @@ def made(edits):
 def edits_of(crate, folder, kind="mutants"):
     """Returns the mutants of the crate in this folder, or its edits of another kind, by their names."""
     at = f"{folder}/{kind}"
-    names = sorted(it for it in os.listdir(at) if it.endswith(".edit")) if os.path.isdir(at) else []
+    names = sorted(it for it in os.listdir(at) if not it.endswith(".md")) if os.path.isdir(at) else []
     return [Edit(crate, f"{at}/{it}", folder) for it in names]

@@ -36,8 +36,12 @@ def write(sums):
 
 def with_mutants():
     """Returns the crates of crates.txt that have mutants, in its order."""
-    has_some = lambda folder: os.path.isdir(folder) and any(it.endswith(".edit") for it in os.listdir(folder))
-    return [it for it in crates() if has_some(f"{TOP}/crates/{it}/mutants")]
+    return [it for it in crates() if edit_files(it)]
+
+
+def edit_files(name):
+    """Returns the files of a crate's mutants."""
+    return [it for it in files_in(f"{TOP}/crates/{name}/mutants") if not it.endswith(".md")]
 
 
 def files_in(folder):
@@ -70,8 +74,7 @@ def of_the_tool():
 
 def sum_of(name):
     """Returns the sum of all that a full round of a crate reads, as the files are."""
-    edits = sum_of_files(it for it in files_in(f"{TOP}/crates/{name}/mutants") if it.endswith(".edit"))
-    return hashlib.sha256(repr((of_the_tool(), [own_sum(it) for it in below(name)], edits)).encode()).hexdigest()
+    return hashlib.sha256(repr((of_the_tool(), [own_sum(it) for it in below(name)], sum_of_files(edit_files(name)))).encode()).hexdigest()
 
 
 def forget():

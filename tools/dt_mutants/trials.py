@@ -17,6 +17,15 @@ from dt_mutants.rounds import plan
 REFUSED, LIMIT, BAD, UNSURE, MISSED = "refused", "limit", "bad", "not tried", "not refused"
 
 
+def parts_of(edits, spoiling):
+    """Returns the rounds in which the edits of a spoilt round are tried again: those that spoil it alone, or else the two halves."""
+    others = [it for it in edits if it not in spoiling]
+    if spoiling and others:
+        return [others, *[[it] for it in spoiling]]
+    half = len(edits) // 2
+    return [edits[:half], edits[half:]]
+
+
 class Trial:
     """The try of all edits of a crate. Each step returns the steps that it makes needed; `results` has what each edit came to."""
 
@@ -26,9 +35,21 @@ class Trial:
         self.edits = edits
         self.results = {it: (BAD, it.why) for it in edits if it.why}
         self.rounds = plan([it for it in edits if not it.why])
-        self.failure = None
+        # those that are refused, but by no goal of the function that they change
+        self.failure, self.weak = None, []
 
     def begin(self):
+        return self.safely(self.make_seed)
+
+    def safely(self, call, *given):
+        """Calls a step, and returns no further ones if it fails because the disk is full, or the like."""
+        try:
+            return call(*given)
+        except (OSError, shutil.Error) as error:
+            self.failure = f"it couldn't be tried: {error}"
+            return []
+
+    def make_seed(self):
         """Makes the seed, over which each round is tried: the kept work of a check of the crate as it stands, which must prove it."""
         self.room = tempfile.mkdtemp(prefix=f"rt-edits-{os.getpid()}-")
         kept = f"{self.crate.folder}/out/incremental"
@@ -48,8 +69,7 @@ class Trial:
         return f"{self.room}/seed"
 
     def step(self, edits):
-        is_lone = len(edits) == 1
-        return lambda: self.try_alone(edits[0]) if is_lone else self.try_round(edits)
+        return lambda: self.safely(self.try_alone, edits[0]) if len(edits) == 1 else self.safely(self.try_round, edits)
 
     @contextlib.contextmanager
     def over_the_seed(self):
@@ -67,28 +87,17 @@ class Trial:
         texts, begun = made(edits), time.time()
         with self.over_the_seed() as over:
             said, status = kit.check(self.crate, texts, over)
-        refused = verdicts.refused_by(edits, said, status)
-        spoiling = verdicts.blamed(edits, said) if self.has_unread(said, texts) or not verdicts.has_verdict(said, status) else []
-        refused = [it for it in refused if it not in spoiling]
+        is_spoilt = status != 0 and (not verdicts.has_verdict(said, status) or self.has_unread(said, texts))
+        refused = [] if is_spoilt else verdicts.refused_by(edits, said, status)
         for it in refused:
             self.results[it] = (REFUSED, "refused")
-        again = self.rest(edits, refused, spoiling, verdicts.has_verdict(said, status))
+        left = [it for it in edits if it not in refused]
+        again = parts_of(left, verdicts.blamed(left, said)) if is_spoilt else [[it] for it in left]
         self.note(self, edits, f"{len(refused)} refused", again, said, time.time() - begun)
         return [self.step(it) for it in again]
 
     def has_unread(self, said, texts):
         return any(kit.loaded().unread(line, texts) for line in said.split("\n"))
-
-    def rest(self, edits, refused, spoiling, has_verdict):
-        """Returns the rounds that an ended round leaves to try."""
-        left = [it for it in edits if it not in refused]
-        others = [it for it in left if it not in spoiling]
-        if has_verdict:
-            return [[it] for it in left]
-        if spoiling and others:
-            return [others, *[[it] for it in spoiling]]
-        half = len(left) // 2
-        return [left[:half], left[half:]]
 
     def try_alone(self, edit):
         """Tries an edit as `rt must-fail` does: what isn't refused over the seed is tried once more from nothing."""
@@ -100,9 +109,9 @@ class Trial:
             whole = kit.try_alone(self.crate, edit.file, None)
             kind, text, said = (kind, text, said) if kind == rt.MISSED and whole[0] == rt.UNSURE else whole
         kind = {rt.REFUSED: REFUSED, rt.AT_LIMIT: LIMIT, rt.BAD: BAD, rt.MISSED: MISSED}.get(kind, UNSURE)
-        if kind == REFUSED and edit.places and not verdicts.refused_by([edit], said, 1):
-            text = f"{text} (by no goal of the function that it changes)"
         self.results[edit] = (kind, text)
+        if kind == REFUSED and edit.places and not verdicts.refused_by([edit], said, 1):
+            self.weak.append(edit)
         self.note(self, [edit], f"{edit.name} alone: {kind}", [], said, time.time() - begun)
         return []
 
@@ -110,7 +119,7 @@ class Trial:
         """Ends the try: looks whether a check wrote into what the others read, and removes the copies."""
         if not self.failure and kit.loaded().listing(self.seed) != self.files:
             self.failure = "what its own check left was changed meanwhile: try it again"
-        shutil.rmtree(self.room, ignore_errors=True)
+        shutil.rmtree(self.room or "", ignore_errors=True)
 
     @property
     def failed(self):
