@@ -54,7 +54,9 @@ class Session:
         self.options, self.progress = options, Progress()
         self.old = lock.read()
         self.sums = {it: lock.sum_of(it) for it in lock.with_mutants()}
-        self.trials, self.begun, self.left, self.unproved, self.passed = {}, {}, {}, {}, []
+        # the trials, how many of its steps each has left, and the crates that aren't proved; and the lines that the lock gets
+        self.trials, self.left, self.unproved = {}, {}, {}
+        self.lines = {it: self.old[it] for it in self.sums if it in self.old}
 
     def run(self):
         names = chosen(self.options, self.old, self.sums)
@@ -104,24 +106,21 @@ class Session:
         return [(name, it) for it in steps]
 
     def conclude(self, name):
-        """Ends a crate's trial. Its line is written at once, so that an interrupt loses no crate that passed."""
+        """Ends a crate's trial. Its line is written at once, so that an interrupt loses no crate that passed; one that failed has none."""
         trial = self.trials[name]
         trial.end()
         lock.forget()
         if not trial.failure and lock.sum_of(name) != self.sums[name]:
             trial.failure = "its files were changed meanwhile: try it again"
-        if not trial.failure and not trial.failed:
-            self.passed.append(name)
+        if not trial.failure:
+            self.lines.pop(name, None)
+            self.lines.update({} if trial.failed else {name: self.sums[name]})
             self.write()
 
     def write(self):
-        """Writes the lock, without the lines of crates that have no mutants any more."""
-        if self.options.gate:
-            return
-        now = {it: self.sums[it] if it in self.passed else self.old.get(it) for it in self.sums}
-        now = {it: found for it, found in now.items() if found}
-        if now != self.old:
-            lock.write(now)
+        """Writes the lock, without the lines of crates that have no mutants any more. The gate writes nothing."""
+        if not self.options.gate and self.lines != lock.read():
+            lock.write(self.lines)
 
     def summary(self, lanes):
         """Prints what failed, and a last line, and returns the status."""
