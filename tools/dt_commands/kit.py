@@ -1,0 +1,99 @@
+"""The functions of the toolchain's own scripts that the project's tools call, in one place.
+
+None of them is a published interface: they are inner functions of `rt` and of the rtlib.py beside it, and a later toolchain may change
+them. `loaded()` stops with a plain sentence if one of them is missing. Everything else that the tools ask of the toolchain goes through
+the ordinary commands.
+"""
+import functools
+import importlib.machinery
+import importlib.util
+import os
+import shutil
+import sys
+import threading
+
+from dt_commands.repository import TOP
+
+# What the tools call: of rt, and of rtlib.
+OF_RT = ("checked", "linked", "listing", "must_fail", "unread", "REFUSED", "AT_LIMIT", "BAD", "UNSURE", "MISSED")
+OF_RTLIB = ("Crate", "guarded", "PARTS")
+
+# What the last check of this thread printed, and its status.
+LAST = threading.local()
+
+
+def script():
+    """Returns the file of the command rt."""
+    found = shutil.which("rt")
+    if not found:
+        sys.exit("tools/dt: the command rt of the Rattle toolchain is not on the PATH")
+    return os.path.realpath(found)
+
+
+def version():
+    """Returns the line that `rt version` prints."""
+    with open(f"{os.path.dirname(os.path.dirname(script()))}/KIT-ID", encoding="utf-8") as lines:
+        return lines.read().strip()
+
+
+@functools.lru_cache(maxsize=None)
+def loaded():
+    """Returns rt as a module, of which nothing but the names above is used."""
+    loader = importlib.machinery.SourceFileLoader("rt_command", script())
+    rt = importlib.util.module_from_spec(importlib.util.spec_from_loader("rt_command", loader))
+    loader.exec_module(rt)
+    lacking = [it for it in OF_RT if not hasattr(rt, it)] + [it for it in OF_RTLIB if not hasattr(rt.rtlib, it)]
+    if lacking:
+        sys.exit(f"tools/dt: this toolchain's rt has no {', '.join(lacking)}: tools/dt_commands/kit.py wants a change")
+    rt.checked = noted(rt.checked)
+    return rt
+
+
+def noted(checked):
+    """Has a check also leave what it printed, and its status, in LAST."""
+
+    def call(*given):
+        ran = checked(*given)
+        LAST.said, LAST.status = ran.stdout, ran.returncode
+        return ran
+
+    return call
+
+
+def guard():
+    """Has each check end when this process ends, however it ends. The main thread calls it, before others begin."""
+    loaded().rtlib.guarded()
+
+
+def crate(name, top=TOP, known=None):
+    """Returns the toolchain's own view of a crate, which prints nothing."""
+    rtlib = loaded().rtlib
+    known = {} if known is None else known
+    folder = f"{top}/crates/{name}"
+    made = known.get(folder) or rtlib.Crate(folder, top, known)
+    known[folder] = made
+    made.out = open(os.devnull, "w")
+    return made
+
+
+def is_ready(made):
+    """Returns whether the libraries below the crate are built of the files as they are, and a check of it left its work."""
+    return all(it.is_built() for it in made.below()) and made.has_kept()
+
+
+def has_foreign_libraries(made):
+    """Returns whether each library below the crate is there, and none is one that `rt check` built: `rt ci` leaves them so."""
+    return all(os.path.isfile(f"{it.rlib}/format") and not os.path.exists(f"{os.path.dirname(it.rlib)}/stamp") for it in made.below())
+
+
+def check(made, texts, kept, jobs=1):
+    """Checks a copy of the crate with these texts in place of its own, over the kept work in a folder, and returns output and status."""
+    ran = loaded().checked(made, texts, ["--jobs", str(jobs)], kept)
+    return ran.stdout, ran.returncode
+
+
+def try_alone(made, file, kept):
+    """Returns what `rt must-fail` makes of one edit: its kind, what it says of it, and what its check printed."""
+    LAST.said, LAST.status = "", None
+    kind, text = loaded().must_fail(made, file, ["--jobs", "1"], kept)
+    return kind, text.partition(": ")[2] or text, LAST.said

@@ -1,0 +1,161 @@
+"""Tries the mutants: edits of the crates' sources that the prover has to refuse.
+
+A file crates/NAME/mutants/WHAT_IS_WRONG.edit has the form of a must-fail edit. Edits that change different functions of a crate are
+made at once in a copy of the crate, which is checked once, over what a check of the crate as it stands proved. An edit counts as
+refused only if that check names the function that it changes with a clause that wasn't proved, or with a refusal in the function's own
+proof files. Any other edit is tried alone, as `rt must-fail` does. An edit that isn't refused is a failure, and so is one that doesn't
+apply, read or compile. The status is 1 if anything failed.
+
+  tools/dt mutants            tries the crates whose sum differs from that in mutants.lock, and writes the lines of those that passed
+  tools/dt mutants CRATE..    tries these crates, and writes their lines
+  tools/dt mutants --all      tries every crate, and writes their lines
+  tools/dt mutants --gate     as .ci/run calls it, after rt ci: tries the crates whose sum differs, and writes nothing
+
+Before a change lands, call it without words and commit mutants.lock: the gate then has nothing to try.
+"""
+import os
+import shutil
+import subprocess
+import sys
+import time
+
+from dt_commands import kit
+from dt_commands.lanes import in_lanes, lanes_of_machine
+from dt_commands.repository import TOP
+from dt_mutants import lock, selftest
+from dt_mutants.edits import edits_of
+from dt_mutants.progress import Progress, processor_seconds
+from dt_mutants.trials import Trial
+
+
+def arguments(parser):
+    parser.add_argument("crates", nargs="*", metavar="CRATE", help="the crates to try")
+    parser.add_argument("--all", action="store_true", help="try every crate that has mutants")
+    parser.add_argument("--gate", action="store_true", help="try what differs from mutants.lock, over what rt ci left, and write nothing")
+    parser.add_argument("--lanes", type=int, metavar="N", help="how many checks run side by side (processors, but one for 2.5 GB of free memory)")
+    parser.add_argument("--self-test", action="store_true", help="try the tool itself, on a crate made for it: about a minute")
+    parser.add_argument("--save", metavar="FOLDER", help="write what each check printed to files in this folder")
+
+
+def chosen(options, old, new):
+    """Returns the crates to try, in the order of crates.txt."""
+    unknown = [it for it in options.crates if it not in new]
+    if unknown:
+        sys.exit(f"tools/dt mutants: {unknown[0]} is no crate with mutants")
+    if options.crates:
+        return [it for it in new if it in options.crates]
+    return [it for it in new if options.all or old.get(it) != new[it]]
+
+
+class Session:
+    """One call of the command: the trials of its crates, and what came of them."""
+
+    def __init__(self, options):
+        self.options, self.progress = options, Progress()
+        self.old = lock.read()
+        self.sums = {it: lock.sum_of(it) for it in lock.with_mutants()}
+        # the trials, how many of its steps each has left, and the crates that aren't proved; and the lines that the lock gets
+        self.trials, self.left, self.unproved = {}, {}, {}
+        self.lines = {it: self.old[it] for it in self.sums if it in self.old}
+
+    def run(self):
+        names = chosen(self.options, self.old, self.sums)
+        if not names:
+            print(f"mutants: nothing to try: the sums of all {len(self.sums)} crates are those of mutants.lock")
+            self.write()
+            return 0
+        kit.guard()
+        known = {}
+        for name in names:
+            self.prepare(kit.crate(name, known=known))
+        lanes = self.options.lanes or lanes_of_machine()
+        edits, rounds = sum(len(it.edits) for it in self.trials.values()), sum(len(it.rounds) for it in self.trials.values())
+        self.progress.say(f"mutants: {edits} edits of {len(self.trials)} crates in {rounds} rounds, {lanes} at a time")
+        # the largest first, so that no lane is left alone with one
+        order = sorted(self.trials, key=lambda it: -len(self.trials[it].rounds) * self.trials[it].crate.count(rb"\n"))
+        in_lanes(lanes, [(it, self.trials[it].begin) for it in order], self.ended)
+        return self.summary(lanes)
+
+    def prepare(self, crate):
+        """Has the crate proved, unless kept work or what rt ci left serves, and plans its rounds."""
+        is_left = self.options.gate and kit.has_foreign_libraries(crate)
+        if not kit.is_ready(crate) and not is_left:
+            self.progress.say(f"{crate.name}: proving it first, over kept work ({self.progress.so_far()} so far)")
+            words = {"cwd": crate.folder, "stdin": subprocess.DEVNULL, "stdout": subprocess.PIPE, "stderr": subprocess.STDOUT}
+            ran = subprocess.run(["rt", "check"], universal_newlines=True, errors="replace", **words)
+            if ran.returncode:
+                self.unproved[crate.name] = f"it isn't proved, so none of its edits was tried:\n{ran.stdout[-1500:]}"
+                return
+        self.trials[crate.name] = Trial(crate, edits_of(crate.name, crate.folder), self.note)
+        self.left[crate.name] = 1
+        self.progress.plan(len(self.trials[crate.name].rounds))
+
+    def note(self, trial, edits, what, again, said, took):
+        self.progress.ended(trial.crate.name, edits, what, again, took)
+        if self.options.save:
+            os.makedirs(self.options.save, exist_ok=True)
+            name = edits[0].name if len(edits) == 1 else f"round_{time.time_ns()}"
+            with open(f"{self.options.save}/{trial.crate.name}.{name}.said", "w", encoding="utf-8") as it:
+                it.write("".join(f"# {edit.name}\n" for edit in edits) + said)
+
+    def ended(self, name, steps):
+        """Takes account of a step that ended, and returns the tasks that it makes needed."""
+        self.left[name] += len(steps) - 1
+        if not self.left[name]:
+            self.conclude(name)
+        return [(name, it) for it in steps]
+
+    def conclude(self, name):
+        """Ends a crate's trial. Its line is written at once, so that an interrupt loses no crate that passed; one that failed has none."""
+        trial = self.trials[name]
+        trial.end()
+        lock.forget()
+        if not trial.failure and lock.sum_of(name) != self.sums[name]:
+            trial.failure = "its files were changed meanwhile: try it again"
+        if not trial.failure:
+            self.lines.pop(name, None)
+            self.lines.update({} if trial.failed else {name: self.sums[name]})
+            self.write()
+
+    def write(self):
+        """Writes the lock, without the lines of crates that have no mutants any more. The gate writes nothing."""
+        if not self.options.gate and self.lines != lock.read():
+            lock.write(self.lines)
+
+    def summary(self, lanes):
+        """Prints what failed, and a last line, and returns the status."""
+        failures = [f"{name}: {why}" for name, why in self.unproved.items()]
+        tried = refused = 0
+        for name, trial in self.trials.items():
+            if trial.failure:
+                failures.append(f"{name}: {trial.failure}")
+            else:
+                failures += [f"{it}: {kind.upper()}: {text}" for it, kind, text in trial.failed]
+            tried, refused = tried + len(trial.edits), refused + len(trial.edits) - len(trial.failed)
+            for it in trial.weak:
+                print(f"mutants: note: {it} is refused by no goal of the function that it changes: {trial.results[it][1]}")
+        for it in failures:
+            print(f"mutants: {it}")
+        how = f"{self.progress.done} checks, {self.progress.alone} of one edit, {self.progress.so_far()} on {lanes} lanes"
+        print(f"mutants: {refused} of {tried} refused, {len(failures)} failed; {how}, {processor_seconds():,.0f} processor seconds", flush=True)
+        return 1 if failures else 0
+
+    def clear(self):
+        for it in self.trials.values():
+            shutil.rmtree(it.room or "", ignore_errors=True)
+
+
+def run(options):
+    os.chdir(TOP)
+    if options.self_test:
+        return selftest.run(Progress())
+    session = Session(options)
+    try:
+        return session.run()
+    except KeyboardInterrupt:
+        # (the checks end with this process)
+        print("mutants: interrupted; the crates that passed are in mutants.lock", flush=True)
+        session.clear()
+        os._exit(130)
+    finally:
+        session.clear()

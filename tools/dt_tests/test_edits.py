@@ -1,0 +1,28 @@
+"""Looks at the edits of the repository itself: each can be made, and those in must-fail/ are the wrong bodies that have a name."""
+import os
+import re
+import unittest
+
+from dt_commands.repository import TOP
+from dt_mutants.edits import edits_of
+
+
+def folders():
+    return [f"{TOP}/crates/{it}" for it in sorted(os.listdir(f"{TOP}/crates"))]
+
+
+class Edits(unittest.TestCase):
+    def test_each_can_be_made(self):
+        edits = [it for at in folders() for kind in ("mutants", "must-fail") for it in edits_of(os.path.basename(at), at, kind)]
+        self.assertEqual([f"{it}: {it.why}" for it in edits if it.why], [])
+
+    def test_must_fail_has_the_wrong_bodies_with_a_name(self):
+        with open(f"{TOP}/docs/CONFORMANCE.md", encoding="utf-8") as it:
+            table = it.read().partition("## Wrong bodies with a name")[2].partition("\n## ")[0]
+        named = re.findall(r"`(\w+/\w+)`", table)
+        found = [repr(it) for at in folders() for it in edits_of(os.path.basename(at), at, "must-fail")]
+        self.assertEqual(sorted(named), sorted(found))
+
+
+if __name__ == "__main__":
+    unittest.main()

@@ -1,0 +1,110 @@
+"""Tests of how a crate's rounds are tried, over a check that is a fake: it knows which texts compile, and which are refused."""
+import os
+import re
+import tempfile
+import types
+import unittest
+from unittest import mock
+
+from dt_mutants import trials
+from dt_mutants.edits import edits_of
+
+NAMES = ("one", "two", "three", "four", "five")
+
+
+def source():
+    return "".join(f"fn {name}() -> u32 {{\n    {at}00\n}}\n" for at, name in enumerate(NAMES, 1))
+
+
+class FakeKit:
+    """Judges a text: 'bad' doesn't compile, 'same' is proved, 'hidden' is refused without a word of its function, any other is refused."""
+
+    REFUSED, AT_LIMIT, BAD, UNSURE, MISSED = range(5)
+
+    def __init__(self):
+        self.checks, self.is_seed_changed = [], False
+
+    def loaded(self):
+        kinds = {it: getattr(self, it) for it in ("REFUSED", "AT_LIMIT", "BAD", "UNSURE", "MISSED")}
+        linked = lambda folder, to: os.makedirs(to, exist_ok=True)
+        listing = lambda folder: {"changed": self.is_seed_changed and len(self.checks) > 1}
+        return types.SimpleNamespace(linked=linked, listing=listing, unread=lambda line, texts: False, **kinds)
+
+    def check(self, crate, texts, kept):
+        text = texts.get("src/lib.rt", source())
+        self.checks.append(text)
+        bodies = re.findall(r"fn (\w+)\(\) -> u32 \{\n    (.*)\n", text)
+        for at, (_, body) in enumerate(bodies):
+            if body == "bad":
+                return f"src/lib.rt:{3 * at + 2}:5: error[unresolved-name]: no `bad`\n", 1
+        changed = [(at, name) for at, (name, body) in enumerate(bodies) if body not in (f"{at + 1}00", "same", "hidden")]
+        lines = [f"note: src/lib.rt:{3 * at + 1}:1: it is not proved that x (`g`)\nfn small::{name}: no proof: `search` did not prove `g`" for at, name in changed]
+        is_proved = not changed and "hidden" not in text
+        return "\n".join([*lines, "logic=proved" if is_proved else "logic=not-proved", ""]), 0 if is_proved else 1
+
+    def try_alone(self, crate, file, kept):
+        edit = next(it for it in edits_of("small", crate.folder) if it.file == file)
+        said, status = self.check(crate, edit.changes, kept)
+        kind = self.BAD if "error[" in said else self.MISSED if status == 0 else self.REFUSED
+        return kind, "told", said
+
+
+class Trials(unittest.TestCase):
+    def tried(self, bodies, **how):
+        """Tries one edit a function, each by its new body, and returns what each came to, how many checks there were, and the trial."""
+        with tempfile.TemporaryDirectory() as folder:
+            for part in ("src", "mutants"):
+                os.makedirs(f"{folder}/{part}")
+            with open(f"{folder}/src/lib.rt", "w", encoding="utf-8") as it:
+                it.write(source())
+            for at, (name, body) in enumerate(zip(NAMES, bodies), 1):
+                with open(f"{folder}/mutants/{name}.edit", "w", encoding="utf-8") as it:
+                    it.write(f"file: src/lib.rt\nold: {at}00\nnew: {body}\n")
+            fake = FakeKit()
+            fake.is_seed_changed = how.get("is_seed_changed", False)
+            with mock.patch.object(trials, "kit", fake):
+                crate = types.SimpleNamespace(folder=folder, name="small")
+                trial = trials.Trial(crate, edits_of("small", folder), lambda *_: None)
+                steps = trial.begin()
+                while steps:
+                    steps = steps[1:] + steps[0]()
+                trial.end()
+        return [trial.results[it][0] for it in trial.edits], len(fake.checks), trial
+
+    def named(self, bodies):
+        """The edits are in the order of their names; this gives them in that of the functions."""
+        found, checks, trial = self.tried(bodies)
+        by_name = {it.name: kind for it, kind in zip(trial.edits, found)}
+        return [by_name[it] for it in NAMES], checks
+
+    def test_all_are_refused_in_one_check(self):
+        self.assertEqual(self.named(["x", "x", "x", "x", "x"]), (["refused"] * 5, 2))
+
+    def test_one_that_means_the_same_is_not_refused(self):
+        found, checks = self.named(["x", "x", "same", "x", "x"])
+        self.assertEqual(found, ["refused", "refused", "not refused", "refused", "refused"])
+        self.assertEqual(checks, 4)
+
+    def test_one_that_does_not_compile_spoils_nothing(self):
+        found, _ = self.named(["x", "bad", "x", "same", "x"])
+        self.assertEqual(found, ["refused", "bad", "refused", "not refused", "refused"])
+
+    def test_two_that_do_not_compile_are_both_found(self):
+        found, _ = self.named(["bad", "x", "x", "bad", "x"])
+        self.assertEqual(found, ["bad", "refused", "refused", "bad", "refused"])
+
+    def test_what_does_not_apply_is_bad_without_a_check(self):
+        found, checks, trial = self.tried(["100", "x", "x", "x", "x"])
+        self.assertEqual(sorted(found), ["bad", *["refused"] * 4])
+        self.assertEqual((checks, [it[0].name for it in trial.failed]), (2, ["one"]))
+
+    def test_one_that_no_goal_of_its_own_refuses_is_told(self):
+        found, _, trial = self.tried(["x", "hidden", "x", "x", "x"])
+        self.assertEqual((found, [it.name for it in trial.weak]), (["refused"] * 5, ["two"]))
+
+    def test_a_check_that_writes_into_the_seed_fails_the_trial(self):
+        self.assertIn("changed meanwhile", self.tried(["x"] * 5, is_seed_changed=True)[2].failure)
+
+
+if __name__ == "__main__":
+    unittest.main()
