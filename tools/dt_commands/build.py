@@ -44,8 +44,7 @@ class Progress:
         self.done = list(built)
         left = [it for it in self.every if it not in built]
         low = expected(left, self.lanes) / 60
-        kept = f" ({len(built)} are built)" if built else ""
-        say(f"building {len(left)} crates{kept}, {self.lanes} at a time: this takes {low:.0f} to {2 * low + 1:.0f} minutes")
+        say(f"building {len(left)} of {len(self.every)} crates, {self.lanes} at a time: this takes {low:.0f} to {2 * low + 1:.0f} minutes")
 
     def ended(self, name, seconds=None):
         self.done.append(name)

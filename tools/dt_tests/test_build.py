@@ -253,7 +253,7 @@ class Whole(unittest.TestCase):
         self.assertFalse(os.path.exists(f"{self.top}/{built_from.OF_BUILD}"))
         wrote, asked = self.ran("run", INNER="1")
         self.assertEqual([it.split()[0] for it in asked], ["high", "run"])
-        self.assertIn("2 are built", self.said)
+        self.assertIn("building 2 of 4 crates", self.said)
         self.assertEqual(wrote, "built, run\n")
 
     def test_a_toolchain_with_other_functions_builds_by_its_own_command(self):
