@@ -19,6 +19,8 @@ alone:
 """
 FILES = ("low/src/lib.rt", "low/specs/Lib.antt", "high/src/lib.rt", "high/proofs/one/Proof.antt", "command/src/main.rt", "tests/src/lib.rt")
 BUILT, RELEASED = "crates/command/out/command", release.FILE
+# All that ./dthreads needs of the machine if it has a release to start.
+NEEDED = "awk bash dirname find grep readlink sed sha256sum sh sort xargs".split()
 # An ELF file with one program header, a segment of 8 bytes, and a section header behind it.
 ELF = bytearray(64 + 56 + 8 + 64)
 ELF[:6] = executable.MAGIC
@@ -225,6 +227,9 @@ class Choices(Tree):
             shutil.copy(f"{TOP}/{file}", f"{self.top}/{file}")
         self.path = f"{self.top}/bin"
         self.write("bin/rt", "#!/bin/sh\necho kit 1\n", 0o755)
+        os.mkdir(f"{self.top}/needed")
+        for it in NEEDED:
+            os.symlink(shutil.which(it), f"{self.top}/needed/{it}")
 
     def program(self, file, record, version="kit 1"):
         self.write(file, '#!/bin/sh\necho "PROGRAM $*"\n'.replace("PROGRAM", file), 0o755)
@@ -237,7 +242,7 @@ class Choices(Tree):
         self.program(RELEASED, release.RECORD, version)
 
     def started(self, *words, script=None, has_rt=True, folder="/"):
-        path = f"{self.path}:/usr/bin:/bin" if has_rt else "/usr/bin:/bin"
+        path = f"{self.path}:{self.top}/needed" if has_rt else f"{self.top}/needed"
         how = {"stdout": subprocess.PIPE, "stderr": subprocess.PIPE, "universal_newlines": True, "env": {"PATH": path}, "cwd": folder}
         ran = subprocess.run([script or f"{self.top}/dthreads", *words], **how)
         self.said, self.status = ran.stderr, ran.returncode
