@@ -1,0 +1,176 @@
+"""Runs every test, and every program against its wanted output, unproved: minutes in place of the gate's hours.
+
+It proves nothing: `.ci/run` is the verdict. Tests and programs are run as `rt ci` runs them, a program with its files data/, args,
+stdin, stdout and status, but compiled with checks in place of proofs, which makes them up to a hundred times slower. The crates that
+took the longest when they were last run here come first.
+"""
+import os
+import re
+import sys
+import time
+
+from dt_commands import crate_lanes, toolchain
+from dt_commands.repository import TOP, crates
+
+TEST = re.compile(r"^\s*#\[test\]", re.M)
+VERDICT = re.compile(r"^test (\S+) \.\.\. (ok|FAILED)$")
+ENDED = re.compile(r"^run=ended status=(\d+) ", re.M)
+# How much of what a test, or a crate that doesn't compile, says is shown.
+SHOWN = 12
+
+
+def arguments(parser):
+    parser.add_argument("crates", nargs="*", metavar="CRATE", help="the crates to test (default: all that have tests or are programs)")
+    parser.add_argument("--lanes", type=int, metavar="N", help="how many crates at a time (default: one a processor, and 2.5 GB of memory each)")
+    parser.add_argument("--seconds", type=int, default=600, metavar="N", help="how long a test or a program may run (default: 600)")
+
+
+def text_of(file):
+    if not os.path.isfile(file):
+        return None
+    with open(file, "rb") as it:
+        return it.read()
+
+
+def files_below(folder):
+    """Returns the paths of the files below a folder, from there."""
+    found = []
+    for at, _, names in sorted(os.walk(folder)):
+        found += [os.path.relpath(f"{at}/{it}", folder) for it in sorted(names)]
+    return found
+
+
+def has_tests(folder):
+    sources = (f"{folder}/src/{it}" for it in files_below(f"{folder}/src") if it.endswith(".rt"))
+    return any(TEST.search(text_of(it).decode(errors="replace")) for it in sources)
+
+
+def is_program(folder):
+    return os.path.isfile(f"{folder}/src/main.rt")
+
+
+class Result:
+    """What the tests or the program of a crate came to: how many passed, what failed with what was said of it, and the seconds."""
+
+    def __init__(self, what, passed=0, failures=(), seconds=0):
+        self.what, self.passed, self.failures, self.seconds = what, passed, list(failures), seconds
+
+
+def of_tests(said, status):
+    """Reads what `rt try --test` said."""
+    result = Result("tests")
+    for line in said.splitlines():
+        found = VERDICT.match(line)
+        if found and found[2] == "ok":
+            result.passed += 1
+        elif found:
+            result.failures.append((found[1], []))
+        elif result.failures and line.startswith("    "):
+            result.failures[-1][1].append(line.strip())
+    if status and not result.failures:
+        result.failures.append(("its tests did not run", said.splitlines()[-SHOWN:]))
+    return result
+
+
+def first_difference(wrote, wanted):
+    """Returns the line, from 1 on, in which two texts differ first, with what each has there."""
+    one, other = wrote.split(b"\n"), wanted.split(b"\n")
+    at = next((it for it, (a, b) in enumerate(zip(one, other)) if a != b), min(len(one), len(other)))
+    shown = [(it[at : at + 1] or [b"(its end)"])[0].decode(errors="replace")[:200] for it in (one, other)]
+    return f"line {at + 1} is {shown[0]!r} and not {shown[1]!r}"
+
+
+def of_program(wrote, said, folder):
+    """Compares what a program wrote, and the status that `rt try` says it ended with, with what is wanted."""
+    wanted, status = text_of(f"{folder}/stdout") or b"", int(text_of(f"{folder}/status") or 0)
+    ended, why = ENDED.search(said), []
+    if not ended:
+        return Result("its program", failures=[("its program did not end", said.splitlines()[-SHOWN:])])
+    if int(ended[1]) != status:
+        why.append(f"it ended with status {ended[1]} and not {status}")
+    if wrote != wanted:
+        why.append(f"what it wrote is not what its file stdout has: {first_difference(wrote, wanted)}")
+    return Result("its program", passed=int(not why), failures=[("its program", why)] if why else [])
+
+
+def tried(folder, words, given=b""):
+    """Runs `rt try` in a crate's folder, and returns the status, and what came on standard output and on standard error."""
+    ran = toolchain.start_try(words, cwd=folder, stdin=toolchain.PIPE, stdout=toolchain.PIPE, stderr=toolchain.PIPE)
+    wrote, said = ran.communicate(given)
+    return ran.returncode, wrote, said.decode(errors="replace")
+
+
+def work(folder, seconds):
+    """Runs the crate's tests and its program. Returns the results."""
+    found, limit = [], ["--seconds", str(seconds)]
+    if has_tests(folder):
+        begun = time.time()
+        status, wrote, said = tried(folder, ["--test", *limit])
+        found.append(of_tests(wrote.decode(errors="replace") + said, status))
+        found[-1].seconds = time.time() - begun
+    if is_program(folder):
+        begun = time.time()
+        data = [it for name in files_below(f"{folder}/data") for it in ("--data", f"{name}=data/{name}")]
+        words = (text_of(f"{folder}/args") or b"").decode(errors="surrogateescape").splitlines()
+        _, wrote, said = tried(folder, [*limit, *data, "--", *words], text_of(f"{folder}/stdin") or b"")
+        found.append(of_program(wrote, said, folder))
+        found[-1].seconds = time.time() - begun
+    return found
+
+
+def last_seconds(folder):
+    """Returns how long the crate took when it was last tested here, or, of one that wasn't, the number of bytes of its sources."""
+    text = text_of(f"{folder}/out/test.seconds")
+    return (0, float(text)) if text else (1, sum(os.path.getsize(f"{folder}/src/{it}") for it in files_below(f"{folder}/src")))
+
+
+def keep_seconds(folder, results):
+    os.makedirs(f"{folder}/out", exist_ok=True)
+    with open(f"{folder}/out/test.seconds", "w", encoding="utf-8") as it:
+        it.write(f"{sum(it.seconds for it in results):.1f}\n")
+
+
+def show(name, result):
+    """Prints the line of a crate's tests or of its program, and below it what failed."""
+    count = f"{result.passed} tests" if result.what == "tests" else result.what
+    if not result.failures:
+        print(f"{name}: {count} passed, {result.seconds:.0f} s", flush=True)
+        return
+    passed = f", {result.passed} passed" if result.what == "tests" else ""
+    print(f"{name}: {len(result.failures)} FAILED{passed}, {result.seconds:.0f} s")
+    for what, lines in result.failures:
+        print(f"  {name}: {what} FAILED", *(f"    {it}" for it in lines[:SHOWN]), sep="\n", flush=True)
+
+
+def run(options):
+    if not toolchain.path():
+        print(f"tools/dt test: {toolchain.LACKS}", file=sys.stderr)
+        return 2
+    every = [it for it in crates() if has_tests(f"{TOP}/crates/{it}") or is_program(f"{TOP}/crates/{it}")]
+    lacking = [it for it in options.crates if it not in every]
+    if lacking:
+        print(f"tools/dt test: {lacking[0]} is no crate with tests, and no program: {' '.join(sorted(every))}", file=sys.stderr)
+        return 2
+    toolchain.end_at_signals(lambda: print("interrupted", file=sys.stderr))
+    order = sorted(options.crates or every, key=lambda it: last_seconds(f"{TOP}/crates/{it}"), reverse=True)
+    side_by_side, begun, totals = crate_lanes.count(options.lanes), time.time(), {"passed": 0, "failed": 0, "crates": 0}
+    print(f"testing {len(order)} crates unproved, {side_by_side} at a time", flush=True)
+
+    def tell(name, results):
+        if isinstance(results, BaseException):
+            raise results
+        for it in results:
+            show(name, it)
+            totals["passed"] += it.passed
+            totals["failed"] += len(it.failures)
+        totals["crates"] += 1
+        keep_seconds(f"{TOP}/crates/{name}", results)
+
+    def still(names):
+        so_far = crate_lanes.minutes(time.time() - begun)
+        print(f"{totals['crates']} of {len(order)} crates are done, and at work are {', '.join(names)} ({so_far} so far)", flush=True)
+
+    crate_lanes.in_lanes(order, {}, side_by_side, lambda name, _: work(f"{TOP}/crates/{name}", options.seconds), tell, still)
+    print(f"nothing is proved by this; it took {crate_lanes.minutes(time.time() - begun)}")
+    print(f"{totals['passed']} passed, {totals['failed']} failed")
+    return 1 if totals["failed"] else 0

@@ -1,0 +1,326 @@
+"""Tests of the list of sources, of the release that goes with it, and of which program ./dthreads starts."""
+import os
+import shutil
+import struct
+import subprocess
+import tempfile
+import time
+import unittest
+
+from dt_commands import built_from, executable, release
+from dt_commands.repository import TOP
+
+CRATES = """# Each crate, and what it stands on.
+low: byteorder
+high: low   # the layer above
+tests: high
+command: high
+alone:
+"""
+FILES = ("low/src/lib.rt", "low/specs/Lib.antt", "high/src/lib.rt", "high/proofs/one/Proof.antt", "command/src/main.rt", "tests/src/lib.rt")
+BUILT, RELEASED = "crates/command/out/command", release.FILE
+# All that ./dthreads needs of the machine if it has a release to start.
+NEEDED = "awk bash dirname find grep readlink sed sha256sum sh sort xargs".split()
+# An ELF file with one program header, a segment of 8 bytes, and a section header behind it.
+ELF = bytearray(64 + 56 + 8 + 64)
+ELF[:6] = executable.MAGIC
+struct.pack_into("<QQ", ELF, executable.PROGRAM_HEADERS, 64, 128)
+struct.pack_into("<HHHHH", ELF, executable.COUNTS, 56, 1, 64, 1, 0)
+struct.pack_into("<QQ", ELF, 64 + 8, 120, 0)
+struct.pack_into("<Q", ELF, 64 + 32, 8)
+ELF[120:128] = b"segment."
+
+
+class Tree(unittest.TestCase):
+    """A checkout of five crates."""
+
+    def setUp(self):
+        room = tempfile.TemporaryDirectory()
+        self.addCleanup(room.cleanup)
+        self.top = f"{room.name}/top"
+        self.write("crates.txt", CRATES)
+        for file in FILES:
+            self.write(f"crates/{file}", f"//! {file}\n")
+
+    def write(self, file, text, mode=0o644):
+        os.makedirs(os.path.dirname(f"{self.top}/{file}"), exist_ok=True)
+        with open(f"{self.top}/{file}", "wb") as it:
+            it.write(text if isinstance(text, (bytes, bytearray)) else text.encode())
+        os.chmod(f"{self.top}/{file}", mode)
+
+    def listed(self):
+        return built_from.listed(self.top)
+
+
+class Lists(Tree):
+    def test_it_has_the_crates_below_the_program_and_no_others(self):
+        files = [f"crates/{it}" for it in sorted(FILES) if not it.startswith("tests")]
+        names = ["command in crates.txt", "high in crates.txt", "low in crates.txt", *files]
+        self.assertEqual(sorted(built_from.named(self.listed())), sorted(names))
+
+    def changes(self, file, text, name):
+        before = self.listed()
+        self.write(file, text)
+        self.assertEqual(built_from.differences(before, self.listed()), [name] if name else [])
+
+    def test_a_source_changes_it(self):
+        self.changes("crates/low/src/lib.rt", "//! Other.\n", "crates/low/src/lib.rt")
+
+    def test_a_specification_changes_it(self):
+        self.changes("crates/low/specs/Lib.antt", "-- Other.\n", "crates/low/specs/Lib.antt")
+
+    def test_a_proof_changes_it(self):
+        self.changes("crates/high/proofs/one/Proof.antt", "-- Other.\n", "crates/high/proofs/one/Proof.antt")
+
+    def test_a_new_file_changes_it(self):
+        self.changes("crates/high/src/more.rt", "//! More.\n", "crates/high/src/more.rt")
+
+    def test_a_line_of_crates_txt_changes_it(self):
+        self.changes("crates.txt", CRATES.replace("low: byteorder", "low: byteorder itoa"), "low in crates.txt")
+
+    def test_a_crate_of_tests_does_not_change_it(self):
+        self.changes("crates/tests/src/lib.rt", "//! Other.\n", None)
+        self.changes("crates.txt", CRATES.replace("tests: high", "tests: high low"), None)
+
+    def test_what_no_check_reads_does_not_change_it(self):
+        self.changes("crates/low/out/rlib/stamp", "1", None)
+        self.changes("crates/low/must-fail/one.edit", "file: src/lib.rt\n", None)
+        self.changes("crates/low/src/.lib.rt.swp", "1", None)
+
+    def test_the_time_of_a_file_does_not_change_it(self):
+        before = self.listed()
+        os.utime(f"{self.top}/crates/low/src/lib.rt", (1, 1))
+        self.assertEqual(self.listed(), before)
+
+    def test_sha256sum_reads_a_record(self):
+        built_from.write(f"{self.top}/list", "kit 1", self.listed())
+        words = ["sha256sum", "--check", "--strict", "--quiet", "list"]
+        self.assertEqual(subprocess.run(words, cwd=self.top).returncode, 0)
+        self.assertEqual(built_from.read(f"{self.top}/list"), ("kit 1", self.listed()))
+        self.assertIsNone(built_from.read(f"{self.top}/none"))
+
+    def test_the_repository_has_a_list(self):
+        names = built_from.named(built_from.listed(TOP))
+        self.assertIn("crates/command/src/main.rt", names)
+        self.assertIn("command in crates.txt", names)
+
+
+class Stripped(unittest.TestCase):
+    def test_the_segments_stay_and_the_sections_go(self):
+        found = executable.stripped(bytes(ELF))
+        self.assertEqual(len(found), 128)
+        self.assertEqual(found[120:], b"segment.")
+        self.assertEqual(struct.unpack_from("<Q", found, executable.SECTION_HEADERS), (0,))
+        self.assertEqual(executable.stripped(found), found)
+
+    def test_what_lies_behind_the_segments_is_no_difference(self):
+        other = ELF[:-1] + b"x"
+        self.assertEqual(executable.stripped(bytes(other)), executable.stripped(bytes(ELF)))
+
+    def test_an_executable_of_this_machine_runs_without_its_sections(self):
+        with open(shutil.which("true"), "rb") as it:
+            data = executable.stripped(it.read())
+        with tempfile.TemporaryDirectory() as room:
+            with open(f"{room}/true", "wb") as it:
+                it.write(data)
+            os.chmod(f"{room}/true", 0o755)
+            self.assertEqual(subprocess.run([f"{room}/true"]).returncode, 0)
+
+    def test_no_executable_is_refused(self):
+        self.assertRaises(ValueError, executable.stripped, b"#!/bin/sh\n")
+
+
+class Releases(Tree):
+    def build(self, data=ELF):
+        self.write(BUILT, data, 0o755)
+        built_from.write(f"{self.top}/{built_from.OF_BUILD}", "kit 1", self.listed())
+
+    def compared(self):
+        return release.comparison(self.top, "kit 1")
+
+    def make(self):
+        return release.make(self.top, "kit 1")
+
+    def setUp(self):
+        super().setUp()
+        self.addCleanup(setattr, release, "say", release.say)
+        release.say = lambda text: None
+
+    def test_there_is_none_yet(self):
+        self.build()
+        is_at_odds, text = self.compared()
+        self.assertFalse(is_at_odds)
+        self.assertIn("there is no", text)
+
+    def test_it_is_what_was_built(self):
+        self.build()
+        self.assertEqual(self.make(), 0)
+        self.assertTrue(os.access(f"{self.top}/{RELEASED}", os.X_OK))
+        self.assertEqual(self.compared(), (False, f"the program is {RELEASED}, byte for byte"))
+
+    def test_other_symbols_are_no_difference(self):
+        self.build()
+        self.make()
+        self.build(ELF[:-1] + b"x")
+        self.assertFalse(self.compared()[0])
+
+    def test_another_program_of_the_same_sources_is_refused(self):
+        self.build()
+        self.make()
+        self.build(ELF.replace(b"segment.", b"another."))
+        is_at_odds, text = self.compared()
+        self.assertTrue(is_at_odds)
+        self.assertIn("is not the program", text)
+
+    def test_a_release_of_older_sources_is_told_and_not_refused(self):
+        self.build()
+        self.make()
+        self.write("crates/low/src/lib.rt", "//! Other.\n")
+        is_at_odds, text = self.compared()
+        self.assertFalse(is_at_odds)
+        self.assertIn("other sources: crates/low/src/lib.rt", text)
+
+    def test_a_release_of_another_toolchain_is_told_and_not_refused(self):
+        self.build()
+        self.make()
+        is_at_odds, text = release.comparison(self.top, "kit 2")
+        self.assertFalse(is_at_odds)
+        self.assertIn("another toolchain: kit 1", text)
+
+    def test_half_a_release_is_refused(self):
+        self.build()
+        self.make()
+        os.remove(f"{self.top}/{RELEASED}")
+        self.assertTrue(self.compared()[0])
+        self.make()
+        os.remove(f"{self.top}/{release.RECORD}")
+        self.assertTrue(self.compared()[0])
+
+    def test_nothing_is_released_that_was_not_built_from_the_sources(self):
+        self.assertEqual(self.make(), 1)
+        self.build()
+        time.sleep(0.02)
+        self.write("crates/low/src/lib.rt", "//! Other.\n")
+        self.assertEqual(self.make(), 1)
+        self.assertFalse(os.path.exists(f"{self.top}/{RELEASED}"))
+
+    def test_what_the_gate_built_has_no_record_and_is_newer_than_the_sources(self):
+        time.sleep(0.02)
+        self.write(BUILT, ELF, 0o755)
+        self.assertEqual(self.make(), 0)
+        self.assertFalse(self.compared()[0])
+
+    def test_a_program_that_came_after_its_record_is_not_taken_for_that_build(self):
+        self.build()
+        os.utime(f"{self.top}/{built_from.OF_BUILD}", (1, 1))
+        os.utime(f"{self.top}/{BUILT}", (2, 2))
+        self.assertFalse(release.is_built(self.top))
+
+
+class Choices(Tree):
+    """Which program ./dthreads starts. The programs, rt and the build are scripts that say what they are."""
+
+    def setUp(self):
+        super().setUp()
+        self.write("tools/dt", '#!/bin/sh\necho "tools/dt $*"\n', 0o755)
+        for file in ("dthreads", "tools/list-sources"):
+            shutil.copy(f"{TOP}/{file}", f"{self.top}/{file}")
+        self.path = f"{self.top}/bin"
+        self.write("bin/rt", "#!/bin/sh\necho kit 1\n", 0o755)
+        os.mkdir(f"{self.top}/needed")
+        for it in NEEDED:
+            os.symlink(shutil.which(it), f"{self.top}/needed/{it}")
+
+    def program(self, file, record, version="kit 1"):
+        self.write(file, '#!/bin/sh\necho "PROGRAM $*"\n'.replace("PROGRAM", file), 0o755)
+        built_from.write(f"{self.top}/{record}", version, self.listed())
+
+    def build(self):
+        self.program(BUILT, built_from.OF_BUILD)
+
+    def release(self, version="kit 1"):
+        self.program(RELEASED, release.RECORD, version)
+
+    def started(self, *words, script=None, has_rt=True, folder="/"):
+        path = f"{self.path}:{self.top}/needed" if has_rt else f"{self.top}/needed"
+        how = {"stdout": subprocess.PIPE, "stderr": subprocess.PIPE, "universal_newlines": True, "env": {"PATH": path}, "cwd": folder}
+        ran = subprocess.run([script or f"{self.top}/dthreads", *words], **how)
+        self.said, self.status = ran.stderr, ran.returncode
+        return ran.stdout.strip()
+
+    def test_the_program_built_here_comes_first(self):
+        self.build()
+        self.release()
+        self.assertEqual(self.started("run", "a b"), f"{BUILT} run a b")
+        self.assertEqual(self.said, "")
+
+    def test_the_release_is_started_without_a_word(self):
+        self.release()
+        self.assertEqual(self.started("run", "x"), f"{RELEASED} run x")
+        self.assertEqual((self.said, self.status), ("", 0))
+
+    def test_a_clone_has_times_of_its_own(self):
+        self.release()
+        os.utime(f"{self.top}/crates/low/src/lib.rt")
+        self.assertEqual(self.started("run"), f"{RELEASED} run")
+
+    def test_a_changed_source_is_built(self):
+        self.build()
+        self.release()
+        self.write("crates/low/src/lib.rt", "//! Other.\n")
+        self.assertEqual(self.started("run", "x", "--trace", "-"), "tools/dt build --start --word=:run --word=:x --word=:--trace --word=:-")
+
+    def test_a_source_that_is_changed_without_its_time_is_built(self):
+        file = f"{self.top}/crates/low/src/lib.rt"
+        self.release()
+        was = os.stat(file)
+        self.write("crates/low/src/lib.rt", "//! low/src/lib.rx\n")
+        os.utime(file, ns=(was.st_atime_ns, was.st_mtime_ns))
+        self.assertEqual(self.started("run"), "tools/dt build --start --word=:run")
+
+    def test_a_source_that_is_changed_back_is_not_built(self):
+        self.release()
+        self.write("crates/low/src/lib.rt", "//! Other.\n")
+        self.write("crates/low/src/lib.rt", "//! low/src/lib.rt\n")
+        self.assertEqual(self.started("run"), f"{RELEASED} run")
+
+    def test_a_program_that_was_built_by_other_means_since_is_not_taken(self):
+        self.build()
+        os.utime(f"{self.top}/{built_from.OF_BUILD}", (1, 1))
+        self.assertEqual(self.started("run"), "tools/dt build --start --word=:run")
+
+    def test_without_a_toolchain_the_recorded_one_counts(self):
+        self.release("kit 2")
+        self.assertEqual(self.started("run", has_rt=False), f"{RELEASED} run")
+
+    def test_a_release_of_another_toolchain_is_built_anew(self):
+        self.release("kit 2")
+        self.assertEqual(self.started("run"), "tools/dt build --start --word=:run")
+
+    def test_a_release_that_does_not_run_here_is_built_anew(self):
+        self.release()
+        self.write(RELEASED, "#!/bin/sh\nexit 1\n", 0o755)
+        self.assertEqual(self.started("run"), "tools/dt build --start --word=:run")
+        self.write(RELEASED, "#!/bin/sh\nexit 0\n", 0o644)
+        self.assertEqual(self.started("run"), "tools/dt build --start --word=:run")
+
+    def test_without_a_toolchain_it_says_in_a_line_what_lacks(self):
+        self.assertEqual(self.started("run", has_rt=False), "")
+        self.assertEqual(self.status, 1)
+        self.assertEqual(len(self.said.splitlines()), 1)
+        self.assertIn("command rt of the Rattle toolchain is not on the PATH", self.said)
+
+    def test_build_is_asked_for_in_any_case(self):
+        self.build()
+        self.release()
+        self.assertEqual(self.started("--build", "--lanes", "2"), "tools/dt build --lanes 2")
+
+    def test_it_is_started_by_a_link_and_from_any_folder(self):
+        self.release()
+        os.symlink(f"{self.top}/dthreads", f"{self.top}/bin/other")
+        self.assertEqual(self.started("run", script=f"{self.top}/bin/other", folder=self.path), f"{RELEASED} run")
+        self.assertEqual(self.started("run", script="./dthreads", folder=self.top), f"{RELEASED} run")
+
+
+if __name__ == "__main__":
+    unittest.main()

@@ -1,0 +1,128 @@
+"""Tests of how `tools/dt test` reads what `rt try` says, and of what it calls a failure."""
+import os
+import sys
+import tempfile
+import unittest
+
+from dt_commands import test, toolchain
+
+SAID = """tests: 3
+test tests::beyond ... FAILED
+    checked: fault kind=index-out-of-bounds at=src/tests.rt:17:17
+    run=fault
+test tests::good ... ok
+test tests::long ... FAILED
+    checked: no-answer: the program did not end within the time limit
+test result: FAILED. 1 passed; 2 failed; 0 ignored; 0 filtered out
+run=fault proved=no
+"""
+ENDED = "checked: ended status=7\nrun=ended status=7 runners=1 races=unchecked proved=no\n"
+
+
+class Tests(unittest.TestCase):
+    def test_each_failed_test_is_named_with_what_it_said(self):
+        found = test.of_tests(SAID, 4)
+        self.assertEqual(found.passed, 1)
+        self.assertEqual([name for name, _ in found.failures], ["tests::beyond", "tests::long"])
+        self.assertIn("index-out-of-bounds", found.failures[0][1][0])
+        self.assertIn("did not end within the time limit", found.failures[1][1][0])
+
+    def test_all_pass(self):
+        found = test.of_tests("tests: 1\ntest a ... ok\nrun=ended status=0 runners=1 proved=no\n", 0)
+        self.assertEqual((found.passed, found.failures), (1, []))
+
+    def test_tests_that_do_not_compile_are_a_failure(self):
+        found = test.of_tests("src/tests.rt:16:17: error[unknown-method]: no method named `args`\nrun=none proved=no\n", 1)
+        self.assertEqual(found.passed, 0)
+        self.assertEqual(found.failures[0][0], "its tests did not run")
+        self.assertIn("unknown-method", found.failures[0][1][0])
+
+    def test_a_status_that_no_test_explains_is_a_failure(self):
+        self.assertTrue(test.of_tests("tests: 1\ntest a ... ok\n", 2).failures)
+
+
+class Programs(unittest.TestCase):
+    def setUp(self):
+        room = tempfile.TemporaryDirectory()
+        self.addCleanup(room.cleanup)
+        self.folder = room.name
+
+    def write(self, name, text):
+        os.makedirs(os.path.dirname(f"{self.folder}/{name}"), exist_ok=True)
+        with open(f"{self.folder}/{name}", "w", encoding="utf-8") as it:
+            it.write(text)
+
+    def test_output_and_status_are_the_wanted_ones(self):
+        self.write("stdout", "one\ntwo\n")
+        self.write("status", "7\n")
+        self.assertEqual(test.of_program(b"one\ntwo\n", ENDED, self.folder).failures, [])
+
+    def test_another_status_is_named(self):
+        self.write("stdout", "one\n")
+        self.assertEqual(test.of_program(b"one\n", ENDED, self.folder).failures[0][1], ["it ended with status 7 and not 0"])
+
+    def test_the_first_other_line_is_named(self):
+        self.write("stdout", "one\ntwo\n")
+        self.write("status", "7")
+        (what, why), = test.of_program(b"one\nthree\n", ENDED, self.folder).failures
+        self.assertIn("line 2 is 'three' and not 'two'", why[0])
+
+    def test_without_a_wanted_output_nothing_may_be_written(self):
+        self.write("status", "7")
+        self.assertTrue(test.of_program(b"one\n", ENDED, self.folder).failures)
+        self.assertFalse(test.of_program(b"", ENDED, self.folder).failures)
+
+    def test_a_program_that_does_not_end_is_a_failure(self):
+        said = "checked: no-answer: the program did not end within the time limit\nrun=no-answer proved=no\n"
+        self.assertIn("did not end", test.of_program(b"", said, self.folder).failures[0][0])
+
+    def test_tests_are_those_that_the_attribute_marks(self):
+        self.write("src/lib.rt", "#[cfg(test)]\nmod tests;\n// #[test]\n")
+        self.assertFalse(test.has_tests(self.folder))
+        self.write("src/tests/deep.rt", "    #[test]\n    fn one() {}\n")
+        self.assertTrue(test.has_tests(self.folder))
+
+    def test_data_is_taken_with_its_folders(self):
+        self.write("data/b/one", "")
+        self.write("data/a", "")
+        self.assertEqual(test.files_below(f"{self.folder}/data"), ["a", "b/one"])
+
+    def test_what_took_longest_comes_first_behind_what_was_never_tested(self):
+        for name, seconds in (("short", 3.0), ("long", 90.0)):
+            self.write(f"{name}/src/lib.rt", "")
+            test.keep_seconds(f"{self.folder}/{name}", [test.Result("tests", seconds=seconds)])
+        self.write("new/src/lib.rt", "//! New.\n")
+        found = sorted(["short", "new", "long"], key=lambda it: test.last_seconds(f"{self.folder}/{it}"), reverse=True)
+        self.assertEqual(found, ["new", "long", "short"])
+
+
+# A command rt that says how it was called, and what the pass over all sources would be.
+RT = """import os, sys, types
+rtlib = types.SimpleNamespace(RATTLE="rattle")
+def main(words):
+    print(*words, rtlib.RATTLE)
+if __name__ == "__main__":
+    print("itself", *sys.argv[1:])
+"""
+
+
+class Tries(unittest.TestCase):
+    def said(self, text):
+        """Returns what `rt try --test` says if the command rt is this text."""
+        with tempfile.TemporaryDirectory() as room:
+            with open(f"{room}/rt", "w", encoding="utf-8") as it:
+                it.write(text)
+            os.chmod(f"{room}/rt", 0o755)
+            how = {"env": {**os.environ, "PATH": f"{room}:{os.environ['PATH']}"}, "universal_newlines": True}
+            return toolchain.start_try(["--test"], stdout=toolchain.PIPE, **how).communicate()[0]
+
+    def test_the_pass_over_all_sources_is_left_out(self):
+        self.assertEqual(self.said(f"#!{sys.executable}\n{RT}"), "try --test true\n")
+
+    def test_a_toolchain_with_other_functions_does_it_by_itself(self):
+        self.assertEqual(self.said(f"#!{sys.executable}\n{RT.replace('def main', 'def other')}"), "itself try --test\n")
+        self.assertEqual(self.said("#!/bin/sh\necho itself $*\n"), "itself try --test\n")
+
+
+if __name__ == "__main__":
+    unittest.main()
