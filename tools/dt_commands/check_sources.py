@@ -11,19 +11,19 @@ from .repository import TOP
 
 # Fakes that tests put in the place of a reader or a writer, and the program that tells refusals by itself.
 FAKES = {
-    "crates/command_tests/src/fakes.rt",
-    "crates/alloc_failures/src/failed.rt",
-    "crates/alloc_failures/src/programs.rt",
-    "crates/alloc_failures/src/quiet.rt",
-    "crates/alloc_failures/src/worlds.rt",
+    "crates/test_command_line/src/fakes.rt",
+    "crates/test_alloc_failures/src/failed.rt",
+    "crates/test_alloc_failures/src/programs.rt",
+    "crates/test_alloc_failures/src/quiet.rt",
+    "crates/test_alloc_failures/src/worlds.rt",
 }
 
 # Lines that hand on the only error that the call before them has, an `AllocError`, or that a run which writes nothing can have.
 HANDED_ON = {
     ("crates/schedule_core/src/event_fault.rt", "EventFault::OutOfMemory"),
     ("crates/elf32_reader/src/reader.rt", "Err(_) => Err(ElfFault::OutOfMemory),"),
-    ("crates/commands/src/arguments.rt", ".map_err(|_| Failure::OutOfMemory),"),
-    ("crates/commands/src/disasm.rt", "Err(_) => Err(Failure::OutOfMemory),"),
+    ("crates/command_line/src/arguments.rt", ".map_err(|_| Failure::OutOfMemory),"),
+    ("crates/command_line/src/disasm.rt", "Err(_) => Err(Failure::OutOfMemory),"),
 }
 
 # Lines that say so where no host could have the time: a run of 2^63 turns, or of 2^62 turns and changed bytes.

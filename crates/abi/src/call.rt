@@ -1,3 +1,4 @@
+//! The calls of a guest thread with their arguments, as plain data.
 /// A call, as the registers of a hart at an ecall name it: the number stands in x17, the arguments in x10,
 /// x11 and x12. Arguments are any words: their ranges are looked at when the call is carried out.
 #[derive(Clone, Copy, Debug, PartialEq, Eq)]

@@ -1,3 +1,4 @@
+//! The kinds of calls: the number and the name of each, and the kind of a number. Takes no memory.
 ghost use Rattle.std.specs.Prelude.{◌≡◌, Some};
 ghost use Rattle.abi.specs.Calls.{number_of, name_of, kind_of};
 

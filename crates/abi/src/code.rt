@@ -1,3 +1,4 @@
+//! The codes that a call answers, and their numbers. Takes no memory.
 ghost use Rattle.std.specs.Prelude.{◌≡◌};
 ghost use Rattle.abi.specs.Codes.{number_of};
 

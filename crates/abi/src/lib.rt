@@ -1,5 +1,4 @@
-//! What a guest thread can ask for: the calls of the call table, the codes that they answer and the
-//! limits that they keep. Plain data, which the crates that carry the calls out share.
+//! What a guest thread can ask for, as plain data: calls, codes, replies and limits.
 #![tactic(auto)]
 
 pub mod call;

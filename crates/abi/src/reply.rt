@@ -1,3 +1,4 @@
+//! What a call comes to: a code with its value, a wait, or an end. Plain data.
 use crate::code::Code;
 
 /// What a call comes to for the thread that makes it.

@@ -1,3 +1,4 @@
+//! The state of a run between two turns: memory, threads, objects, input and output. Changed by a commit, a call or a wake alone.
 ghost use Rattle.std.specs.Prelude.{◌≡◌, true};
 ghost use Rattle.call_table.specs.Waiting.{are_parked};
 

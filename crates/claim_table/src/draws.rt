@@ -1,3 +1,4 @@
+//! The two shared words of a phase: draws are counted in one, the least noted number is kept in the other. Touches them by single atomic steps, and never waits.
 ghost use Rattle.std.specs.Prelude.{◌≡◌, ℕ, ◌+◌, ◌<◌, ◌≤◌, [], ◌++◌, ◌∷◌, All, map, length, IfOk, OnOk, IfSome, IfNone, OnSome};
 ghost use Rattle.std.specs.List.{range_with_len};
 ghost use Rattle.claim_table.specs.Logs.{tally, IsSame, NotesDrawn};

@@ -1,4 +1,4 @@
-//! The numbers of jobs, drawn by many host threads at once without a lock, each number by one of them.
+//! The numbers of jobs, which several host threads draw without a lock, each number once.
 //!
 //! [`Draws`] has two words that change in single atomic steps. Word 0 counts draws, word 1 is the least number
 //! that was noted. Each thread has a [`DrawSeat`], by which it draws, notes and looks, and which keeps what it did.

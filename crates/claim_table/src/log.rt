@@ -1,3 +1,4 @@
+//! What some seats have done, as the ghost view of the shared words keeps it.
 use std::collections::LinkedList;
 
 /// What some seats have done, of which proofs alone speak: no value of it is made.

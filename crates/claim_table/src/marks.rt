@@ -1,3 +1,4 @@
+//! A set of job numbers in a fixed array. Takes memory only when it is listed.
 ghost use Rattle.std.specs.Prelude.{◌≡◌, ◌<◌, true, false, replicate, slice_set, IfOk, OnOk, ◌++◌, ◌∷◌, [], if◌then◌else◌};
 ghost use Rattle.claim_table.specs.Seat.{members};
 

@@ -1,3 +1,4 @@
+//! The rule of the two words: which steps a seat may take on them, and what holds between any two steps.
 use crate::size::Size;
 use crate::view::View;
 use atomic_table::{Join, Play, Split, TableRule};

@@ -1,3 +1,4 @@
+//! A thread's seat at the draws, and the log that it keeps in fixed arrays.
 ghost use Rattle.std.specs.Prelude.{◌≡◌, ◌<◌, ◌++◌, ◌∷◌, [], true, false, IfOk, length};
 
 use crate::marks::{JOBS, Marks};

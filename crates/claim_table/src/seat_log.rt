@@ -1,3 +1,4 @@
+//! The log of one seat after all seats are gathered.
 ghost use Rattle.std.specs.Prelude.{◌≡◌};
 
 use std::marker::Model;

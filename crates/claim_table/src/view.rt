@@ -1,3 +1,4 @@
+//! What a seat of the shared words knows: the size and its own log. Ghost data alone.
 use crate::log::Log;
 use crate::size::Size;
 

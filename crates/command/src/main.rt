@@ -1,8 +1,8 @@
-//! The program: the commands on the host's files and streams.
+//! The program dthreads: its `main` hands the host's files and streams to `command_line`.
 #![tactic(auto)]
 
-use commands::{arguments_of, conclude, perform};
-use files::HostFiles;
+use command_line::{arguments_of, conclude, perform};
+use output_files::HostFiles;
 use runtime::WriteSink;
 use std::process::ExitCode;
 

@@ -1,3 +1,4 @@
+//! One changed page of a patch, and its merge into a snapshot.
 ghost use Rattle.std.specs.Prelude.{◌≡◌, ◌^◌, ◌<◌, [], ◌∷◌, ◌++◌, length, IfOk, OnOk, OnErr};
 ghost use Rattle.std.specs.Arc.{arc_value};
 ghost use Rattle.guest_memory.specs.Layout.{page_size};

@@ -1,3 +1,4 @@
+//! What a look at two pages found: how many bytes differ, and the last group in which some do.
 ghost use Rattle.std.specs.Prelude.{◌+◌, ◌≤◌};
 ghost use Rattle.guest_memory.specs.Layout.{page_size};
 

@@ -1,3 +1,4 @@
+//! A group of 128 bytes of a page, kept in place of a page if all changes lie in it.
 ghost use Rattle.std.specs.Prelude.{◌≡◌, ◌+◌, ◌≤◌, ◌^◌, ◌++◌, OnOk, length};
 ghost use Rattle.guest_memory.specs.Layout.{page_size};
 ghost use Rattle.std.specs.Simd.Lanes.{chunk};

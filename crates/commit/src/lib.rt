@@ -1,5 +1,4 @@
-//! The commit of a thread's private memory: which bytes it changed, and how they are merged into the
-//! shared memory.
+//! What a view changed, as a patch, and its byte-wise merge into a snapshot.
 #![tactic(auto)]
 
 mod changed_page;

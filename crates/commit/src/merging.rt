@@ -1,3 +1,4 @@
+//! The commit: a patch is merged into a snapshot, byte by byte. If memory runs out, the snapshot keeps its pages.
 ghost use Rattle.std.specs.Prelude.{◌≡◌, OnOk, OnErr};
 ghost use Rattle.commit.specs.Merge.{with_changes};
 ghost use Rattle.paged_memory.specs.Snapshot.{cells_of, pages_of};

@@ -1,3 +1,4 @@
+//! How a thread left a page that it changed: one group of bytes, or the whole page.
 use crate::group::Group;
 use paged_memory::Page;
 use std::sync::Arc;

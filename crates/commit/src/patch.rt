@@ -1,3 +1,4 @@
+//! The patch of a view: the bytes in which it differs from its base.
 ghost use Rattle.std.specs.Prelude.{◌≡◌, length, IfOk};
 ghost use Rattle.std.specs.Coded.{coded_ℕ};
 ghost use Rattle.std.specs.FinMap as maps;

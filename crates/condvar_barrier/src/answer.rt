@@ -1,3 +1,4 @@
+//! What an operation on an object answers: the reply to the caller, and who is let go.
 use abi::Reply;
 
 /// What a call comes to that can let other threads go.

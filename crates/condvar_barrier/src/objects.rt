@@ -1,3 +1,4 @@
+//! The mutexes, condition variables and barriers of a run: who holds what, and who waits where. Takes no memory.
 ghost use Rattle.std.specs.Prelude.{◌≡◌, ◌<◌, None, [], map};
 ghost use Rattle.std.specs.List.{list_any};
 ghost use Rattle.abi.specs.Limits as limit;

@@ -1,3 +1,4 @@
+//! Where a thread waits: at a condition variable, or at a barrier.
 /// What a thread waits at.
 #[derive(Clone, Copy, Debug, PartialEq, Eq)]
 pub enum Place {

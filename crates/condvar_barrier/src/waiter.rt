@@ -1,3 +1,4 @@
+//! A thread in the list of those that wait.
 ghost use Rattle.std.specs.Prelude.{◌≡◌};
 ghost use Rattle.condvar_barrier.specs.Objects.{queued_at, arrived_at, names_another};
 

@@ -1,3 +1,4 @@
+//! A thread that a signal lets go, with the mutex that it takes.
 /// A thread that a signal or a broadcast woke, and the mutex that its next turn takes.
 #[derive(Clone, Copy, Debug, Default, PartialEq, Eq)]
 pub struct Woken {

@@ -1,3 +1,4 @@
+//! A field of an instruction word: a number below a power of two, kept by type.
 ghost use Rattle.std.specs.Prelude.{◌≡◌, ℕ, ◌^◌, ◌<◌};
 
 use std::marker::Model;

@@ -1,3 +1,4 @@
+//! The 48 instructions of RV32IM as one flat enum, each with its fields.
 use crate::encoding::encode;
 use crate::field::{FenceField, ShiftAmount};
 use crate::register::Register;

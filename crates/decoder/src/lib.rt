@@ -1,5 +1,4 @@
-//! Instruction words of RV32IM, both ways: [`decode`] answers the instruction of a word, [`encode`] the word
-//! of an instruction.
+//! Instruction words of RV32IM, both ways: [`decode`] gives the instruction of a word, [`encode`] the word of an instruction.
 //!
 //! RV32IM is the base RV32I with the extension M for multiplication and division, in the RISC-V Unprivileged
 //! ISA, document version 20191213. It has 48 instructions, and [`Instr`] has a case for each. What both

@@ -1,3 +1,4 @@
+//! The number of a register, 0 to 31, kept by type.
 ghost use Rattle.std.specs.Prelude.{◌≡◌, ℕ, ◌<◌};
 
 use std::marker::Model;

@@ -1,3 +1,4 @@
+//! An immediate, sign-extended to a word, whose range and step are kept by type.
 ghost use Rattle.std.specs.Prelude.{◌≡◌, ℕ, ◌%◌};
 ghost use Rattle.decoder.specs.Word.{IsSignExtended};
 

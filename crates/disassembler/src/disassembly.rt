@@ -1,3 +1,4 @@
+//! The text of an instruction word, and the law that distinct words at one address have distinct texts.
 ghost use Rattle.std.specs.Prelude.{◌≡◌, ℕ, ◌^◌, ◌<◌, ◌++◌, IfOk, OnOk};
 ghost use Rattle.std.specs.String.{string_bytes};
 ghost use Rattle.disassembler.specs.Texts.{text_from, text_of};

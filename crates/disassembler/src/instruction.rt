@@ -1,3 +1,4 @@
+//! The text of an instruction: its name and its operands.
 ghost use Rattle.std.specs.Prelude.{◌≡◌, [], ◌∷◌, ◌++◌, OnOk};
 ghost use Rattle.std.specs.String.{string_bytes};
 ghost use Rattle.disassembler.specs.Instructions.{instruction_text};

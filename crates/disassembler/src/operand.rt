@@ -1,3 +1,4 @@
+//! The operands of an instruction and the text of each.
 ghost use Rattle.std.specs.Prelude.{◌≡◌, ◌++◌, OnOk, decimal};
 ghost use Rattle.std.specs.String.{string_bytes};
 ghost use Rattle.disassembler.specs.Operands.{operand_text, register_text, signed_text};

@@ -1,3 +1,4 @@
+//! The listing of an image: a line for each word of its executable segments.
 ghost use Rattle.std.specs.Prelude.{◌≡◌, ◌+◌, ◌≤◌, ◌++◌, length, IfOk, OnOk};
 ghost use Rattle.std.specs.String.{string_bytes};
 ghost use Rattle.disassembler.specs.Listings.{word_from, word_line, has_word, segment_listing, listing_of};

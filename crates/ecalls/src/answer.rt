@@ -1,3 +1,4 @@
+//! How a completed call is put into a hart's registers. Touches x10, x11 and pc alone.
 ghost use Rattle.std.specs.Prelude.{◌≡◌};
 ghost use Rattle.ecalls.specs.Answer.{finished};
 

@@ -1,3 +1,4 @@
+//! Which call a hart's registers name. Reads the hart alone.
 ghost use Rattle.std.specs.Prelude.{◌≡◌};
 ghost use Rattle.ecalls.specs.Request as spec;
 

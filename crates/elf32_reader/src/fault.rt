@@ -1,3 +1,4 @@
+//! The refusals of a file, with their numbers and names.
 ghost use Rattle.std.specs.Prelude.{◌≡◌};
 ghost use Rattle.elf32_reader.specs.Faults.{number_of, name_of};
 

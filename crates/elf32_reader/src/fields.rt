@@ -1,3 +1,4 @@
+//! Little-endian fields of a file, read at an offset.
 ghost use Rattle.std.specs.Prelude.{◌≡◌, ◌+◌, ◌≤◌, length};
 ghost use Rattle.elf32_reader.specs.Fields.{half_at, word_at};
 

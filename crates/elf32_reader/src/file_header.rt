@@ -1,3 +1,4 @@
+//! The ELF header (System V ABI, ELF-32): its fields, and what it must have.
 ghost use Rattle.std.specs.Prelude.{◌≡◌, ◌≤◌, ◌+◌, ◌*◌, ◌<◌, length, OnOk, IfOk};
 ghost use Rattle.elf32_reader.specs.Format.{header_size, program_header_size, segment_limit};
 ghost use Rattle.elf32_reader.specs.Fields.{file_header, program_header, HasTable};

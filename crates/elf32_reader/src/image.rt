@@ -1,3 +1,4 @@
+//! The image of a program: its entry and its segments, none of which a refusal speaks against.
 ghost use Rattle.std.specs.Prelude.{◌≡◌, List};
 ghost use Rattle.elf32_reader.specs.LoadImage.{LoadImage, IsSound};
 

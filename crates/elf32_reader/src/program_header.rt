@@ -1,3 +1,4 @@
+//! The program headers (System V ABI, ELF-32): their fields, and what each must have.
 ghost use Rattle.std.specs.Prelude.{◌≡◌, ◌+◌, ◌-◌, ◌<◌, ◌≤◌, length, IsTrue, IfOk};
 ghost use Rattle.elf32_reader.specs.Format.{program_header_size};
 ghost use Rattle.guest_memory.specs.Layout.{page_of, image_end};

@@ -1,3 +1,4 @@
+//! Reads a file: tests every header first, then copies the bytes of the segments.
 ghost use Rattle.std.specs.Prelude.{◌≡◌, ◌≢◌, ◌≤◌, Some, None, IfOk, IfErr};
 ghost use Rattle.elf32_reader.specs.Format.{segment_limit};
 ghost use Rattle.elf32_reader.specs.Fields.{file_header, HasTable};

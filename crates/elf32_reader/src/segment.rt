@@ -1,3 +1,4 @@
+//! A loadable segment of an image: address, permissions, bytes and size in memory.
 ghost use Rattle.std.specs.Prelude.{◌≡◌, ◌<◌, length};
 ghost use Rattle.elf32_reader.specs.LoadSegment.{LoadSegment, IsLoadable};
 

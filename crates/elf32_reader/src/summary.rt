@@ -1,3 +1,4 @@
+//! What is kept of the segments looked at so far: their last page, their pages, and whether the entry's page is executable.
 ghost use Rattle.std.specs.Prelude.{◌≡◌, ℕ, ◌+◌, ◌<◌, ◌≤◌, ◌^◌, List};
 ghost use Rattle.guest_memory.specs.Layout.{image_end};
 ghost use Rattle.elf32_reader.specs.LoadImage.{LoadImage};

@@ -1,3 +1,4 @@
+//! The refusals of an access, as the machine sees them and as the host adds out of memory.
 use std::alloc::AllocError;
 
 /// Why a memory refuses an access.

@@ -1,5 +1,4 @@
-//! The memory of a guest program: where its parts lie, what a page permits, what a memory is, and
-//! the trait of everything that a hart can load from, store to and fetch from.
+//! What a guest's memory is: its layout, its permissions, and the trait of everything that a hart can load from and store to.
 #![tactic(auto)]
 
 pub mod access;

@@ -1,3 +1,4 @@
+//! What a page permits: loads, stores and fetches.
 /// What a page permits. Any mix is possible; an image never has a page that is both writable and
 /// executable.
 #[derive(Clone, Copy, Debug, PartialEq, Eq)]

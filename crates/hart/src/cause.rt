@@ -1,3 +1,4 @@
+//! Why an instruction traps, and the number of each cause.
 ghost use Rattle.std.specs.Prelude.{◌≡◌};
 ghost use Rattle.hart.specs.Cause.{number_of};
 

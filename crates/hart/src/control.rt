@@ -1,3 +1,4 @@
+//! Jumps and branches, as methods of a hart.
 ghost use Rattle.std.specs.Prelude.{◌≡◌, ◌%◌};
 ghost use Rattle.guest_memory.specs.Memory.{Memory};
 ghost use Rattle.hart.specs.HartState.{with_pc};

@@ -1,3 +1,4 @@
+//! How an instruction goes on: at an address, into a call or a trap, or out of memory.
 ghost use Rattle.std.specs.Prelude.{◌≡◌, ◌+◌, ◌%◌, ◌^◌};
 
 use crate::cause::Cause;

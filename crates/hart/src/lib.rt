@@ -1,5 +1,4 @@
-//! A hart of RV32IM: its registers and pc, one instruction, and a segment of instructions up to a stop,
-//! over any memory (RISC-V Unprivileged ISA, document version 20191213, chapters 2 and 7).
+//! A hart of RV32IM: its registers and pc, one instruction, and a segment up to a stop, over any guest memory.
 #![tactic(auto)]
 
 mod arithmetic;

@@ -1,3 +1,4 @@
+//! One instruction of a hart, from fetch to the next pc.
 ghost use Rattle.std.specs.Prelude.{◌≡◌, ℕ};
 ghost use Rattle.hart.specs.Next.{next};
 ghost use Rattle.hart.specs.Stored.{next_store, IsOutOfMemory, StoresWhere};

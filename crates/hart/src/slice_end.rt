@@ -1,3 +1,4 @@
+//! How a slice of a segment ends: at a stop, or with instructions left.
 use crate::stop::Stop;
 
 /// Where a slice of a segment ends.

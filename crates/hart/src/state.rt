@@ -1,3 +1,4 @@
+//! A hart: 32 registers and pc. x0 stays 0, and pc a multiple of 4.
 ghost use Rattle.std.specs.Prelude.{◌≡◌, ◌<◌, ◌%◌};
 ghost use Rattle.hart.specs.HartState.{HartState, register, with_register, started_registers, IsHart};
 

@@ -1,3 +1,4 @@
+//! What one instruction comes to: the next, a call, a trap, or out of memory.
 use crate::trap::Trap;
 use std::alloc::AllocError;
 

@@ -1,3 +1,4 @@
+//! Why a segment stops: bound, quantum, trap or call.
 use crate::trap::Trap;
 
 /// Why a segment of instructions stops.

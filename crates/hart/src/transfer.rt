@@ -7,7 +7,7 @@ ghost use Rattle.guest_memory.specs.Stores.{Stores, IsOutOfMemory as IsRefused};
 ghost use Rattle.guest_memory.specs.declared.fault.AccessFault.{AccessFault as Fault};
 ghost use Rattle.hart.specs.Arithmetic.{sign_extended};
 ghost use Rattle.hart.specs.Next.{loads, stores, viewed};
-ghost use Rattle.code.specs.Closed.{Kept};
+ghost use Rattle.decoded_code.specs.Closed.{Kept};
 ghost use Rattle.hart.specs.HartState.{with_pc};
 ghost use Rattle.hart.specs.Flows.{Flows, IsOutOfMemory};
 

@@ -1,3 +1,4 @@
+//! A trap: its cause and its value.
 use crate::cause::Cause;
 
 /// A trap. The instruction that traps changes nothing and isn't counted.

@@ -1,3 +1,4 @@
+//! The changes of one page in a tree: a page put or taken away, bytes written.
 ghost use Rattle.std.specs.Prelude.{◌≡◌, ◌+◌, ◌≤◌, length, option_map, OnOk, OnErr};
 ghost use Rattle.std.specs.Arc.{arc_value};
 ghost use Rattle.guest_memory.specs.Layout.{page_size};

@@ -1,3 +1,4 @@
+//! The levels of a page tree, and what a change does to one.
 ghost use Rattle.std.specs.Prelude.{◌≡◌, ◌<◌, ℕ, Bool, Option, if◌then◌else◌, option_map, OnOk, OnErr};
 ghost use Rattle.std.specs.Arc.{arc_value};
 ghost use Rattle.paged_memory.specs.Page.{PageValue};

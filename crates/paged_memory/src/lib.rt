@@ -1,4 +1,4 @@
-//! Guest memory in pages.
+//! Guest memory in pages: a whole memory, and snapshots that share copy-on-write pages and keep decoded code.
 #![tactic(auto)]
 
 pub mod access;

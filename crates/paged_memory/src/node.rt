@@ -1,3 +1,4 @@
+//! A node of a page tree: 32 shared children. A change copies the nodes that others share.
 ghost use Rattle.std.specs.Prelude.{◌≡◌, ◌/◌, ◌==◌, ◌&&◌, ℕ, if◌then◌else◌, None, OnOk, OnErr, length, slice_index_or};
 ghost use Rattle.std.specs.Arc.{arc_value};
 ghost use Rattle.paged_memory.specs.PageTable.{pages_of_entry, pages_of_node};

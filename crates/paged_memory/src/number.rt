@@ -1,3 +1,4 @@
+//! A number of 1, 2 or 4 bytes, as it is stored.
 ghost use Rattle.std.specs.Prelude.{◌≡◌};
 
 /// A number of 1, 2 or 4 bytes, as it is stored.

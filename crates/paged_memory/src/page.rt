@@ -1,3 +1,4 @@
+//! A page: 4096 bytes and a permission.
 ghost use Rattle.std.specs.Prelude.{◌≡◌, ◌+◌, ◌-◌, ◌*◌, ◌<◌, ◌≤◌, ℕ, length, slice_index, if◌then◌else◌};
 ghost use Rattle.guest_memory.specs.Layout.{page_size};
 ghost use Rattle.elf32_reader.specs.LoadSegment.{LoadSegment, first_page, last_page, cell_at};

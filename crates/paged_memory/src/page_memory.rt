@@ -1,3 +1,4 @@
+//! Loads and stores over anything that has pages.
 ghost use Rattle.std.specs.Prelude.{◌≡◌, ◌+◌, ◌^◌, ◌%◌, ◌<◌, ◌≤◌, ℕ, Option, IsSome, IsErr, OnOk, OnErr, option_map};
 ghost use Rattle.guest_memory.specs.Layout.{page_of, page_size};
 ghost use Rattle.paged_memory.specs.Number.{width_of, value_of};

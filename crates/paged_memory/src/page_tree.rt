@@ -1,3 +1,4 @@
+//! A tree of shared pages, four levels deep. Clones share it whole.
 ghost use Rattle.std.specs.Prelude.{◌≡◌, ◌^◌, ◌<◌, None, IfOk, OnOk, OnErr, option_map};
 ghost use Rattle.std.specs.Arc.{arc_value};
 

@@ -1,3 +1,4 @@
+//! What the workers of a phase taken in order share with the taker of turns.
 ghost use Rattle.std.specs.Prelude.{◌≡◌, ◌<◌, length, IfOk};
 ghost use Rattle.paged_memory.specs.Snapshot.{cells_of};
 ghost use Rattle.phase_jobs.specs.Job.{IsRanOf};
@@ -8,8 +9,7 @@ use crate::message::{Message, PhaseName};
 use crate::phase::Phase;
 use claim_table::DrawSeat;
 use crossbeam_channel::Receiver;
-use gate::Gate;
-use phase_jobs::{Outcome, Ran};
+use phase_jobs::{Gate, Outcome, Ran};
 use std::alloc::AllocError;
 use std::sync::Wait;
 

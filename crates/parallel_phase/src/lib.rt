@@ -1,5 +1,4 @@
-//! The jobs of a phase, run by several host threads: each job drawn by one of them, its segment run on the phase's
-//! memory, and skipped only where a lower job ends the run.
+//! Whole phases run by several host threads: all outcomes at the end, or turns taken in order beside later jobs.
 //!
 //! [`run_phase`] runs all jobs of a phase, and [`run_in_order`] lets a taker take their turns in order meanwhile. A
 //! caller with threads of its own opens a [`Phase`] and lets each of them work.
@@ -19,10 +18,9 @@ mod whole_phase;
 mod work_done;
 
 pub use claim_table::DrawSeat;
-pub use gate::{Gate, OpenGate};
 pub use in_order::run_in_order;
 pub use phase::Phase;
-pub use phase_jobs::{Drawn, Job, JobEnd, Outcome, Ran};
+pub use phase_jobs::{Drawn, Gate, Job, JobEnd, OpenGate, Outcome, Ran};
 pub use taker_stage::TakerStage;
 pub use turn_taker::TurnTaker;
 pub use whole_phase::run_phase;

@@ -1,3 +1,4 @@
+//! A job's result as a worker sends it, with the fact whose result it is.
 ghost use Rattle.std.specs.Prelude.{◌≡◌, List};
 ghost use Rattle.guest_memory.specs.Memory.{Memory};
 ghost use Rattle.phase_jobs.specs.declared.job.Job.{Job};

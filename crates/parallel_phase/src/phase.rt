@@ -11,9 +11,8 @@ ghost use Rattle.parallel_phase.specs.Work.{Works, AreOver, IsUnbegun, IsWorkOf}
 
 use crate::work_done::WorkDone;
 use claim_table::DrawSeat;
-use gate::Gate;
 use paged_memory::Snapshot;
-use phase_jobs::{Drawn, Job, SharedJobs, Stage};
+use phase_jobs::{Drawn, Gate, Job, SharedJobs, Stage};
 use std::alloc::{AllocError, Global};
 use std::marker::Model;
 

@@ -8,7 +8,7 @@ use crate::message::{Message, PhaseName};
 use crate::phase::Phase;
 use claim_table::DrawSeat;
 use crossbeam_channel::Sender;
-use gate::Gate;
+use phase_jobs::Gate;
 use std::sync::Wait;
 use std::thread::{Threads, join_mut};
 

@@ -1,3 +1,4 @@
+//! How far a taker of turns has come.
 /// How far a taker of turns is.
 #[derive(Clone, Copy, Debug, PartialEq, Eq)]
 pub enum TakerStage {

@@ -1,3 +1,4 @@
+//! The trait of what takes the results of a phase in order.
 ghost use Rattle.std.specs.Prelude.{◌≡◌, ◌<◌, ◌+◌, List};
 ghost use Rattle.guest_memory.specs.Memory.{Memory};
 ghost use Rattle.phase_jobs.specs.declared.job.Job.{Job};

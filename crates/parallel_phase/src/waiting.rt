@@ -1,3 +1,4 @@
+//! Waits for the result of a job. Blocks on the channel of results.
 ghost use Rattle.std.specs.Prelude.{◌≡◌, ◌<◌, length, IfSome};
 ghost use Rattle.paged_memory.specs.Snapshot.{cells_of};
 ghost use Rattle.phase_jobs.specs.Job.{IsRanOf};

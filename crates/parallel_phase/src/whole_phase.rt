@@ -12,9 +12,8 @@ ghost use denote.Param.Send.{IsSync};
 use crate::phase::Phase;
 use crate::work_done::WorkDone;
 use claim_table::DrawSeat;
-use gate::Gate;
 use paged_memory::Snapshot;
-use phase_jobs::{Job, Outcome};
+use phase_jobs::{Gate, Job, Outcome};
 use std::alloc::{AllocError, Global};
 use std::thread::{Threads, join_mut};
 

@@ -1,3 +1,4 @@
+//! What a seat of a phase has done: its jobs and what became of each.
 ghost use Rattle.std.specs.Prelude.{◌≡◌, [], false, IfOk, OnOk};
 ghost use Rattle.claim_table.specs.Logs.{new_log};
 ghost use Rattle.parallel_phase.specs.Outcomes.{IsWhole};

@@ -4,7 +4,7 @@ use Rattle.std.specs.Prelude.{slice_index, option_map}
 use Rattle.std.specs.Option.{option_or}
 use Rattle.guest_memory.specs.Layout.{page_of}
 use Rattle.guest_memory.specs.Memory.{Cell}
-use Rattle.code.specs.Closed.{IsClosed, Kept}
+use Rattle.decoded_code.specs.Closed.{IsClosed, Kept}
 use Rattle.paged_memory.specs.Page.{PageValue}
 use Rattle.paged_memory.specs.PageMap.{PageMap, memory_of_pages}
 use Rattle.twins.specs.PrivatePages.{private_at}

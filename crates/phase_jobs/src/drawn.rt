@@ -1,3 +1,4 @@
+//! A drawn job: its number, and what became of it.
 use crate::outcome::Outcome;
 
 /// A job that was drawn, and what became of it.

@@ -1,3 +1,4 @@
+//! A job: a hart with its limits.
 use hart::Hart;
 
 /// A segment that is to be run on the memory of its phase.

@@ -1,3 +1,4 @@
+//! The end of a job: hart, stop, count and patch.
 ghost use Rattle.std.specs.Prelude.{◌≡◌};
 ghost use Rattle.schedule.specs.Verdict as verdict;
 

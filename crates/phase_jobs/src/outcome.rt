@@ -1,3 +1,4 @@
+//! What became of a job: ran, or skipped.
 ghost use Rattle.std.specs.Prelude.{◌≡◌};
 ghost use Rattle.phase_jobs.specs.Outcome.{ends};
 

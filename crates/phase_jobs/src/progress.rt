@@ -1,3 +1,4 @@
+//! How far a slice brought a job: it goes on, or it is over.
 use crate::job_end::JobEnd;
 use crate::underway::Underway;
 

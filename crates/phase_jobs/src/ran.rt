@@ -1,3 +1,4 @@
+//! A job that was run, with the end of its segment.
 ghost use Rattle.std.specs.Prelude.{◌≡◌};
 ghost use Rattle.paged_memory.specs.Snapshot.{cells_of};
 ghost use Rattle.phase_jobs.specs.Job.{IsJobEnd};

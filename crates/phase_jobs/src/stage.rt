@@ -1,3 +1,4 @@
+//! What became of a drawn job after a slice.
 use crate::drawn::Drawn;
 use crate::taken::Taken;
 

@@ -1,3 +1,4 @@
+//! A job under way, with its number.
 use crate::underway::Underway;
 
 /// A job that was drawn and goes on.

@@ -1,3 +1,4 @@
+//! A segment under way: its hart and its view, gone on with by slices.
 ghost use Rattle.std.specs.Prelude.{◌<◌, IfOk};
 ghost use Rattle.hart.specs.Slice.{IsThere};
 ghost use Rattle.paged_memory.specs.Snapshot.{cells_of};

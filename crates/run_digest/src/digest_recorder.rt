@@ -1,3 +1,4 @@
+//! A recorder that hashes the trace as turns are done.
 ghost use Rattle.std.specs.Prelude.{◌≡◌, List, [], None, IfOk, OnOk};
 ghost use Rattle.std.specs.String.{string_bytes};
 ghost use Rattle.paged_memory.specs.Snapshot.{cells_of};

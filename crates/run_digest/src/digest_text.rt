@@ -1,3 +1,4 @@
+//! The four lines of a digest.
 ghost use Rattle.std.specs.Prelude.{◌≡◌, ◌++◌, OnOk};
 ghost use Rattle.std.specs.String.{string_bytes};
 ghost use Rattle.run_digest.specs.Texts.{digest_lines, hash_text, outcome_text, place_text, trap_text};

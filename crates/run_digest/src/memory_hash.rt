@@ -1,3 +1,4 @@
+//! The SHA-256 of a memory's mapped pages, ascending.
 ghost use Rattle.std.specs.Prelude.{◌≡◌, ℕ, ◌+◌, ◌^◌, ◌<◌, ◌++◌, List, length, IfOk, OnOk};
 ghost use Rattle.paged_memory.specs.Snapshot.{cells_of};
 ghost use Rattle.run_digest.specs.Memories.{memory_message, page_message, permission_number};

@@ -1,3 +1,4 @@
+//! The sink of a run without one: takes every byte and never fails.
 use crate::sink::{Sink, SinkFault};
 
 /// The sink that takes all, tells nothing and never fails.

@@ -1,3 +1,4 @@
+//! The configuration of a run: bound, quantum and workers, and whether each is in range.
 ghost use Rattle.std.specs.Prelude.{◌≡◌};
 ghost use Rattle.runtime.specs.Span as spec;
 

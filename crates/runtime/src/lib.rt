@@ -20,8 +20,8 @@ mod turns;
 mod write_sink;
 
 pub use config::Config;
-pub use gate::{Gate, OpenGate};
 pub use limits::{MAX_BOUND, MAX_INPUT, MAX_WORKERS};
+pub use phase_jobs::{Gate, OpenGate};
 pub use recorded_run::RecordedRun;
 pub use recording::{open_run, run_opened, run_recorded};
 pub use report::Report;

@@ -1,3 +1,4 @@
+//! Opens a run: looks at the configuration, the input's size and the file, in this order.
 ghost use Rattle.runtime.specs.Run.{Opens};
 
 use crate::config::Config;

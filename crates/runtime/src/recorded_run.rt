@@ -1,3 +1,4 @@
+//! A run that has ended, with its caller's recorder.
 use crate::run_end::RunEnd;
 use crate::run_fault::RunFault;
 

@@ -14,7 +14,7 @@ use crate::reporting::end_of;
 use crate::run_fault::RunFault;
 use crate::sink::Sink;
 use crate::turns::take_turns;
-use gate::Gate;
+use phase_jobs::Gate;
 use std::alloc::Global;
 use std::marker::Brand;
 use std::sync::Wait;

@@ -1,3 +1,4 @@
+//! What a run answers: outcome, output, memory, trace and sharing.
 use paged_memory::Snapshot;
 use sharing_report::PageRow;
 use token::{RunOutcome, Turn};

@@ -1,3 +1,4 @@
+//! Makes the report of a run that has ended.
 ghost use Rattle.std.specs.Prelude.{◌≡◌, Some, IfOk, IfErr};
 ghost use Rattle.token.specs.Kept.{Keeps};
 ghost use Rattle.token.specs.Law.{Determinism, Progress};

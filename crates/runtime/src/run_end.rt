@@ -1,3 +1,4 @@
+//! The end of a run: outcome, output and memory.
 use paged_memory::Snapshot;
 use token::RunOutcome;
 

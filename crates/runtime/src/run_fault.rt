@@ -1,3 +1,4 @@
+//! The failures of a run, with their numbers.
 use elf32_reader::ElfFault;
 use std::alloc::AllocError;
 use thiserror::Error;

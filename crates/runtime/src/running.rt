@@ -1,3 +1,4 @@
+//! The calls `run` and `run_into`: a file and its input go in, the report comes out.
 ghost use Rattle.std.specs.Prelude.{◌≢◌, ◌-◌, ◌^◌, ◌<◌, IfErr};
 ghost use Rattle.runtime.specs.Run.{Answers, setup_from};
 ghost use Rattle.runtime.specs.Sending.{CountsFailures, Sends};
@@ -10,7 +11,7 @@ use crate::report::Report;
 use crate::reporting::report;
 use crate::run_fault::RunFault;
 use crate::sink::Sink;
-use gate::Gate;
+use phase_jobs::Gate;
 use std::alloc::Global;
 use std::sync::Wait;
 use std::thread::Threads;

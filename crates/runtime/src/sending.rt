@@ -1,3 +1,4 @@
+//! Sends bytes to a sink until all are taken.
 ghost use Rattle.std.specs.Prelude.{◌≡◌, ◌+◌, ◌-◌, ◌^◌, ◌<◌, OnOk, OnErr};
 ghost use Rattle.std.specs.Io.KnownBytes.{Appends};
 ghost use Rattle.runtime.specs.Sending.{AppendsPrefix};

@@ -3,7 +3,7 @@
 use crate::{
     Config, MAX_BOUND, OpenGate, RunFault, RunOutcome, Sink, SinkFault, WriteSink, run, run_into,
 };
-use guest_programs::{QUOTIENTS, SEVEN};
+use data_guest_programs::{QUOTIENTS, SEVEN};
 use std::test::Fail;
 
 /// As many instructions as a run may have, no quantum, and one worker.

@@ -8,7 +8,7 @@ ghost use denote.Param.Send.{IsSync, IsSend};
 use crate::run_fault::RunFault;
 use crate::sending::send;
 use crate::sink::Sink;
-use gate::Gate;
+use phase_jobs::Gate;
 use std::alloc::Global;
 use std::sync::Wait;
 use std::thread::{Threads, join_mut};

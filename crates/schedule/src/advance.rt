@@ -1,3 +1,4 @@
+//! How far a segment has come: the instructions executed, and whether it has stopped.
 /// How far a segment has come.
 #[derive(Clone, Copy, Debug, PartialEq, Eq)]
 pub struct Advance {

@@ -1,3 +1,4 @@
+//! Whether a stop ends the run.
 ghost use Rattle.std.specs.Prelude.{◌≡◌};
 ghost use Rattle.schedule.specs.Verdict as spec;
 

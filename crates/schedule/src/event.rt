@@ -1,3 +1,4 @@
+//! The events of a written schedule.
 /// An event of a schedule. Workers have numbers from 0.
 #[derive(Clone, Copy, Debug, PartialEq, Eq)]
 pub enum Event {

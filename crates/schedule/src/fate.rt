@@ -1,3 +1,4 @@
+//! What has become of a job of a phase: open, posted or skipped.
 /// What has become of a job.
 #[derive(Clone, Copy, Debug, PartialEq, Eq)]
 pub enum Fate {

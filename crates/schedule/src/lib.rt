@@ -1,4 +1,4 @@
-//! Written schedules: the events by which workers run the jobs of a phase, and what a phase counts of them.
+//! The events of written schedules that workers make, and what a phase counts of them.
 #![tactic(auto)]
 
 pub mod advance;

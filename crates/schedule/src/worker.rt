@@ -1,3 +1,4 @@
+//! What a worker is at in a phase: nothing, a job, or its end for this phase.
 use crate::advance::Advance;
 
 /// What a worker has of a job.

@@ -1,3 +1,4 @@
+//! Applies an event to the world's stage. A refused event changes nothing.
 use crate::event_fault::EventFault;
 use crate::stage::Stage;
 use schedule::Event;

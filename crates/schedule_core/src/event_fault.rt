@@ -1,3 +1,4 @@
+//! Why an event is refused, with numbers and names.
 use std::alloc::AllocError;
 use thiserror::Error;
 use token::TurnFault;

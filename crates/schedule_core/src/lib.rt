@@ -1,4 +1,4 @@
-//! Any interleaving of guest threads, by written events: the turns that it does are those of the one legal history.
+//! A run that goes by written events, in any interleaving, over the same serial state.
 #![tactic(auto)]
 
 mod applying;

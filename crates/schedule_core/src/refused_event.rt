@@ -1,3 +1,4 @@
+//! The first refused event of a list: its place and its fault.
 use crate::event_fault::EventFault;
 
 /// The first event of a list that is refused.

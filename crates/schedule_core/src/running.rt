@@ -1,3 +1,4 @@
+//! A job that a worker steps through: its hart and its view.
 use commit::Patch;
 use hart::{Cause, Hart, Stepped, Stop, Trap, step};
 use paged_memory::Snapshot;

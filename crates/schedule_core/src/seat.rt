@@ -1,3 +1,4 @@
+//! A worker's seat in the world: idle, at a job, or ended for this phase.
 use crate::running::Running;
 use schedule::Event;
 

@@ -1,3 +1,4 @@
+//! The slot of a job in the present phase: open, drawn, posted or skipped.
 use token::SegmentEnd;
 
 /// What has become of a job, with its result.

@@ -1,3 +1,4 @@
+//! The stage of a world: the serial state with the slots and seats of its phase.
 use crate::running::Running;
 use crate::seat::{Held, Seat};
 use crate::slot::Slot;

@@ -1,3 +1,4 @@
+//! The turns of a world, and the phases that they open.
 ghost use Rattle.std.specs.Prelude.{◌≡◌, ◌≤◌, [], replicate, vec_len};
 ghost use Rattle.std.specs.Vec.{vec_capacity};
 ghost use Rattle.token.specs.RunInTurn.{point_of};

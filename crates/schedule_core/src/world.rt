@@ -1,3 +1,4 @@
+//! A run driven by written events, and what it lends amid them.
 use crate::event_fault::EventFault;
 use crate::refused_event::RefusedEvent;
 use crate::seat::Seat;

@@ -1,4 +1,4 @@
-//! The text of a written schedule: a line for each event.
+//! The text of a written schedule, a line for each event, read into events.
 #![tactic(auto)]
 
 mod line;

@@ -1,3 +1,4 @@
+//! Why a schedule's text is refused: a line that is no event, or out of memory.
 use std::alloc::AllocError;
 use thiserror::Error;
 

@@ -1,3 +1,4 @@
+//! Reads the text of a schedule, line by line.
 ghost use Rattle.std.specs.Prelude.{◌≡◌, IfOk, IfErr};
 ghost use Rattle.schedule_text.specs.Text.{IsFirstBadLine, IsText};
 ghost use Rattle.schedule_text.specs.Faults.{IfNotAnEvent};

@@ -1,3 +1,4 @@
+//! A changed byte: by which turn, phase and thread.
 ghost use Rattle.std.specs.Prelude.{◌≡◌, ◌++◌, IfOk, OnOk};
 ghost use Rattle.sharing_report.specs.ByteChanges.{bytes_of, bytes_of_turn};
 

@@ -1,3 +1,4 @@
+//! Who changed something in a phase: nobody, one thread, or several.
 ghost use Rattle.std.specs.Prelude.{◌≡◌, ℕ, ◌&&◌, not, List, [], ◌∷◌, ◌++◌};
 
 /// Who changed something in a phase.

@@ -1,3 +1,4 @@
+//! The addresses of a page at which threads met, counted as turns are done.
 ghost use Rattle.std.specs.Prelude.{◌≡◌, ℕ, ◌+◌, ◌-◌, ◌^◌, ◌<◌, ◌≤◌, List, [], ◌∷◌, ◌++◌, All, IfOk, length, vec_len};
 
 use crate::changer::Changer;

@@ -1,3 +1,4 @@
+//! Counts of distinct keys, and of keys that several marks share, by sorting.
 ghost use Rattle.std.specs.Prelude.{◌≡◌, IfOk};
 ghost use Rattle.std.specs.Set.{distinct_count};
 ghost use Rattle.sharing_report.specs.Contested.{contested_count, contested_neighbours};

@@ -1,3 +1,4 @@
+//! The law that the changes of turns have one report. It has no code.
 ghost use Rattle.std.specs.Prelude.{◌≡◌, List};
 ghost use Rattle.token.specs.Change.{Change};
 ghost use Rattle.sharing_report.specs.Sharing.{IsSharing};

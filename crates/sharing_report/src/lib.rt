@@ -1,4 +1,4 @@
-//! The sharing report of a run: for each page with a byte that a turn changed, how it was shared.
+//! The sharing report of a run: how each page with a changed byte was shared.
 //!
 //! - [`report`] makes the rows from the changes of a run's turns, one for each such page, ascending.
 //! - [`SharingRecorder`] keeps the rows up to date as a run's turns are done.

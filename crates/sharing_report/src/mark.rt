@@ -1,3 +1,4 @@
+//! A thread's mark at a place, for counting.
 /// A mark of a thread at a place.
 #[derive(Clone, Copy)]
 pub(crate) struct Mark<K> {

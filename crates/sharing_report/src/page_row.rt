@@ -1,3 +1,4 @@
+//! A row of the report, made from the changes of one page.
 ghost use Rattle.std.specs.Prelude.{◌≡◌, IfOk, map};
 ghost use Rattle.sharing_report.specs.Sharing.{row_from, phase_mark, spot_mark};
 

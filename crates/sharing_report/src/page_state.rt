@@ -1,3 +1,4 @@
+//! What is kept of a page while a run goes on.
 ghost use Rattle.std.specs.Prelude.{◌≡◌, ℕ, ◌+◌, ◌-◌, ◌*◌, ◌/◌, ◌^◌, ◌<◌, ◌≤◌, nat_lt, List, [], ◌∷◌, ◌++◌, All, IfOk, length};
 
 use crate::clashes::Clashes;

@@ -1,3 +1,4 @@
+//! The changed bytes of each page, ascending.
 ghost use Rattle.std.specs.Prelude.{◌≡◌, ℕ, ◌↔◌, Contains, IfOk, IsPermutation, map};
 ghost use Rattle.std.specs.List.Sorted.{IsNonDecreasingBy, IsStrictlyIncreasing};
 ghost use Rattle.sharing_report.specs.ByteChanges.{bytes_of, bytes_of_page};

@@ -1,3 +1,4 @@
+//! The phases in which at least two threads changed a page, counted as turns are done.
 ghost use Rattle.std.specs.Prelude.{◌≡◌, ℕ, ◌-◌, ◌^◌, ◌<◌, ◌≤◌, List, [], ◌∷◌, ◌++◌, All, length};
 
 use crate::changer::Changer;

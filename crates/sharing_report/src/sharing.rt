@@ -1,3 +1,4 @@
+//! The report of a list of changes.
 ghost use Rattle.std.specs.Prelude.{IfOk};
 ghost use Rattle.sharing_report.specs.Sharing.{IsSharing};
 

@@ -1,3 +1,4 @@
+//! A recorder that keeps the rows up to date as turns are done.
 ghost use Rattle.std.specs.Prelude.{◌≡◌, ℕ, List, [], IfOk};
 
 use crate::page_row::PageRow;

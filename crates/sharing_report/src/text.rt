@@ -1,3 +1,4 @@
+//! The text of the report: a line for each row.
 ghost use Rattle.std.specs.Prelude.{◌≡◌, ◌++◌, IfOk, OnOk, codes, decimal};
 ghost use Rattle.std.specs.String.{string_bytes};
 ghost use Rattle.sharing_report.specs.Texts.{row_text, text_of};

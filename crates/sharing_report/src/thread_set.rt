@@ -1,3 +1,4 @@
+//! A set of thread numbers.
 ghost use Rattle.std.specs.Prelude.{◌≡◌, ℕ, ◌-◌, ◌^◌, ◌<◌, List, [], ◌∷◌, ◌++◌, IfOk, length, vec_len};
 
 use std::alloc::{AllocError, Global};

@@ -1,3 +1,4 @@
+//! The turns that changed a page, each counted once.
 ghost use Rattle.std.specs.Prelude.{◌≡◌, ℕ, false, ◌-◌, ◌^◌, ◌<◌, ◌≤◌, List, [], ◌∷◌, ◌++◌, All, length};
 
 /// How many different turns there were, told in their order.

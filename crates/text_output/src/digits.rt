@@ -1,3 +1,4 @@
+//! Hexadecimal digits at the end of a text.
 ghost use Rattle.std.specs.Prelude.{◌≡◌, ◌++◌, ◌≤◌, OnOk};
 ghost use Rattle.std.specs.String.{string_bytes};
 ghost use Rattle.text_output.specs.Digits.{hexadecimal};

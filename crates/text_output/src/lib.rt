@@ -1,4 +1,4 @@
-//! What the texts of the program are written by: digits into a text, and pieces of bytes to any writer.
+//! Hexadecimal digits appended to a text, and pieces of bytes written to any writer.
 //!
 //! - [`write_hexadecimal`] appends hexadecimal digits to a text.
 //! - [`write_some`] writes a first piece of some bytes and says how many it has.

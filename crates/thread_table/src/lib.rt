@@ -1,5 +1,4 @@
-//! The threads of a run: of each its status, its hart and how many instructions it has executed. What
-//! create, join and a thread's end make of them, and the lists of those that run.
+//! The threads of a run: status, hart and instruction count of each, and what create, join and a thread's end make of them.
 #![tactic(auto)]
 
 mod numbers;

@@ -1,3 +1,4 @@
+//! The numbers of the threads that a test picks, ascending, in a fixed array.
 ghost use Rattle.std.specs.Prelude.{◌≡◌, ◌≤◌, Bool, length};
 ghost use Rattle.std.specs.Fn.{FnReturnsAt};
 ghost use Rattle.abi.specs.Limits as limit;

@@ -1,3 +1,4 @@
+//! The status of a thread: ready, woken, blocked or done.
 ghost use Rattle.std.specs.Prelude.{◌≡◌};
 
 /// What a thread does at present.

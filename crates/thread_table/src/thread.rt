@@ -1,3 +1,4 @@
+//! A thread: its status, its hart and how many instructions it has executed.
 ghost use Rattle.std.specs.Prelude.{◌≡◌, ◌%◌};
 
 use crate::status::Status;

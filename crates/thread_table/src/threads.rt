@@ -1,3 +1,4 @@
+//! The threads of a run: create, join and a thread's end. Takes no memory.
 ghost use Rattle.std.specs.Prelude.{◌≡◌, ◌==◌, ◌<◌, ◌≤◌, Some, [], length, map, slice_get, slice_set, OnSome, IfNone};
 ghost use Rattle.abi.specs.Limits as limit;
 ghost use Rattle.thread_table.specs.Thread.{let_go};

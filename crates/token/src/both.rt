@@ -1,3 +1,4 @@
+//! Two recorders as one.
 ghost use Rattle.std.specs.Prelude.{◌≡◌, ◌⊎◌};
 
 use crate::recorder::Recorder;

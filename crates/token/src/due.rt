@@ -1,3 +1,4 @@
+//! Who has the next turn: a fresh segment, the keeper, or a woken thread.
 ghost use Rattle.std.specs.Prelude.{◌≡◌};
 ghost use Rattle.token.specs.Due.{thread_due, mutex_due};
 

@@ -1,3 +1,4 @@
+//! Whether a recorder is wanted, fixed by type for a whole run.
 ghost use Rattle.std.specs.Prelude.{Bool};
 
 use std::marker::Brand;

@@ -1,3 +1,4 @@
+//! The law of one history: of two legal histories of one setup, one is a prefix of the other. It has no code.
 ghost use Rattle.token.specs.Law.{Determinism, Progress, MutualExclusion, OneBeginning};
 
 /// The law of one history: what a run answers depends on what it is given alone, a run goes on until it has an

@@ -1,4 +1,4 @@
-//! The serial state of a run: turns, taken in token order, and the history that they make.
+//! Legal histories and their law, and the serial state of a run, which takes turns in token order.
 #![tactic(auto)]
 
 mod both;

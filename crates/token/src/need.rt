@@ -1,3 +1,4 @@
+//! What the next turn needs: a segment with its limits, nothing at a wake, or the end of the run.
 use crate::outcome::RunOutcome;
 use hart::Hart;
 

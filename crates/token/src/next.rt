@@ -1,3 +1,4 @@
+//! What the next turn of a run needs, with its segment executed here. The run is only read.
 ghost use Rattle.std.specs.Prelude.{IfOk};
 ghost use Rattle.token.specs.Next.{IsNext};
 ghost use Rattle.token.specs.RunInTurn.{point_of};

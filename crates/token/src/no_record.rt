@@ -1,3 +1,4 @@
+//! The recorder that keeps nothing.
 ghost use Rattle.std.specs.Prelude.{◌≡◌};
 
 use crate::recorder::Recorder;

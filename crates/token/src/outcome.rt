@@ -1,3 +1,4 @@
+//! How a run ends.
 use hart::Trap;
 
 /// How a run ends.

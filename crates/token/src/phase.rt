@@ -1,3 +1,4 @@
+//! The present phase: its first memory and threads, and who is left in its list.
 ghost use Rattle.std.specs.Prelude.{◌≡◌, ◌+◌, ◌^◌, ◌<◌, None};
 
 use paged_memory::Snapshot;

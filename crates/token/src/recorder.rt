@@ -1,3 +1,4 @@
+//! The trait of what is told of each turn and its patch.
 ghost use Rattle.std.specs.Prelude.{◌≡◌, ◌++◌, [], ◌∷◌, List, ℕ, option_map, OnOk, IfErr};
 ghost use Rattle.token.specs.Change.{Change, addresses_by, change_by};
 ghost use Rattle.token.specs.declared.turn.Turn.{Turn as TurnRecord};

@@ -1,3 +1,4 @@
+//! Executes a needed segment on a view of its base.
 ghost use Rattle.std.specs.Prelude.{◌≤◌, IfNone, IfOk, IfSome};
 ghost use Rattle.paged_memory.specs.Snapshot.{cells_of};
 ghost use Rattle.token.specs.Point.{IsEndOf, GoesPast};

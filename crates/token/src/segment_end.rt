@@ -1,3 +1,4 @@
+//! The end of a segment: hart, stop, count and patch.
 ghost use Rattle.std.specs.Prelude.{◌≡◌, option_map};
 ghost use Rattle.token.specs.Point as point;
 

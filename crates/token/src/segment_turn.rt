@@ -1,3 +1,4 @@
+//! A turn that ends a segment: its commit and its call.
 ghost use Rattle.std.specs.Prelude.{◌≡◌, ◌<◌, [], ◌∷◌, length, IfOk, OnOk, OnErr};
 ghost use Rattle.call_table.specs.Shared.{state_of, input_of};
 ghost use Rattle.call_table.specs.State.{row_of};

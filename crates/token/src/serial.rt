@@ -1,3 +1,4 @@
+//! The serial state: a run whose turns are a legal history. Memory is taken before anything changes.
 #![tactic(auto, unfolding(crate::specs::RunInTurn::point_of))]
 
 ghost use Rattle.std.specs.Prelude.{◌≡◌, ◌<◌, [], None, Some, OnOk, OnErr, IfOk, IfErr, option_map};

@@ -1,3 +1,4 @@
+//! A run in which no turn is done.
 #![tactic(auto, unfolding(crate::specs::RunInTurn::point_of))]
 
 ghost use Rattle.std.specs.Prelude.{◌≡◌, ◌≤◌, ◌<◌, [], IfOk, IfSome};

@@ -1,3 +1,4 @@
+//! The record of a turn.
 use abi::Reply;
 use hart::Trap;
 

@@ -1,3 +1,4 @@
+//! The addresses that a turn changed, ascending.
 ghost use Rattle.std.specs.Prelude.{◌≡◌};
 
 use std::marker::Model;

@@ -1,3 +1,4 @@
+//! Why a turn was not done: out of memory, or a recorder's write failed.
 use std::alloc::AllocError;
 
 /// Why a turn wasn't done.

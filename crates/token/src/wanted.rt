@@ -1,3 +1,4 @@
+//! A recorder that is there only if it is wanted.
 ghost use Rattle.std.specs.Prelude.{◌≡◌, IfSome, is_some};
 
 use crate::is_wanted::IsWanted;

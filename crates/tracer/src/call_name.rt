@@ -1,3 +1,4 @@
+//! The name of a call in a trace line, or its number.
 ghost use Rattle.std.specs.Prelude.{◌≡◌, ◌++◌, OnOk};
 ghost use Rattle.std.specs.String.{string_bytes};
 ghost use Rattle.tracer.specs.TraceText.{name_text};

@@ -1,3 +1,4 @@
+//! The reply of a call in a trace line.
 ghost use Rattle.std.specs.Prelude.{◌≡◌, ◌++◌, OnOk};
 ghost use Rattle.std.specs.String.{string_bytes};
 ghost use Rattle.tracer.specs.TraceText.{result_text};

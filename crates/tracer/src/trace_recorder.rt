@@ -1,3 +1,4 @@
+//! A recorder that writes the trace to a writer as turns are done, through a bounded buffer.
 ghost use Rattle.std.specs.Prelude.{◌≡◌, ◌≤◌, List, [], None, OnOk, length};
 ghost use Rattle.std.specs.String.{string_bytes};
 

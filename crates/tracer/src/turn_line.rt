@@ -1,3 +1,4 @@
+//! The line of a turn.
 ghost use Rattle.std.specs.Prelude.{◌≡◌, ◌++◌, IfOk, OnOk, decimal};
 ghost use Rattle.std.specs.String.{string_bytes};
 ghost use Rattle.tracer.specs.TraceText.{word_text, turn_text, counts_text, call_line, trap_line, wake_line, quantum_line, line_by, line_of};

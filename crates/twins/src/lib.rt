@@ -1,4 +1,4 @@
-//! Views of a snapshot: what a guest thread's segment runs on.
+//! Copy-on-write views of a snapshot, on which guest threads' segments run.
 #![tactic(auto)]
 
 mod page_index;

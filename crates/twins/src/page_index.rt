@@ -1,3 +1,4 @@
+//! An index of private pages by number: a short list, or a table of two levels.
 ghost use Rattle.std.specs.Prelude.{◌≡◌, ℕ, ◌+◌, ◌^◌, ◌<◌, ◌==◌, IfOk, length, position};
 ghost use Rattle.twins.specs.Listed.{AreListed, place_among};
 ghost use Rattle.twins.specs.PlaceTable.{place_of};

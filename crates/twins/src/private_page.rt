@@ -1,3 +1,4 @@
+//! A private page of a view, with its number.
 use paged_memory::Page;
 
 /// A page that was stored to: its number, and what it is now. The base's page of that number is its twin.

@@ -1,3 +1,4 @@
+//! What the caller has of a phase that is shared out: its seat, its job, and the ends that it received. May wait for an end.
 ghost use Rattle.std.specs.Prelude.{◌≡◌, ◌<◌, IfSome};
 ghost use Rattle.std.specs.Arc.{arc_value};
 ghost use Rattle.worker_pool.specs.Posts.{IsPost};
@@ -10,8 +11,7 @@ use crate::of_run::OfRun;
 use crate::post::Post;
 use crate::shared_phase::SharedPhase;
 use claim_table::DrawSeat;
-use gate::Gate;
-use phase_jobs::Taken;
+use phase_jobs::{Gate, Taken};
 use std::marker::Model;
 use std::sync::{Arc, Wait};
 

@@ -1,3 +1,4 @@
+//! What the workers of a run share: each waits for an offer, draws jobs and sends their ends.
 ghost use Rattle.std.specs.Prelude.{◌≡◌, ◌<◌, length};
 ghost use Rattle.claim_table.specs.Logs.{times};
 
@@ -9,7 +10,7 @@ use crate::post::Post;
 use crate::shared_phase::SharedPhase;
 use claim_table::DrawSeat;
 use crossbeam_channel::{Receiver, Sender};
-use gate::Gate;
+use phase_jobs::Gate;
 use std::sync::{Arc, Wait};
 
 /// How often a worker without work looks for some before it sleeps.

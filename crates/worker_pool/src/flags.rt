@@ -1,3 +1,4 @@
+//! The flag by which the caller tells its workers that the run has ended. Touched by single atomic steps.
 use std::sync::atomic::{AtomicBool, Ordering};
 
 /// What the caller tells all workers at once. No contract speaks of it: a worker that reads it late works in vain.

@@ -1,3 +1,4 @@
+//! What has become of a drawn job: it goes on, or its end is to be sent.
 use crate::of_run::OfRun;
 use crate::post::Post;
 use phase_jobs::Taken;

@@ -1,5 +1,4 @@
-//! One pool of host threads for a whole run: whichever of them executes a job, the caller is given the end of the
-//! segment that the run needs next.
+//! The host threads of a whole run: whichever executes a job, the caller gets the segment end that it needs next.
 //!
 //! [`Pool`] is the caller's. [`Crew`] is what its workers share: they draw jobs of the phases that the caller offers, and
 //! send the end of each. What is sent carries its fact: that it is the end of that thread's segment in that phase of this

@@ -1,3 +1,4 @@
+//! The caller's ends of what joins it with its workers: offers that it sends and takes back, ends that it receives.
 ghost use Rattle.std.specs.Prelude.{◌≡◌};
 ghost use Rattle.std.specs.Arc.{arc_value};
 

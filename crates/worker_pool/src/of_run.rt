@@ -1,3 +1,4 @@
+//! The name of a run, by which messages of its workers carry their facts. Ghost data alone.
 ghost use Rattle.token.specs.Setup.{Setup};
 
 use std::marker::Brand;

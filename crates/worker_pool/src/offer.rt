@@ -1,3 +1,4 @@
+//! The offer of a phase to a worker: the shared phase and a seat.
 ghost use Rattle.std.specs.Prelude.{◌≡◌};
 ghost use Rattle.std.specs.Arc.{arc_value};
 

@@ -1,3 +1,4 @@
+//! The caller's side of the pool: gives the end of the needed segment, whoever executed it. May wait for a worker.
 ghost use Rattle.std.specs.Prelude.{◌≡◌, ◌<◌, ◌≤◌, IfOk, IfSome};
 ghost use Rattle.claim_table.specs.Logs.{most_seats};
 ghost use Rattle.token.specs.Point.{IsEndOf, need_at};
@@ -15,8 +16,7 @@ use crate::opening::share_out;
 use crate::segment_end::{job_of, segment_end};
 use claim_table::JOBS;
 use crossbeam_channel::bounded;
-use gate::Gate;
-use phase_jobs::{Progress, Underway};
+use phase_jobs::{Gate, Progress, Underway};
 use std::alloc::{AllocError, Global};
 use std::sync::{Arc, Wait};
 use token::{Need, Recorder, SegmentEnd, Serial, Work};

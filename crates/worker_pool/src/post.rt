@@ -1,3 +1,4 @@
+//! The end of a segment as a worker sends it, with the fact whose end it is.
 ghost use Rattle.std.specs.Prelude.{◌≡◌, ◌↔◌, None, Some, IsTrue};
 ghost use Rattle.worker_pool.specs.Posts.{IsEndIn, IsPost};
 

@@ -1,3 +1,4 @@
+//! A job's end as the serial state takes it, and the job of a needed segment.
 ghost use Rattle.std.specs.Prelude.{◌≡◌};
 
 use phase_jobs::{Job, JobEnd};

@@ -1,3 +1,4 @@
+//! The jobs of a phase as the caller and its workers share them.
 ghost use Rattle.std.specs.Prelude.{◌≡◌, ◌<◌, ℕ, List, length, IfSome, OnSome, IfOk};
 ghost use Rattle.claim_table.specs.Logs.{times};
 ghost use Rattle.claim_table.specs.declared.log.Log.{Log};

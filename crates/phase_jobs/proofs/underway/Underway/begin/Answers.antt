@@ -1,6 +1,6 @@
 use Rattle.std.proofs.Common.{◌≡◌, ◌∙◌, ap, sym, subst}
 use Rattle.guest_memory.specs.Memory.{Memory}
-use Rattle.code.specs.Code.{HasCode}
+use Rattle.decoded_code.specs.Code.{HasCode}
 use Rattle.hart.proofs.Segments.{begun}
 use Rattle.hart.specs.Slice.{IsThere}
 use Rattle.paged_memory.specs.PageMap.{memory_of_pages}

@@ -1,7 +1,7 @@
 use Rattle.std.proofs.Common.{◌≡◌, ◌∙◌, ap, subst}
 use Rattle.guest_memory.specs.Memory.{Memory}
-use Rattle.code.specs.Code.{HasCode}
-use Rattle.code.proofs.Coding.{code_kept}
+use Rattle.decoded_code.specs.Code.{HasCode}
+use Rattle.decoded_code.proofs.Coding.{code_kept}
 use Rattle.paged_memory.specs.PageMap.{memory_of_pages}
 use Rattle.paged_memory.specs.Snapshot.{pages_of, cells_of}
 use Rattle.twins.specs.View.{base_of, private_of}

@@ -1,9 +1,0 @@
-use anyhow::Result;
-use std::rt::Clock;
-use std::time::Instant;
-
-/// How many picoseconds each of some measured works took since a start.
-pub fn each<R: Clock>(rt: &R, start: &Instant, count: u64) -> Result<u128> {
-    let picoseconds = start.elapsed(rt)?.as_nanos().saturating_mul(1000);
-    Ok(picoseconds / u128::from(count.max(1)))
-}

@@ -1,8 +1,0 @@
-/// The outputs that were begun for the texts that are made when a run has ended.
-#[derive(Drop)]
-pub struct MadeOutputs<O> {
-    /// For the sharing report.
-    pub report: Option<O>,
-    /// For the digest.
-    pub digest: Option<O>,
-}

@@ -1,8 +1,0 @@
--- An interrupted read takes nothing.
-use Rattle.std.proofs.Common.{◌≡◌, length}
-use Rattle.std.specs.Io.KnownBytes.{Keeps}
-use Rattle.files.proofs.reading.read_piece.Given as goal
-
-abbrev pub invariant-tries : goal.invariant-tries
-invariant-tries g l =
-    (length l.piece ≡ length l.initial.piece) × Keeps (g.R.Read.remaining l.initial.reader) (g.R.Read.remaining l.reader)

@@ -1,0 +1,38 @@
+//! An output to a host's file: written aside, and put in the file's place when it is whole.
+use std::io;
+use std::io::{Read, Seek, Write};
+
+/// Where an output goes once it is whole.
+#[derive(Drop)]
+pub(crate) enum End<F> {
+    /// It is in the file at `part`, which takes the place of the file at `place`.
+    Replace { part: String, place: String },
+    /// It is copied into this open file.
+    Copy(F),
+    /// It is for no file.
+    Aside,
+}
+
+/// A text that is written to a file of the host, and isn't whole yet.
+#[derive(Drop)]
+pub struct HostOutput<F> {
+    pub(crate) file: F,
+    pub(crate) end: End<F>,
+}
+
+impl<F: Write> Write for HostOutput<F> {
+    fn write(&mut self, buf: &[u8]) -> io::Result<usize> {
+        self.file.write(buf)
+    }
+
+    fn flush(&mut self) -> io::Result<()> {
+        self.file.flush()
+    }
+}
+
+/// Writes all that a file holds to a writer.
+pub(crate) fn copy_text<F: Read + Seek, W: Write>(file: &mut F, writer: &mut W) -> io::Result<()> {
+    file.rewind()?;
+    io::copy(file, writer)?;
+    writer.flush()
+}

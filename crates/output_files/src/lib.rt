@@ -1,0 +1,22 @@
+//! Files by their paths: reading them, and outputs that take a file's place once they are whole.
+#![tactic(auto)]
+
+mod access;
+#[cfg(test)]
+mod fakes;
+mod file_name;
+mod host_files;
+mod host_output;
+mod identity;
+mod links;
+mod read_fault;
+mod reading;
+mod write_fault;
+
+pub use access::Files;
+pub use file_name::FileName;
+pub use host_files::HostFiles;
+pub use host_output::HostOutput;
+pub use read_fault::ReadFault;
+pub use reading::read_upto;
+pub use write_fault::WriteFault;

@@ -1,0 +1,188 @@
+//! Where the texts of a run go: after the guest's output, or nowhere where a path can't be written.
+
+use crate::fakes::{EndlessReader, FailingReader, MemoryFiles};
+use crate::performed::Performed;
+use data_guest_programs::{COUNTER, LETTER, ONE_THREAD, RACE, Run, SHARED_BYTES};
+use std::alloc::AllocError;
+use std::io;
+use std::io::Read;
+use std::process::Abort;
+use std::sync::Wait;
+use std::test::Fail;
+use std::thread::Threads;
+
+const PRINTED: [&str; 7] = ["dthreads", "run", "a.elf", "--report", "-", "--trace", "-"];
+
+/// Checks that the texts of a run stand on standard output after the guest's output, the trace first.
+fn check_printed<H: Abort + AllocGlobal + Threads + Wait + Sync>(
+    rt: &H,
+    run: &Run,
+) -> Result<(), AllocError> {
+    let file = run.program.file(rt.alloc())?;
+    let mut files = MemoryFiles::with_old_files(rt.alloc(), file.as_slice())?;
+    let mut texts = run.trace_text(rt.alloc())?;
+    texts.push_str(run.report)?;
+    let mut input = run.input;
+    let performed = Performed::new(rt, &PRINTED, &mut files, &mut input);
+    let name = run.name;
+    let stdout = performed.stdout.as_slice();
+    assert_eq!(rt; performed.status, run.status, "the status of {name}");
+    assert!(rt; stdout.ends_with(texts.as_bytes()), "the texts of {name}");
+    assert!(rt; texts.len() <= stdout.len());
+    assert!(rt;
+        run.output.is(&stdout[..stdout.len() - texts.len()]),
+        "the output of {name}"
+    );
+    files.assert_old(rt);
+    Ok(())
+}
+
+#[test]
+fn texts_follow_the_output(rt: HostRuntime) -> Result<(), Fail> {
+    for run in &SHARED_BYTES {
+        if run.bound.is_none() && run.quantum.is_none() {
+            check_printed(&rt, run)?;
+        }
+    }
+    for run in &ONE_THREAD {
+        if run.bound.is_none() && run.quantum.is_none() {
+            check_printed(&rt, run)?;
+        }
+    }
+    Ok(())
+}
+
+/// Checks the line for a run of which the texts can't be written, and that the guest wrote nothing.
+fn check_line<H: Abort + AllocGlobal + Threads + Wait + Sync, R: Read>(
+    rt: &H,
+    arguments: &[&str],
+    program: &[u8],
+    stdin: &mut R,
+    status: u8,
+    line: &str,
+) -> Result<(), AllocError> {
+    let mut files = MemoryFiles::with_old_files(rt.alloc(), program)?;
+    Performed::new(rt, arguments, &mut files, stdin).assert_is(rt, status, b"", line);
+    files.assert_old(rt);
+    Ok(())
+}
+
+const NOWHERE: [&str; 7] = [
+    "dthreads",
+    "run",
+    "a.elf",
+    "--trace",
+    "trace",
+    "--report",
+    "no/report",
+];
+
+#[test]
+fn a_path_that_cannot_be_written_is_found_before_the_first_turn(
+    rt: HostRuntime,
+) -> Result<(), Fail> {
+    let letter = LETTER.file(rt.alloc())?;
+    let arguments = ["dthreads", "run", "a.elf", "--trace", "no/trace"];
+    let line = "cannot write no/trace\n";
+    check_line(
+        &rt,
+        &arguments,
+        letter.as_slice(),
+        &mut io::empty(),
+        124,
+        line,
+    )?;
+    let line = "cannot write no/report\n";
+    check_line(
+        &rt,
+        &NOWHERE,
+        letter.as_slice(),
+        &mut io::empty(),
+        124,
+        line,
+    )?;
+    let arguments = [
+        "dthreads",
+        "run",
+        "a.elf",
+        "--trace",
+        "trace",
+        "--report",
+        "report",
+        "--digest",
+        "no/digest",
+    ];
+    let line = "cannot write no/digest\n";
+    check_line(
+        &rt,
+        &arguments,
+        letter.as_slice(),
+        &mut io::empty(),
+        124,
+        line,
+    )?;
+    Ok(())
+}
+
+#[test]
+fn a_path_that_cannot_be_written_is_found_after_all_else(rt: HostRuntime) -> Result<(), Fail> {
+    let letter = LETTER.file(rt.alloc())?;
+    let letter = letter.as_slice();
+    let absent = ["dthreads", "run", "b.elf", "--trace", "no/trace"];
+    check_line(
+        &rt,
+        &absent,
+        letter,
+        &mut io::empty(),
+        124,
+        "cannot read b.elf\n",
+    )?;
+    let line = "cannot read standard input\n";
+    check_line(&rt, &NOWHERE, letter, &mut FailingReader, 124, line)?;
+    check_line(
+        &rt,
+        &NOWHERE,
+        letter,
+        &mut EndlessReader,
+        124,
+        "input too large\n",
+    )?;
+    let line = "elf refused: 2 Truncated\n";
+    check_line(&rt, &NOWHERE, &[], &mut io::empty(), 123, line)?;
+    Ok(())
+}
+
+#[test]
+fn a_write_that_fails_in_the_middle_leaves_the_old_files(rt: HostRuntime) -> Result<(), Fail> {
+    let arguments = [
+        "dthreads", "run", "a.elf", "--trace", "trace", "--report", "report",
+    ];
+    let race = RACE.file(rt.alloc())?;
+    for room in [0, 1, 100, 568] {
+        let mut files = MemoryFiles::with_old_files(rt.alloc(), race.as_slice())?;
+        files.room = room;
+        let performed = Performed::new(&rt, &arguments, &mut files, &mut io::empty());
+        performed.assert_is(&rt, 124, b"", "cannot write trace\n");
+        files.assert_old(&rt);
+    }
+    let counter = COUNTER.file(rt.alloc())?;
+    for room in [0, 8192, 100_000, 240_164] {
+        let mut files = MemoryFiles::with_old_files(rt.alloc(), counter.as_slice())?;
+        files.room = room;
+        let performed = Performed::new(&rt, &arguments, &mut files, &mut io::empty());
+        performed.assert_is(&rt, 124, b"", "cannot write trace\n");
+        files.assert_old(&rt);
+    }
+    let reported = ["dthreads", "run", "a.elf", "--report", "report"];
+    let mut files = MemoryFiles::with_old_files(rt.alloc(), race.as_slice())?;
+    files.room = 1;
+    let performed = Performed::new(&rt, &reported, &mut files, &mut io::empty());
+    performed.assert_is(&rt, 124, b"", "cannot write report\n");
+    files.assert_old(&rt);
+    let printed = ["dthreads", "run", "a.elf", "--trace", "-"];
+    let mut files = MemoryFiles::new(rt.alloc(), race.as_slice());
+    files.room = 100;
+    let performed = Performed::new(&rt, &printed, &mut files, &mut io::empty());
+    performed.assert_is(&rt, 124, b"", "cannot write standard output\n");
+    Ok(())
+}

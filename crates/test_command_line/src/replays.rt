@@ -1,0 +1,152 @@
+//! What the command replay prints and answers: written schedules, and what is looked at before them.
+
+use crate::fakes::{EndlessFiles, EndlessReader, FailingReader, FailingWriter, MemoryFiles};
+use crate::performed::Performed;
+use command_line::perform;
+use data_guest_programs::{RACE, Run, SEVEN};
+use data_written_schedules::{Schedule, schedules};
+use runtime::WriteSink;
+use std::alloc::{AllocError, Global};
+use std::io;
+use std::io::Read;
+use std::process::Abort;
+use std::sync::Wait;
+use std::test::Fail;
+use std::thread::Threads;
+
+const REPLAY: [&str; 6] = ["dthreads", "replay", "a.elf", "schedule", "--workers", "2"];
+
+/// The arguments of a replay, with the limits of the run that the schedule is for.
+fn arguments_of(alloc: Global, schedule: &Schedule, run: &Run) -> Result<Vec<String>, AllocError> {
+    let mut arguments = Vec::new(alloc);
+    for argument in ["dthreads", "replay", "a.elf", "schedule", "--workers"] {
+        arguments.push(String::from_str(alloc, argument)?)?;
+    }
+    arguments.push(schedule.workers.to_string(alloc)?)?;
+    for (option, limit) in [("--bound", run.bound), ("--quantum", run.quantum)] {
+        if let Some(limit) = limit {
+            arguments.push(String::from_str(alloc, option)?)?;
+            arguments.push(limit.to_string(alloc)?)?;
+        }
+    }
+    Ok(arguments)
+}
+
+/// Checks all that the replay of a schedule gives.
+fn check_replay<H: Abort + AllocGlobal + Threads + Wait + Sync>(
+    rt: &H,
+    schedule: &Schedule,
+    run: &Run,
+) -> Result<(), AllocError> {
+    let alloc = rt.alloc();
+    let arguments = arguments_of(alloc, schedule, run)?;
+    let file = run.program.file(alloc)?;
+    let text = schedule.whole_text(alloc)?;
+    let trace = schedule.trace_text(alloc, run)?;
+    let mut files = MemoryFiles::with_schedule(alloc, file.as_slice(), text.as_bytes());
+    let mut input = run.input;
+    let performed = Performed::new(rt, &arguments, &mut files, &mut input);
+    let name = schedule.name;
+    assert_eq!(rt;
+        performed.status,
+        schedule.status(run),
+        "the status of {name}"
+    );
+    assert!(rt;
+        performed.stdout.as_slice() == trace.as_bytes(),
+        "the trace of {name}"
+    );
+    assert!(rt;
+        performed.is_message(schedule.line(run)),
+        "the line of {name}"
+    );
+    Ok(())
+}
+
+#[test]
+fn written_schedules(rt: HostRuntime) -> Result<(), Fail> {
+    for schedule in schedules().into_iter().flatten() {
+        let run = schedule.run();
+        assert!(rt; run.is_some(), "the run of {}", schedule.name);
+        if let Some(run) = run {
+            check_replay(&rt, schedule, run)?;
+        }
+    }
+    Ok(())
+}
+
+/// Checks the line for a replay that prints nothing.
+fn check_line<H: Abort + AllocGlobal + Threads + Wait + Sync, R: Read>(
+    rt: &H,
+    files: (&[u8], &[u8]),
+    stdin: &mut R,
+    status: u8,
+    line: &str,
+) {
+    let mut memory = MemoryFiles::with_schedule(rt.alloc(), files.0, files.1);
+    Performed::new(rt, &REPLAY, &mut memory, stdin).assert_is(rt, status, b"", line);
+}
+
+#[test]
+fn what_is_looked_at_before_the_events(rt: HostRuntime) -> Result<(), Fail> {
+    let seven = SEVEN.file(rt.alloc())?;
+    let seven = seven.as_slice();
+    let (bad, good) = (b"walk\n".as_slice(), b"turn\n".as_slice());
+    let line = "cannot read standard input\n";
+    check_line(&rt, (&[], bad), &mut FailingReader, 124, line);
+    let line = "input too large\n";
+    check_line(&rt, (&[], bad), &mut EndlessReader, 124, line);
+    let line = "schedule line 1: not an event\n";
+    check_line(&rt, (&[], bad), &mut io::empty(), 124, line);
+    let line = "elf refused: 2 Truncated\n";
+    check_line(&rt, (&[], good), &mut io::empty(), 123, line);
+    let line = "schedule line 1: refused 2 NotEnabled\n";
+    check_line(&rt, (seven, good), &mut io::empty(), 124, line);
+    Ok(())
+}
+
+#[test]
+fn what_cannot_be_read_is_named(rt: HostRuntime) {
+    for (file, schedule, line) in [
+        ("b", "c", "cannot read b\n"),
+        ("a.elf", "c", "cannot read c\n"),
+    ] {
+        let arguments = ["dthreads", "replay", file, schedule, "--workers", "64"];
+        let mut files = MemoryFiles::new(rt.alloc(), &[]);
+        let performed = Performed::new(&rt, &arguments, &mut files, &mut io::empty());
+        performed.assert_is(&rt, 124, b"", line);
+    }
+    let performed = Performed::new(&rt, &REPLAY, &mut EndlessFiles, &mut io::empty());
+    performed.assert_is(&rt, 124, b"", "cannot read schedule\n");
+}
+
+/// Checks the answer to a replay whose trace can't be printed.
+fn check_unprinted<H: Abort + AllocGlobal + Threads + Wait + Sync>(
+    rt: &H,
+    program: &[u8],
+    schedule: &str,
+) {
+    let alloc = rt.alloc();
+    let mut files = MemoryFiles::with_schedule(alloc, program, schedule.as_bytes());
+    let mut stderr = Vec::new(alloc);
+    let status = perform(
+        rt,
+        alloc,
+        &REPLAY,
+        &mut files,
+        &mut io::empty(),
+        &mut WriteSink::new(FailingWriter),
+        &mut stderr,
+    );
+    assert_eq!(rt; status, 124);
+    assert!(rt; stderr.as_slice() == b"cannot write standard output\n".as_slice());
+}
+
+#[test]
+fn a_trace_that_cannot_be_printed_is_a_failure(rt: HostRuntime) -> Result<(), Fail> {
+    let race = RACE.file(rt.alloc())?;
+    for schedule in ["draw 0\nstep 0\nstep 0\nstep 0\npost 0\nturn\n", "turn\n"] {
+        check_unprinted(&rt, race.as_slice(), schedule);
+    }
+    Ok(())
+}

@@ -1,0 +1,21 @@
+//! Tests of phases on one and on many host threads, and of whole runs taken phase by phase.
+#![tactic(auto)]
+
+#[cfg(test)]
+mod fates;
+#[cfg(test)]
+mod fixtures;
+#[cfg(test)]
+mod gates;
+#[cfg(test)]
+mod many_hands;
+#[cfg(test)]
+mod one_thread;
+#[cfg(test)]
+mod overlap;
+#[cfg(test)]
+mod phase_turns;
+#[cfg(test)]
+mod stops;
+#[cfg(test)]
+mod whole_runs;

@@ -1,0 +1,150 @@
+//! What a gate is told of a run: each job before its first instruction, and each turn once it is done.
+
+use data_guest_programs::{Program, RACE, SIGNAL};
+use runtime::{Config, Gate, MAX_BOUND, run};
+use std::alloc::Global;
+use std::process::Abort;
+use std::sync::Wait;
+use std::sync::atomic::{AtomicU64, Ordering};
+use std::test::Fail;
+use std::thread::Threads;
+
+/// How many passes and how many turns are kept.
+const KEPT: usize = 16;
+
+/// A job that is passed, and how many turns are done then at least and at most: those of earlier phases, and those before its
+/// own in its phase.
+type Pass = (u64, u64, u64);
+
+/// The passes of `race`, and the threads of its turns.
+static RACE_PASSES: [Pass; 6] = [
+    (0, 0, 0),
+    (0, 4, 4),
+    (1, 4, 5),
+    (2, 4, 6),
+    (0, 7, 7),
+    (0, 8, 8),
+];
+
+static RACE_TURNS: [u64; 9] = [0, 0, 0, 0, 0, 1, 2, 0, 0];
+
+/// The passes of `signal`, and the threads of its turns. Neither keeper nor woken thread passes.
+static SIGNAL_PASSES: [Pass; 7] = [
+    (0, 0, 0),
+    (0, 1, 1),
+    (1, 1, 2),
+    (0, 4, 4),
+    (0, 5, 5),
+    (0, 8, 8),
+    (0, 9, 9),
+];
+
+static SIGNAL_TURNS: [u64; 10] = [0, 0, 1, 1, 0, 0, 1, 1, 1, 0];
+
+/// A gate that keeps what it is told, in order.
+#[derive(Drop)]
+struct Listening {
+    passes: AtomicU64,
+    /// Of each pass its worker.
+    workers: [AtomicU64; KEPT],
+    /// Of each pass its job.
+    jobs: [AtomicU64; KEPT],
+    /// How many turns were done at each pass.
+    turns_at: [AtomicU64; KEPT],
+    turns: AtomicU64,
+    /// Of each turn its thread.
+    threads: [AtomicU64; KEPT],
+}
+
+impl Listening {
+    fn new() -> Self {
+        Listening {
+            passes: AtomicU64::new(0),
+            workers: std::array::from_fn(|_| AtomicU64::new(0)),
+            jobs: std::array::from_fn(|_| AtomicU64::new(0)),
+            turns_at: std::array::from_fn(|_| AtomicU64::new(0)),
+            turns: AtomicU64::new(0),
+            threads: std::array::from_fn(|_| AtomicU64::new(0)),
+        }
+    }
+}
+
+impl Gate for Listening {
+    fn pass(&self, worker: u32, job: u32) {
+        let place = self.passes.fetch_add(1, Ordering::SeqCst);
+        keep(&self.workers, place, u64::from(worker));
+        keep(&self.jobs, place, u64::from(job));
+        keep(&self.turns_at, place, self.turns.load(Ordering::SeqCst));
+    }
+
+    fn turned(&self, thread: u32) {
+        let place = self.turns.fetch_add(1, Ordering::SeqCst);
+        keep(&self.threads, place, u64::from(thread));
+    }
+}
+
+/// Keeps a number at its place, where there is room.
+fn keep(list: &[AtomicU64], place: u64, number: u64) {
+    if let Some(kept) = list.get(place as usize) {
+        kept.store(number, Ordering::SeqCst);
+    }
+}
+
+/// The number at a place, 0 where there was no room.
+fn kept(list: &[AtomicU64], place: usize) -> u64 {
+    list.get(place)
+        .map_or(0, |kept| kept.load(Ordering::SeqCst))
+}
+
+/// Asserts what a gate is told of the run of a program by one worker.
+fn assert_told(
+    rt: &(impl Abort + Threads + Wait + Sync),
+    alloc: Global,
+    program: &Program,
+    passes: &[Pass],
+    turns: &[u64],
+) -> Result<(), Fail> {
+    let config = Config {
+        bound: MAX_BOUND,
+        quantum: None,
+        workers: 1,
+    };
+    let gate = Listening::new();
+    run(rt, alloc, &program.file(alloc)?, &[], &config, &gate)?;
+    let counts = [
+        gate.passes.load(Ordering::SeqCst),
+        gate.turns.load(Ordering::SeqCst),
+    ];
+    assert_eq!(rt;
+        counts,
+        [passes.len() as u64, turns.len() as u64],
+        "{}",
+        program.name
+    );
+    assert_passes(rt, &gate, passes, program.name);
+    for (place, thread) in turns.iter().enumerate() {
+        assert_eq!(rt;
+            kept(&gate.threads, place),
+            *thread,
+            "{} {place}",
+            program.name
+        );
+    }
+    Ok(())
+}
+
+/// Asserts what a gate was told at each pass.
+fn assert_passes(rt: &impl Abort, gate: &Listening, passes: &[Pass], name: &str) {
+    for (place, (job, least, most)) in passes.iter().enumerate() {
+        let told = (kept(&gate.workers, place), kept(&gate.jobs, place));
+        assert_eq!(rt; told, (0, *job), "{name} {place}");
+        let turns = kept(&gate.turns_at, place);
+        assert!(rt; *least <= turns && turns <= *most, "{name} {place}");
+    }
+}
+
+#[test]
+fn a_gate_is_told_of_each_job_and_turn(rt: HostRuntime) -> Result<(), Fail> {
+    assert_told(&rt, rt.alloc(), &RACE, &RACE_PASSES, &RACE_TURNS)?;
+    assert_told(&rt, rt.alloc(), &SIGNAL, &SIGNAL_PASSES, &SIGNAL_TURNS)
+}

@@ -1,0 +1,213 @@
+//! Runs with two workers whose gate holds one host thread until another one has come somewhere: jobs run side by
+//! side, turns are taken beside running jobs, and a run ends beside an endless one, which is some slices old by then.
+
+use crate::seen::{BEFORE, Seen, comes, is_reached, linger, reach};
+use data_guest_programs::{KEEPER_EXIT, KEEPER_EXIT_TRACE, LATE_WORK, Program, RACE, RACE_TRACE};
+use runtime::{Config, Gate, MAX_BOUND, Report, RunOutcome, run};
+use std::alloc::Global;
+use std::process::Abort;
+use std::sync::Wait;
+use std::test::Fail;
+use std::thread::Threads;
+use tracer::trace_text;
+
+/// How often each run is made.
+const TIMES: u32 = 100;
+
+/// The number of the caller among the workers.
+const CALLER: u32 = 0;
+
+/// How many turns of `late-work` come before phase 22. So many phases with two jobs were short by then that the caller
+/// executes the beginning of a long job alone.
+const BEFORE_LATE: u64 = 45;
+
+/// What host threads do once phase 1 is over, before each job that they have drawn.
+trait Holding {
+    fn hold(&self, seen: &Seen, worker: u32, job: u32);
+}
+
+/// A gate that counts turns, and holds host threads once phase 1 is over.
+#[derive(Drop)]
+struct Held<'a, H> {
+    seen: Seen,
+    holding: &'a H,
+}
+
+impl<'a, H> Held<'a, H> {
+    fn by(holding: &'a H) -> Self {
+        Held {
+            seen: Seen::nothing(),
+            holding,
+        }
+    }
+}
+
+impl<'a, H: Holding> Gate for Held<'a, H> {
+    fn pass(&self, worker: u32, job: u32) {
+        if self.seen.has_done(BEFORE) {
+            self.holding.hold(&self.seen, worker, job);
+        }
+    }
+
+    fn turned(&self, _thread: u32) {
+        self.seen.count_turn();
+    }
+}
+
+/// Jobs 0 and 1 of phase 2 wait for each other.
+#[derive(Drop)]
+struct Meeting;
+
+impl Holding for Meeting {
+    fn hold(&self, seen: &Seen, _worker: u32, job: u32) {
+        match job {
+            0 => {
+                reach(&seen.first);
+                seen.note(comes(|| is_reached(&seen.second)));
+            }
+            1 => {
+                reach(&seen.second);
+                seen.note(comes(|| is_reached(&seen.first)));
+            }
+            _ => {}
+        }
+    }
+}
+
+/// In phase 2 the caller waits until another worker has come to a job above 0, or until thread 0's turn. That worker
+/// waits there for thread 0's turn.
+#[derive(Drop)]
+struct Overlap;
+
+impl Holding for Overlap {
+    fn hold(&self, seen: &Seen, worker: u32, job: u32) {
+        if seen.has_done(BEFORE + 3) {
+            return;
+        }
+        if worker == CALLER {
+            seen.note(comes(|| is_reached(&seen.first) || seen.has_done(BEFORE + 1)));
+        } else if job > 0 {
+            reach(&seen.first);
+            seen.note(comes(|| seen.has_done(BEFORE + 1)));
+        }
+    }
+}
+
+/// The endless job of phase 2, its job 2, runs on the worker: the caller waits for that, and then some more.
+#[derive(Drop)]
+struct EndlessWorker;
+
+impl Holding for EndlessWorker {
+    fn hold(&self, seen: &Seen, worker: u32, job: u32) {
+        if worker == CALLER {
+            seen.note(comes(|| is_reached(&seen.first)));
+            linger();
+        } else if job == 2 {
+            reach(&seen.first);
+        }
+    }
+}
+
+/// The endless job of phase 2, its job 2, runs on the caller: the worker waits for that, and then some more, and the
+/// caller before its first job for the worker.
+#[derive(Drop)]
+struct EndlessCaller;
+
+impl Holding for EndlessCaller {
+    fn hold(&self, seen: &Seen, worker: u32, job: u32) {
+        if worker != CALLER {
+            reach(&seen.first);
+            seen.note(comes(|| is_reached(&seen.second)));
+            linger();
+        } else if job == 2 {
+            reach(&seen.second);
+        } else {
+            seen.note(comes(|| is_reached(&seen.first)));
+        }
+    }
+}
+
+/// Sees whether the worker takes a job of phase 22 of `late-work` beside the first one, whose turn comes first there.
+#[derive(Drop)]
+struct LateWork;
+
+impl Holding for LateWork {
+    fn hold(&self, seen: &Seen, worker: u32, _job: u32) {
+        if worker != CALLER && seen.has_done(BEFORE_LATE) && !seen.has_done(BEFORE_LATE + 1) {
+            reach(&seen.first);
+        }
+    }
+}
+
+/// The report of a run of a program with two workers.
+fn report_of<G: Gate + Sync>(
+    rt: &(impl Threads + Wait + Sync),
+    alloc: Global,
+    program: &Program,
+    gate: &G,
+) -> Result<Report, Fail> {
+    let file = program.file(alloc)?;
+    let config = Config {
+        bound: MAX_BOUND,
+        quantum: None,
+        workers: 2,
+    };
+    Ok(run(rt, alloc, &file, &[], &config, gate)?)
+}
+
+/// Asserts that runs of a program with two workers end so, with this trace, and that no host thread waits in vain.
+fn assert_runs<H: Holding + Sync>(
+    rt: &(impl Abort + Threads + Wait + Sync),
+    alloc: Global,
+    (program, trace, status): (&Program, &str, u32),
+    holding: &H,
+) -> Result<(), Fail> {
+    for _ in 0..TIMES {
+        let gate = Held::by(holding);
+        let report = report_of(rt, alloc, program, &gate)?;
+        assert_eq!(rt; report.outcome, RunOutcome::Exit(status));
+        assert_eq!(rt; trace_text(alloc, &report.trace)?.as_str(), trace);
+        assert!(rt; !is_reached(&gate.seen.missed));
+    }
+    Ok(())
+}
+
+#[test]
+fn jobs_run_side_by_side(rt: HostRuntime) -> Result<(), Fail> {
+    assert_runs(&rt, rt.alloc(), (&RACE, RACE_TRACE, 2), &Meeting)
+}
+
+#[test]
+fn turns_are_taken_beside_running_jobs(rt: HostRuntime) -> Result<(), Fail> {
+    assert_runs(&rt, rt.alloc(), (&RACE, RACE_TRACE, 2), &Overlap)
+}
+
+#[test]
+fn a_keeper_exits_beside_an_endless_worker(rt: HostRuntime) -> Result<(), Fail> {
+    let case = (&KEEPER_EXIT, KEEPER_EXIT_TRACE, 9);
+    assert_runs(&rt, rt.alloc(), case, &EndlessWorker)
+}
+
+#[test]
+fn a_keeper_exits_beside_an_endless_job_of_the_caller(rt: HostRuntime) -> Result<(), Fail> {
+    let case = (&KEEPER_EXIT, KEEPER_EXIT_TRACE, 9);
+    assert_runs(&rt, rt.alloc(), case, &EndlessCaller)
+}
+
+/// The worker has the milliseconds of one job to come in, and has to in one run at least.
+#[test]
+fn a_phase_whose_first_job_the_caller_began_alone_is_shared_out(
+    rt: HostRuntime,
+) -> Result<(), Fail> {
+    let mut is_shared = false;
+    for _ in 0..TIMES {
+        let gate = Held::by(&LateWork);
+        let report = report_of(&rt, rt.alloc(), &LATE_WORK, &gate)?;
+        assert_eq!(rt; report.outcome, RunOutcome::Exit(0));
+        if is_reached(&gate.seen.first) {
+            is_shared = true;
+        }
+    }
+    assert!(rt; is_shared);
+    Ok(())
+}
