@@ -1,0 +1,143 @@
+"""The definitions that the headline needs: a walk from its contracts over the names that each definition uses."""
+import os
+import re
+
+from .repository import TOP, crates
+
+# The functions that carry the headline, by crate; `perform` is looked for in every crate of the program.
+CARRIERS = [("runtime", "run"), ("runtime", "run_into"), ("runtime", "run_recorded"), (None, "perform")]
+
+NAME = re.compile(r"[^\W\d]\w*'*(?:\.[^\W\d]\w*'*)*")
+HEAD = re.compile(r"^(?:(?:abbrev|unfoldable)(?: pub)?|pub record|record|pub data|data) ([^\W\d]\w*'*)", re.M)
+
+
+def sources(folder, ending):
+    for where, _, names in sorted(os.walk(folder)):
+        if "/out" not in where:
+            yield from (f"{where}/{it}" for it in sorted(names) if it.endswith(ending))
+
+
+def read(file):
+    with open(file, encoding="utf-8") as it:
+        return it.read()
+
+
+def without_comments(text):
+    return re.sub(r"(--|//).*", "", text)
+
+
+def imported(text):
+    """Returns what the `use` lines of a text name: items by their local names, and modules by their aliases."""
+    items, modules = {}, {}
+    for path, braces, alias in re.findall(r"^\s*(?:ghost |pub )?use Rattle\.([\w.]+?)(?:\.\{([^}]*)\}| as (\w+));?\s*$", text, re.M):
+        module = tuple(path.split("."))
+        if alias:
+            modules[alias] = module
+        for item in filter(None, (it.strip() for it in braces.split(","))):
+            name, _, local = item.partition(" as ")
+            items[local or name] = (module, name)
+    return items, modules
+
+
+class Module:
+    """A file of specs/: its definitions, each with its text, and what it imports."""
+
+    def __init__(self, crate, file):
+        self.file = file
+        text = read(file)
+        self.items, self.modules = imported(text)
+        self.texts = {}
+        heads = list(HEAD.finditer(text))
+        for head, following in zip(heads, heads[1:] + [None]):
+            body = text[head.start():following.start() if following else len(text)]
+            self.texts[head[1]] = without_comments(body)
+
+    def lines(self, name):
+        return sum(1 for it in self.texts[name].split("\n") if it.strip())
+
+
+def modules():
+    """Returns all modules by their paths, as `use` lines name them."""
+    found = {}
+    for crate in crates():
+        folder = f"{TOP}/crates/{crate}/specs"
+        for file in sources(folder, ".antt"):
+            path = os.path.relpath(file, folder)[:-len(".antt")].replace("/", ".")
+            found[(crate, "specs", *path.split("."))] = Module(crate, file)
+    return found
+
+
+def used(text, items, aliases, own, path):
+    """Returns what the names in a text refer to: (module, name) each. A label of a record's field refers to nothing."""
+    found = set()
+    for match in NAME.finditer(text):
+        if re.match(r" = ", text[match.end():match.end() + 3]) and text[:match.start()].rstrip()[-1:] in "{;":
+            continue
+        first, _, rest = match[0].partition(".")
+        if first in aliases and rest:
+            found.add((aliases[first], rest.split(".")[0]))
+        elif first in items:
+            found.add(items[first])
+        elif first in own:
+            found.add((path, first))
+    return found
+
+
+def contract(crate, function):
+    """Returns the contract of a public function and what it refers to; None if the crate has no such function."""
+    for file in sources(f"{TOP}/crates/{crate}/src", ".rt"):
+        text = read(file)
+        head = re.search(rf"^pub fn {function}\b.*?^\{{", text, re.M | re.S)
+        if head:
+            clauses = re.findall(r"^    (?:requires|ensures).*?(?=^    (?:requires|ensures)|\Z|^\{)", head[0], re.M | re.S)
+            items, aliases = imported(text)
+            return used(without_comments("".join(clauses)), items, aliases, {}, None)
+    return None
+
+
+def seeds():
+    found = set()
+    for crate, function in CARRIERS:
+        those = [contract(it, function) for it in ([crate] if crate else crates())]
+        those = [it for it in those if it is not None]
+        if not those:
+            raise SystemExit(f"no public function {function} carries the headline")
+        found |= set().union(*those)
+    return found
+
+
+def needed():
+    """Returns the definitions that the headline needs, by module, and the types of the sources, by crate; and all modules."""
+    every, todo = modules(), seeds()
+    definitions, types = set(), set()
+    while todo:
+        path, name = todo.pop()
+        if len(path) > 2 and path[1:3] == ("specs", "declared"):
+            types.add((path[0], path[4] if len(path) > 4 else name))
+        elif path in every and name in every[path].texts and (path, name) not in definitions:
+            module = every[path]
+            definitions.add((path, name))
+            todo |= used(module.texts[name], module.items, module.modules, module.texts, path)
+        elif path in every and name in every[path].items:
+            todo.add(every[path].items[name])
+    return definitions, types, every
+
+
+def listed():
+    """Returns the list as a part of a page: a paragraph of counts, and a line for each file of specs/."""
+    definitions, types, every = needed()
+    count = sum(len(it.texts) for it in every.values())
+    lines = sum(every[path].lines(name) for path, name in definitions)
+    text = f"{len(definitions)} of {count} definitions, {lines:,} lines without comments, lowest crates first:\n\n"
+    for crate in crates():
+        own = sorted({path for path, _ in definitions if path[0] == crate})
+        of_types = sorted({name for it, name in types if it == crate})
+        if not own and not of_types:
+            continue
+        text += f"- `{crate}`\n"
+        for path in own:
+            names = [it for it in every[path].texts if (path, it) in definitions]
+            text += f"  - {'/'.join(path[2:])}: {', '.join(names)}\n"
+        if of_types:
+            text += f"  - types of the source: {', '.join(of_types)}\n"
+    return text

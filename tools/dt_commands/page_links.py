@@ -1,0 +1,38 @@
+"""The links of the pages: each must lead to a file of the repository, and to a heading that is on that page."""
+import glob
+import os
+import re
+
+from .repository import TOP
+
+
+def pages():
+    """Returns the pages whose links are looked at, by their paths from the top."""
+    return ["README.md", "CONTRIBUTING.md", "samples/README.md"] + sorted(os.path.relpath(it, TOP) for it in glob.glob(f"{TOP}/docs/*.md"))
+
+
+def read(page):
+    with open(f"{TOP}/{page}", encoding="utf-8") as it:
+        return re.sub(r"^```.*?^```$", "", it.read(), flags=re.M | re.S)
+
+
+def anchors(text):
+    """Returns the anchors of a page's headings, as code hosts make them."""
+    headings = (re.sub(r"[^\w\- ]", "", it.lower()) for it in re.findall(r"^#+ (.*)$", text, re.M))
+    return {it.strip().replace(" ", "-") for it in headings}
+
+
+def broken():
+    """Returns the links that lead nowhere, each with its page."""
+    found = []
+    for page in pages():
+        for link in re.findall(r"\]\(([^)\s]+)\)", read(page)):
+            if re.match(r"[a-z]+:", link):
+                continue
+            path, _, heading = link.partition("#")
+            target = os.path.normpath(os.path.join(os.path.dirname(page), path)) if path else page
+            if not os.path.exists(f"{TOP}/{target}"):
+                found.append(f"{page}: no file for the link {link}")
+            elif heading and heading not in anchors(read(target)):
+                found.append(f"{page}: no heading for the link {link}")
+    return found

@@ -1,0 +1,75 @@
+"""Writes the generated parts of the pages, or compares them.
+
+Generated are docs/CONFORMANCE.md as a whole, from tools/changes; the table of crates in docs/ARCHITECTURE.md, from crates.txt and the
+first sentence of each crate root; the limits in docs/GUEST.md, from the definitions; and the list of the definitions that the
+headline needs in docs/LAW.md, from the contracts of run, run_into, run_recorded and perform. With --check nothing is written: each part
+that differs is named, and the status is 1. In any case each line of a block marked `antt` must be in the sources, so that no page quotes
+what isn't there, and each link must lead to a file and a heading.
+"""
+import os
+import re
+
+from . import conformance_page, crate_pages, definitions, page_links
+from .repository import TOP
+
+
+def arguments(parser):
+    parser.add_argument("--check", action="store_true", help="compare the pages in place of writing them")
+
+
+def read(page):
+    with open(f"{TOP}/{page}", encoding="utf-8") as it:
+        return it.read()
+
+
+def with_part(page, name, text):
+    """Returns a page with the part between the two markers of this name replaced."""
+    whole = read(page)
+    start, end = f"<!-- generated: {name} -->\n", f"<!-- end of generated: {name} -->"
+    if whole.count(start) != 1 or whole.count(end) != 1:
+        raise SystemExit(f"{page}: the markers of the part {name} must be there once each")
+    head, rest = whole.split(start)
+    return head + start + text + end + rest.split(end)[1]
+
+
+def pages():
+    """Returns each page that has generated parts, with what must be in it."""
+    return {
+        "docs/CONFORMANCE.md": conformance_page.page(),
+        "docs/ARCHITECTURE.md": with_part("docs/ARCHITECTURE.md", "crates", crate_pages.table()),
+        "docs/GUEST.md": with_part("docs/GUEST.md", "limits", crate_pages.limits()),
+        "docs/LAW.md": with_part("docs/LAW.md", "definitions", definitions.listed()),
+    }
+
+
+def misquoted():
+    """Returns the lines of blocks marked `antt` that are in no definition and no contract, each with its page."""
+    sources = set()
+    for file in definitions.sources(f"{TOP}/crates", (".antt", ".rt")):
+        if "/proofs/" not in file:
+            sources |= {it.strip() for it in definitions.read(file).split("\n")}
+    found = []
+    for page in ("README.md", "docs/LAW.md"):
+        for block in re.findall(r"^```antt\n(.*?)^```$", read(page), re.M | re.S):
+            found += [f"{page}: {it}" for it in block.split("\n") if it.strip() and it.strip() not in sources]
+    return found
+
+
+def run(options):
+    differ = []
+    for page, text in pages().items():
+        old = read(page) if os.path.exists(f"{TOP}/{page}") else ""
+        if old == text:
+            continue
+        differ.append(page)
+        if not options.check:
+            with open(f"{TOP}/{page}", "w", encoding="utf-8") as it:
+                it.write(text)
+    wrong = [f"{it}: no source has this line" for it in misquoted()] + page_links.broken()
+    for line in wrong:
+        print(line)
+    for page in differ:
+        print(f"{page}: " + ("differs from what tools/dt write-pages makes" if options.check else "written"))
+    if not differ and not wrong:
+        print("the generated pages are as they must be")
+    return 1 if wrong or (differ and options.check) else 0

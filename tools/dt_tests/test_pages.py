@@ -1,0 +1,41 @@
+"""The generated pages: the walk over definitions, and the order of the changes."""
+import unittest
+
+from dt_commands import conformance_page, crate_pages, definitions, page_links
+
+
+class Definitions(unittest.TestCase):
+    def test_the_headline_needs_the_clauses_and_no_invariant(self):
+        found = {(path[0], name) for path, name in definitions.needed()[0]}
+        for name in ["Follows", "IsLegal", "version"]:
+            self.assertIn(("token", name), found)
+        self.assertIn(("hart", "executed"), found)
+        self.assertNotIn(("token", "Point"), found)
+
+    def test_a_label_of_a_field_is_no_name(self):
+        items = {"count": (("one", "specs", "Counts"), "count")}
+        self.assertEqual(definitions.used("record { count = 1; other = 2 }", items, {}, {}, None), set())
+        self.assertEqual(definitions.used("record { other = count }", items, {}, {}, None), {items["count"]})
+
+    def test_names_behind_an_alias(self):
+        found = definitions.used("nat_le 1 limit.workers", {}, {"limit": ("runtime", "specs", "Limits")}, {}, None)
+        self.assertEqual(found, {(("runtime", "specs", "Limits"), "workers")})
+
+
+class Tables(unittest.TestCase):
+    def test_numbers_are_written_for_readers(self):
+        self.assertEqual(crate_pages.value("runtime", "Limits", "input"), "16,777,216")
+        self.assertEqual(crate_pages.value("abi", "Limits", "instructions"), "2^40")
+
+    def test_each_change_is_named_once(self):
+        names = [it.name for it in conformance_page.changes()]
+        self.assertEqual(len(names), len(set(names)))
+
+
+class Links(unittest.TestCase):
+    def test_anchors_are_those_of_code_hosts(self):
+        self.assertEqual(page_links.anchors("# A\n## `run`, and more!\n"), {"a", "run-and-more"})
+
+
+if __name__ == "__main__":
+    unittest.main()
