@@ -1,3 +1,1 @@
 pub mod Replays
-pub mod Runs
-pub mod Texts

@@ -1,93 +1,19 @@
 -- What a replay answers, put together of its parts.
-use Rattle.std.proofs.Common.{◌≡◌, ◌∙◌, inl, inr, ℕ, Option, Result, Ok, Err, List, IfErr, IfOk, ◌<◌, ◌≤◌, ◌&&◌, true, ap, length, nat_le}
+use Rattle.std.proofs.Common.{◌≡◌, inr, ℕ, Option, Result, Ok, Err, List, IfErr, IfOk, ◌<◌, ◌≤◌, ◌&&◌, true, nat_le}
 use Rattle.std.proofs.lemmas.Bool.{and_parts, leb-true}
 use Rattle.std.specs.Io.KnownBytes.{Appends}
 use Rattle.std.specs.Option.{option_map_or}
-use Rattle.std.specs.Result.{IsErrAnd}
 use Rattle.output_files.specs.Content.{Content}
 use Rattle.runtime.specs.Config.{is_valid}
 use Rattle.runtime.specs.Limits as limit
 use Rattle.runtime.specs.Span.{is_span}
 use Rattle.runtime.specs.declared.config.Config.{Config}
-use Rattle.schedule.specs.Phase.{begun, opened}
 use Rattle.schedule.specs.declared.event.Event.{Event}
-use Rattle.schedule_core.proofs.Events.{happen_setup}
-use Rattle.schedule_core.specs.Histories.{IsOutcome}
-use Rattle.schedule_core.specs.Jobs.{jobs_of, start_of}
-use Rattle.schedule_core.specs.Tally.{HappenInTurn, IsRefusedAt, Tally}
-use Rattle.schedule_core.specs.declared.event_fault.EventFault.{EventFault}
-use Rattle.token.specs.Point.{Point}
 use Rattle.token.specs.Setup.{Setup}
 use Rattle.token.specs.declared.outcome.RunOutcome.{RunOutcome}
-use Rattle.command_line.specs.Replays.{AreOf, IsBeginning, IsCut, IsPrinted, IsReplayed, IsTraceAt, IsUnprinted, Replays, failure_at}
-use Rattle.command_line.specs.declared.failure.Failure.{Failure}
-use Rattle.command_line.specs.declared.replay_failure.ReplayFailure.{ReplayFailure}
-use Rattle.command_line.specs.declared.replay_failure.ReplayFailure.TheVariants.{Plain}
-
--- the tally of a run of which nothing has happened
-abbrev pub IsOpened : Point → Tally → ℕ → Type 0
-IsOpened point tally workers = tally ≡ record { turns = 0; counts = opened (length (jobs_of (start_of point))) workers; keeper = begun }
-
-begins : (start before : Point) (old : Tally) (workers : ℕ) → before ≡ start → before.done ≡ 0 → IsOpened before old workers → IsBeginning start.setup workers before old
-begins start before old workers same done opened = record { setup_is = ap (λ (point : Point). point.setup) same; done = done; tally_is = opened }
-
--- the trace is one of what the run was given
-traced : (setup : Setup) (point : Point) (text : List ℕ) → point.setup ≡ setup → IsTraceAt point.setup point text → IsTraceAt setup point text
-traced setup point text same trace = record { setup_is = same; history = trace.history; is = trace.is; text_is = trace.text_is }
-
--- all events happened, and the trace was printed
-pub all_replayed : (start before after : Point) (old new : Tally) (workers : ℕ) (events : List Event) (ended : Option RunOutcome) (output output' : Option (List ℕ))
-    → before ≡ start → before.done ≡ 0 → IsOpened before old workers → HappenInTurn before old events after new → IsOutcome after ended → IsPrinted after output output'
-    → (text : List ℕ) × IsReplayed start.setup workers events ended text × Appends output output' text
-all_replayed start before after old new workers events ended output output' same done opened happened outcome printed =
-    let kept : after.setup ≡ start.setup = happen_setup before old events after new happened ∙ ap (λ (point : Point). point.setup) same in (
-      printed.0,
-      record {
-        before = before;
-        old = old;
-        after = after;
-        new = new;
-        begins = begins start before old workers same done opened;
-        happened = happened;
-        outcome = outcome;
-        trace = traced start.setup after printed.0 kept printed.1;
-      },
-      printed.2,
-    )
-
--- an event was refused, and the trace was printed
-pub cut_at : (start before after : Point) (old new : Tally) (workers : ℕ) (events : List Event) (place : ℕ) (fault : EventFault) (failure : ReplayFailure)
-    (output output' : Option (List ℕ)) → before ≡ start → before.done ≡ 0 → IsOpened before old workers → IsRefusedAt before old events place fault after new
-    → failure ≡ failure_at place fault → IsPrinted after output output' → IsCut start.setup workers events output output' failure
-cut_at start before after old new workers events place fault failure output output' same done opened refused is printed =
-    let kept : after.setup ≡ start.setup = happen_setup before old _ after new refused.happened ∙ ap (λ (point : Point). point.setup) same in
-    inl (
-      place,
-      fault,
-      printed.0,
-      is,
-      record {
-        before = before;
-        old = old;
-        after = after;
-        new = new;
-        begins = begins start before old workers same done opened;
-        refused = refused;
-        trace = traced start.setup after printed.0 kept printed.1;
-      },
-      printed.2,
-    )
-
--- the trace wasn't printed
-cut_unprinted : (setup : Setup) (workers : ℕ) (events : List Event) (failure : Failure) (given : ReplayFailure) (output output' : Option (List ℕ))
-    → IsUnprinted output output' failure → given ≡ Plain failure → IsCut setup workers events output output' given
-cut_unprinted setup workers events failure given output output' (inl failed) is = inr (inl (is ∙ ap Plain failed))
-cut_unprinted setup workers events failure given output output' (inr refused) is = inr (inr (is ∙ ap Plain refused.0, refused.1))
-
-pub unprinted : (setup : Setup) (workers : ℕ) (events : List Event) (failure : Failure) (answer : Result (Option RunOutcome) ReplayFailure) (output output' : Option (List ℕ))
-    → IsUnprinted output output' failure → IsErrAnd answer (λ given. given ≡ Plain failure) → IfErr answer (IsCut setup workers events output output')
-unprinted setup workers events failure (Ok ended) output output' failed given = tt
-unprinted setup workers events failure (Err given) output output' failed is = cut_unprinted setup workers events failure given output output' failed is
+use Rattle.command_replay.specs.Replayed.{IsCut, IsReplayed}
+use Rattle.command_replay.specs.declared.replay_failure.ReplayFailure.{ReplayFailure}
+use Rattle.command_line.specs.Replays.{AreOf, Replays}
 
 -- an accepted configuration has 1 to 64 workers
 pub few_workers : (config : Config) → is_valid config ≡ true → (config.workers ≤ 64) × (0 < config.workers)

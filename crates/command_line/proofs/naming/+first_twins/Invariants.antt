@@ -1,5 +1,0 @@
-use Rattle.std.proofs.Common.{length}
-use Rattle.command_line.proofs.naming.+first_twins.Given as goal
-
-abbrev pub decreases-first_twins : goal.decreases-first_twins
-decreases-first_twins g l = length l.names.now

@@ -1,0 +1,28 @@
+use Rattle.std.proofs.Common.{◌∙◌, inl}
+use Rattle.output_files.specs.Content.{Tells}
+use Rattle.paged_memory.specs.Snapshot.{cells_of}
+use Rattle.command_outputs.proofs.Texts.{all_out, trace_out, where_failed, where_ok}
+use Rattle.command_outputs.proofs.publishing.write_records.Goals as goal
+
+pub returns-in-Ok-clause-out : goal.returns-in-Ok-clause-out
+returns-in-Ok-clause-out g c =
+    where_ok c.write_made.result _ _
+    (λ out turns changes told order.
+    let made = out turns changes told.sharing told.digest order in
+    all_out (Tells g.F.Output.Write.contents) c.args.records.now turns changes c.args.end.outcome c.args.end.output.items (cells_of c.args.end.memory) made.0
+    (g.F.Files.content c.write_trace.new.files) (g.F.Files.content c.write_made.new.files)
+    (g.W.Write.contents c.args.writer.now) (g.W.Write.contents c.write_trace.new.writer) (g.W.Write.contents c.write_made.new.writer)
+    (c.in-Ok.ensures.filed turns told.trace) (c.in-Ok.ensures.printed turns told.trace) c.write_made.ensures.others made.1 made.2 made.3)
+    c.write_made.ensures.out
+
+pub returns-in-Ok-clause-failed : goal.returns-in-Ok-clause-failed
+returns-in-Ok-clause-failed g c =
+    where_failed c.write_made.result _ _
+    (λ failure left turns changes told order.
+    trace_out c.args.records.now turns changes (g.F.Files.content c.args.files.now) (g.F.Files.content c.write_trace.new.files) (g.F.Files.content c.write_made.new.files) failure
+    (c.in-Ok.ensures.filed turns told.trace) c.write_made.ensures.others (left changes told.sharing order))
+    c.write_made.ensures.failed
+
+pub returns-in-Err-clause-failed : goal.returns-in-Err-clause-failed
+returns-in-Err-clause-failed g c = λ turns changes told order.
+    inl (c.in-Err.ensures.failed, λ path file trace report digest. c.abandon_made.ensures.kept path report digest ∙ c.write_trace.ensures.others path file trace)

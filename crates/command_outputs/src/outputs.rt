@@ -1,0 +1,119 @@
+//! The outputs of a run's texts, begun before its first turn.
+ghost use Rattle.std.specs.Prelude.{◌≡◌, ◌⊎◌, ℕ, List, [], IfErr, IfOk, IsNone};
+ghost use Rattle.command_requests.specs.Destination.{Carries, IsPartFor, KeepsButPartFor};
+ghost use Rattle.command_outputs.specs.Records.{AreBegun, AreBegunLast, IsUnwritten, IsUnwrittenTo, KeepsButParts, NamesNone};
+
+use crate::made_outputs::MadeOutputs;
+use command_requests::{Destination, Failure, Place, Records};
+use output_files::Files;
+use std::alloc::Global;
+
+/// The outputs that were begun for the texts of a run.
+#[derive(Drop)]
+pub struct Outputs<O> {
+    /// For the trace.
+    pub trace: Option<O>,
+    /// For the texts that are made when the run has ended.
+    pub made: MadeOutputs<O>,
+}
+
+/// Begins the outputs for the texts that are wanted. Where one can't be begun none is left.
+pub fn begin<'a, F: Files>(
+    alloc: Global,
+    records: &Records<'a>,
+    files: &mut F,
+) -> Result<Outputs<F::Output>, Failure<'a>>
+    ensures begun { IfOk result (λ outputs. AreBegun F.Output.contents records.now outputs) }
+    ensures kept { KeepsButParts records.now (F.content files.old) (F.content files.new) }
+    ensures unnamed { NamesNone records.now → files.new ≡ files.old }
+    ensures failed { IfErr result (IsUnwritten records.now) }
+{
+    let trace = begin_output(alloc, records.trace, files)?;
+    match begin_made(alloc, records, files) {
+        Ok(made) => Ok(Outputs { trace, made }),
+        Err(failure) => {
+            abandon_output(records.trace, trace, files);
+            Err(failure)
+        }
+    }
+}
+
+/// Begins the outputs for the report and for the digest. Where one can't be begun none is left.
+fn begin_made<'a, F: Files>(
+    alloc: Global,
+    records: &Records<'a>,
+    files: &mut F,
+) -> Result<MadeOutputs<F::Output>, Failure<'a>>
+    ensures begun { IfOk result (λ made. AreBegunLast F.Output.contents records.now made) }
+    ensures kept { KeepsButParts records.now (F.content files.old) (F.content files.new) }
+    ensures unnamed { NamesNone records.now → files.new ≡ files.old }
+    ensures failed { IfErr result (λ failure. IsUnwrittenTo records.now.report failure ⊎ IsUnwrittenTo records.now.digest failure) }
+{
+    let report = begin_output(alloc, records.report, files)?;
+    match begin_output(alloc, records.digest, files) {
+        Ok(digest) => Ok(MadeOutputs { report, digest }),
+        Err(failure) => {
+            abandon_output(records.report, report, files);
+            Err(failure)
+        }
+    }
+}
+
+/// Takes away what was begun for the texts of a run that has no answer.
+pub fn abandon<F: Files>(records: &Records<'_>, outputs: Outputs<F::Output>, files: &mut F)
+    ensures kept { KeepsButParts records.now (F.content files.old) (F.content files.new) }
+    ensures unnamed { NamesNone records.now → files.new ≡ files.old }
+{
+    abandon_output(records.trace, outputs.trace, files);
+    abandon_made(records, outputs.made, files);
+}
+
+/// Takes away what was begun for the texts that are made when a run has ended.
+pub fn abandon_made<F: Files>(records: &Records<'_>, made: MadeOutputs<F::Output>, files: &mut F)
+    ensures kept { (path : List ℕ) → ¬ IsPartFor records.now.report path → ¬ IsPartFor records.now.digest path → F.content files.new path ≡ F.content files.old path }
+    ensures unnamed { NamesNone records.now → files.new ≡ files.old }
+{
+    abandon_output(records.report, made.report, files);
+    abandon_output(records.digest, made.digest, files);
+}
+
+/// Begins the output for a destination, where there is one.
+fn begin_output<'a, F: Files>(
+    alloc: Global,
+    destination: Option<Destination<'a>>,
+    files: &mut F,
+) -> Result<Option<F::Output>, Failure<'a>>
+    ensures begun { IfOk result (λ output. Carries F.Output.contents destination.entry output []) }
+    ensures kept { KeepsButPartFor destination.entry (F.content files.old) (F.content files.new) }
+    ensures unnamed { IsNone destination.entry → files.new ≡ files.old }
+    ensures failed { IfErr result (IsUnwrittenTo destination.entry) }
+{
+    match destination {
+        None => Ok(None),
+        Some(Destination::StandardOutput) => match files.begin_aside() {
+            Ok(output) => Ok(Some(output)),
+            Err(fault) => Err(Failure::of_write(Place::StandardOutput, fault)),
+        },
+        Some(Destination::File(path)) => match files.begin(alloc, path) {
+            Ok(output) => Ok(Some(output)),
+            Err(fault) => Err(Failure::of_write(Place::Path(path), fault)),
+        },
+    }
+}
+
+/// Takes away what was begun for a destination.
+pub fn abandon_output<F: Files>(
+    destination: Option<Destination<'_>>,
+    output: Option<F::Output>,
+    files: &mut F,
+)
+    ensures kept { KeepsButPartFor destination.entry (F.content files.old) (F.content files.new) }
+    ensures unnamed { IsNone destination.entry → files.new ≡ files.old }
+{
+    let Some(Destination::File(path)) = destination else {
+        return;
+    };
+    if let Some(output) = output {
+        files.abandon(path, output);
+    }
+}

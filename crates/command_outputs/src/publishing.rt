@@ -1,0 +1,260 @@
+//! A run's texts, put where they are to be.
+ghost use Rattle.std.specs.Prelude.{◌≡◌, ℕ, List, [], IfErr, IfOk, IfSome, IsNone, IsOk, OnOk, Some, is_some};
+ghost use Rattle.std.specs.String.{string_bytes};
+ghost use Rattle.output_files.specs.Content.{Has, Tells};
+ghost use Rattle.paged_memory.specs.Snapshot.{cells_of};
+ghost use Rattle.run_digest.specs.Recording.{Digests};
+ghost use Rattle.run_digest.specs.Texts.{digest_text};
+ghost use Rattle.sharing_report.specs.Recording.{AreInOrder, Shares};
+ghost use Rattle.token.specs.Change.{Change};
+ghost use Rattle.token.specs.declared.turn.Turn.{Turn as TurnRecord};
+ghost use Rattle.tracer.specs.Recording.{Traces};
+ghost use Rattle.tracer.specs.TraceText.{text_of as trace_text_of};
+ghost use Rattle.command_requests.specs.Destination.{Carries, IsFiled, KeepsButFileOf, Prints};
+ghost use Rattle.command_outputs.specs.Recorders.{AreFor, AreTold};
+ghost use Rattle.command_outputs.specs.Records.{AreBegunLast, AreOut, AreOutLast, AreTextsOf, AreUnwritten, AreUnwrittenLast, IsReportOf, IsUnwrittenTo, KeepsButMade, NamesNone, Texts};
+
+use crate::ended::Ended;
+use crate::made_outputs::MadeOutputs;
+use crate::outputs::{abandon_made, abandon_output};
+use crate::text_recorders::TextRecorders;
+use crate::trace_failure::failure_of_turn;
+use command_requests::{Destination, Failure, Place, Records};
+use output_files::Files;
+use run_digest::DigestRecorder;
+use sharing_report::{SharingRecorder, report_text};
+use std::alloc::{AllocError, Global};
+use std::io::Write;
+use tracer::TraceRecorder;
+
+/// Puts the texts of a run that ended so where they are to be, the trace first. After a failure nothing more is written.
+pub fn write_records<'a, F: Files, W: Write>(
+    alloc: Global,
+    records: &Records<'a>,
+    recorders: TextRecorders<F::Output>,
+    made: MadeOutputs<F::Output>,
+    end: Ended,
+    files: &mut F,
+    writer: &mut W,
+) -> Result<(), Failure<'a>>
+    requires wanted { AreFor records.now recorders }
+    requires begun { AreBegunLast F.Output.contents records.now made }
+    ensures out { OnOk result ((turns : List TurnRecord) (changes : List Change) → AreTold F.Output.contents recorders turns changes → AreInOrder changes
+        → (texts : Texts) × AreTextsOf records.now turns changes end.outcome end.output.items (cells_of end.memory) texts
+        × AreOut (Tells F.Output.contents) records.now texts (F.content files.new) (W.contents writer.old) (W.contents writer.new)) }
+    ensures unnamed { NamesNone records.now → files.new ≡ files.old }
+    ensures failed { IfErr result (λ failure. (turns : List TurnRecord) (changes : List Change) → AreTold F.Output.contents recorders turns changes → AreInOrder changes
+        → AreUnwritten records.now turns changes (F.content files.old) (F.content files.new) failure) }
+{
+    let TextRecorders {
+        trace,
+        sharing,
+        digest,
+    } = recorders;
+    match write_trace(records.trace, trace, files, writer) {
+        Ok(()) => write_made(alloc, records, sharing, digest, made, end, files, writer),
+        Err(failure) => {
+            abandon_made(records, made, files);
+            Err(failure)
+        }
+    }
+}
+
+/// Puts the texts that are made when a run has ended where they are to be, the report first.
+fn write_made<'a, F: Files, W: Write>(
+    alloc: Global,
+    records: &Records<'a>,
+    sharing: Option<SharingRecorder>,
+    digest: Option<DigestRecorder>,
+    made: MadeOutputs<F::Output>,
+    end: Ended,
+    files: &mut F,
+    writer: &mut W,
+) -> Result<(), Failure<'a>>
+    requires report { is_some sharing ≡ is_some records.now.report }
+    requires digest { is_some digest ≡ is_some records.now.digest }
+    requires begun { AreBegunLast F.Output.contents records.now made }
+    ensures out { OnOk result ((turns : List TurnRecord) (changes : List Change) → IfSome sharing (λ sharing. Shares sharing changes) → IfSome digest (λ digest. Digests digest turns)
+        → AreInOrder changes → (texts : Texts) × (texts.trace ≡ trace_text_of turns) × AreTextsOf records.now turns changes end.outcome end.output.items (cells_of end.memory) texts
+        × AreOutLast (Tells F.Output.contents) records.now texts (F.content files.new) (W.contents writer.old) (W.contents writer.new)) }
+    ensures others { KeepsButMade records.now (F.content files.old) (F.content files.new) }
+    ensures unnamed { NamesNone records.now → files.new ≡ files.old }
+    ensures failed { IfErr result (λ failure. (changes : List Change) → IfSome sharing (λ sharing. Shares sharing changes) → AreInOrder changes
+        → AreUnwrittenLast records.now changes (F.content files.new) failure) }
+{
+    let text = report_of(alloc, &sharing);
+    match write_text(records.report, made.report, text, files, writer) {
+        Ok(()) => {
+            let text = digest_of(alloc, digest, end);
+            write_text(records.digest, made.digest, text, files, writer)
+        }
+        Err(failure) => {
+            abandon_output(records.digest, made.digest, files);
+            Err(failure)
+        }
+    }
+}
+
+/// The text of the report, where it is wanted.
+fn report_of(alloc: Global, sharing: &Option<SharingRecorder>) -> Result<String, AllocError>
+    ensures { IfOk result (λ text. IfSome sharing.now (λ sharing. (changes : List Change) → Shares sharing changes → AreInOrder changes → IsReportOf changes (string_bytes text))) }
+{
+    match sharing {
+        Some(sharing) => report_text(alloc, &sharing.rows()?),
+        None => Ok(String::new(alloc)),
+    }
+}
+
+/// The text of the digest of a run that ended so, where it is wanted.
+fn digest_of(
+    alloc: Global,
+    digest: Option<DigestRecorder>,
+    end: Ended,
+) -> Result<String, AllocError>
+    ensures { IfOk result (λ text. IfSome digest (λ digest. (turns : List TurnRecord) → Digests digest turns
+        → string_bytes text ≡ digest_text end.outcome end.output.items (cells_of end.memory) (trace_text_of turns))) }
+{
+    match digest {
+        Some(digest) => digest.finish(alloc, end.outcome, end.output.as_slice(), &end.memory),
+        None => Ok(String::new(alloc)),
+    }
+}
+
+/// Writes out the rest of a trace, and puts it where it is to be.
+fn write_trace<'a, F: Files, W: Write>(
+    destination: Option<Destination<'a>>,
+    recorder: Option<TraceRecorder<F::Output>>,
+    files: &mut F,
+    writer: &mut W,
+) -> Result<(), Failure<'a>>
+    requires { is_some recorder ≡ is_some destination }
+    ensures filed { OnOk result ((turns : List TurnRecord) → IfSome recorder (λ recorder. Traces F.Output.contents recorder turns)
+        → IsFiled destination.entry (trace_text_of turns) (F.content files.new)) }
+    ensures printed { OnOk result ((turns : List TurnRecord) → IfSome recorder (λ recorder. Traces F.Output.contents recorder turns)
+        → Prints (Tells F.Output.contents) destination.entry (trace_text_of turns) (W.contents writer.old) (W.contents writer.new)) }
+    ensures others { KeepsButFileOf destination.entry (F.content files.old) (F.content files.new) }
+    ensures unnamed { IsNone destination.entry → files.new ≡ files.old }
+    ensures failed { IfErr result (IsUnwrittenTo destination.entry) }
+{
+    let Some(recorder) = recorder else {
+        return Ok(());
+    };
+    let Some(destination) = destination else {
+        return Ok(());
+    };
+    let mut recorder = recorder;
+    match recorder.finish() {
+        Ok(()) => publish(
+            Some(destination),
+            Some(recorder.into_writer()),
+            files,
+            writer,
+        ),
+        Err(fault) => {
+            abandon_output(Some(destination), Some(recorder.into_writer()), files);
+            Err(failure_of_turn(destination.place(), fault))
+        }
+    }
+}
+
+/// Puts a text where it is to be, which was made where it is wanted.
+fn write_text<'a, F: Files, W: Write>(
+    destination: Option<Destination<'a>>,
+    output: Option<F::Output>,
+    text: Result<String, AllocError>,
+    files: &mut F,
+    writer: &mut W,
+) -> Result<(), Failure<'a>>
+    requires { Carries F.Output.contents destination output [] }
+    ensures made { OnOk result (IsOk text) }
+    ensures filed { OnOk result (IfOk text (λ text. IsFiled destination.entry (string_bytes text) (F.content files.new))) }
+    ensures printed { OnOk result (IfOk text (λ text. Prints (Tells F.Output.contents) destination.entry (string_bytes text) (W.contents writer.old) (W.contents writer.new))) }
+    ensures others { KeepsButFileOf destination.entry (F.content files.old) (F.content files.new) }
+    ensures unnamed { IsNone destination.entry → files.new ≡ files.old }
+    ensures failed { IfErr result (IsUnwrittenTo destination.entry) }
+{
+    let text = match text {
+        Ok(text) => text,
+        Err(refused) => {
+            abandon_output(destination, output, files);
+            return Err(Failure::from(refused));
+        }
+    };
+    let Some(output) = output else {
+        return Ok(());
+    };
+    let Some(destination) = destination else {
+        return Ok(());
+    };
+    put(destination, output, &text, files, writer)
+}
+
+/// Puts a text into the output that was begun for it, and that where it is to be.
+fn put<'a, F: Files, W: Write>(
+    destination: Destination<'a>,
+    output: F::Output,
+    text: &String,
+    files: &mut F,
+    writer: &mut W,
+) -> Result<(), Failure<'a>>
+    requires { Has F.Output.contents output [] }
+    ensures filed { OnOk result (IsFiled (Some destination.entry) (string_bytes text.now) (F.content files.new)) }
+    ensures printed { OnOk result (Prints (Tells F.Output.contents) (Some destination.entry) (string_bytes text.now) (W.contents writer.old) (W.contents writer.new)) }
+    ensures others { KeepsButFileOf (Some destination.entry) (F.content files.old) (F.content files.new) }
+    ensures failed { IfErr result (IsUnwrittenTo (Some destination.entry)) }
+{
+    let mut output = output;
+    match write_whole(destination, &mut output, text.as_bytes()) {
+        Ok(()) => publish(Some(destination), Some(output), files, writer),
+        Err(failure) => {
+            abandon_output(Some(destination), Some(output), files);
+            Err(failure)
+        }
+    }
+}
+
+/// Writes a text into an output.
+fn write_whole<'a, O: Write>(
+    destination: Destination<'a>,
+    output: &mut O,
+    text: &[u8],
+) -> Result<(), Failure<'a>>
+    requires { Has O.contents output.old [] }
+    ensures whole { OnOk result (Has O.contents output.new text.now) }
+    ensures failed { IfErr result (IsUnwrittenTo (Some destination.entry)) }
+{
+    match output.write_all(text) {
+        Ok(()) => Ok(()),
+        Err(_) => Err(Failure::CannotWrite(destination.place())),
+    }
+}
+
+/// Puts an output, which is whole, where it is to be.
+pub fn publish<'a, F: Files, W: Write>(
+    destination: Option<Destination<'a>>,
+    output: Option<F::Output>,
+    files: &mut F,
+    writer: &mut W,
+) -> Result<(), Failure<'a>>
+    ensures filed { OnOk result ((text : List ℕ) → Carries F.Output.contents destination.entry output text → IsFiled destination.entry text (F.content files.new)) }
+    ensures printed { OnOk result ((text : List ℕ) → Carries F.Output.contents destination.entry output text
+        → Prints (Tells F.Output.contents) destination.entry text (W.contents writer.old) (W.contents writer.new)) }
+    ensures others { KeepsButFileOf destination.entry (F.content files.old) (F.content files.new) }
+    ensures unnamed { IsNone destination.entry → files.new ≡ files.old }
+    ensures failed { IfErr result (IsUnwrittenTo destination.entry) }
+{
+    let Some(output) = output else {
+        return Ok(());
+    };
+    match destination {
+        None => Ok(()),
+        Some(Destination::StandardOutput) => match files.copy(output, writer) {
+            Ok(()) => Ok(()),
+            Err(fault) => Err(Failure::of_write(Place::StandardOutput, fault)),
+        },
+        Some(Destination::File(path)) => match files.finish(path, output) {
+            Ok(()) => Ok(()),
+            Err(fault) => Err(Failure::of_write(Place::Path(path), fault)),
+        },
+    }
+}

@@ -1,0 +1,4 @@
+pub mod Destination
+pub mod Names
+pub mod Reading
+pub mod Status

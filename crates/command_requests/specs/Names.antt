@@ -1,0 +1,40 @@
+-- The files that the arguments of a run name.
+use Rattle.std.specs.Borrow.{Bor}
+use Rattle.std.specs.Prelude.{◌≡◌, ◌≢◌, ◌⊎◌, ℕ, Bool, not, ◌&&◌, if◌then◌else◌, Option, Some, None, List, [], ◌∷◌, ◌++◌, All, Contains, nat_eq, codes}
+use Rattle.std.specs.Cmp.Lexicographic.{pointwise}
+use Rattle.std.specs.List.{starts_with}
+use Rattle.output_files.specs.Names.{text_of}
+use Rattle.output_files.specs.declared.file_name.FileName.{FileName}
+use Rattle.output_files.specs.declared.file_name.FileName.TheVariants.{At, PartOf}
+use Rattle.command_requests.specs.declared.destination.Destination.{Destination}
+use Rattle.command_requests.specs.declared.destination.Destination.TheVariants.{StandardOutput, File}
+use Rattle.command_requests.specs.declared.records.Records.{Records}
+
+-- whether a path is one of those of which each names a file of its own: neither standard output nor below /dev/
+abbrev pub counts : List ℕ → Bool
+counts path = not (pointwise nat_eq path (codes "-")) && not (starts_with nat_eq path (codes "/dev/"))
+
+-- the names of the file of a destination and of its part, where that file counts
+abbrev pub names_in : Option Destination → List FileName
+names_in None = []
+names_in (Some StandardOutput) = []
+names_in (Some (File path)) = if counts path.now then At path ∷ PartOf path ∷ [] else []
+
+-- the names of the files of a run: of the program, where it counts, of the files for the texts, and of their parts
+abbrev pub names_of : Bor (List ℕ) → Records → List FileName
+names_of file records =
+    (if counts file.now then At file ∷ [] else []) ++ (names_in records.trace ++ (names_in records.report ++ names_in records.digest))
+
+-- a name is written unlike each of some others
+abbrev pub IsUnlike : FileName → List FileName → Type 0
+IsUnlike name others = All (λ other. text_of name ≢ text_of other) others
+
+-- no two of some names are written alike
+abbrev pub AreUnlike : List FileName → Type 0
+AreUnlike [] = Unit {0}
+AreUnlike (name ∷ others) = IsUnlike name others × AreUnlike others
+
+-- of two names, the first stands before the second among some names
+abbrev pub Stand : FileName → FileName → List FileName → Type 0
+Stand one other [] = ⊥
+Stand one other (name ∷ others) = ((one ≡ name) × Contains others other) ⊎ Stand one other others

@@ -1,0 +1,27 @@
+-- What was read of a file or of standard input, and why it was not.
+use Rattle.std.specs.Prelude.{◌≡◌, ◌⊎◌, ℕ, ◌+◌, Option, List, IfSome, take}
+use Rattle.command_requests.specs.declared.failure.Failure.{Failure}
+use Rattle.command_requests.specs.declared.failure.Failure.TheVariants.{NotText, OneFile, OutsideRange, ElfRefused, InputTooLarge, CannotRead, CannotWrite, OutOfMemory}
+use Rattle.command_requests.specs.declared.place.Place.{Place}
+use Rattle.command_requests.specs.declared.place.Place.TheVariants.{Path, StandardInput, StandardOutput}
+
+-- whether a place is the file at a path
+abbrev pub IsAt : List ℕ → Place → Type 0
+IsAt path (Path other) = other.now ≡ path
+IsAt path StandardInput = ⊥
+IsAt path StandardOutput = ⊥
+
+-- bytes that were read up to a limit, of all that there are where these are known
+abbrev pub AreRead : ℕ → Option (List ℕ) → List ℕ → Type 0
+AreRead limit known bytes = IfSome known (λ all. bytes ≡ take (limit + 1) all)
+
+-- the bytes of a file or of the input could not be read
+abbrev pub IsUnread : List ℕ → Failure → Type 0
+IsUnread path (CannotRead place) = IsAt path place ⊎ (place ≡ StandardInput)
+IsUnread path OutOfMemory = Unit {0}
+IsUnread path OutsideRange = ⊥
+IsUnread path InputTooLarge = ⊥
+IsUnread path (ElfRefused fault) = ⊥
+IsUnread path NotText = ⊥
+IsUnread path (OneFile one other) = ⊥
+IsUnread path (CannotWrite place) = ⊥

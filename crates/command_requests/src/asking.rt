@@ -1,0 +1,21 @@
+//! What the arguments of a command line ask for, or the line and the status if they ask for nothing.
+use crate::command_line::parse;
+use crate::refusing::refuse;
+use crate::request::Request;
+use std::alloc::Global;
+use std::convert::AsStr;
+use std::io::Write;
+
+/// What the arguments of a command line ask for, the program's name being the first. Where they ask for nothing, it tells why and
+/// answers the status that the program ends with.
+pub fn asked<'a, S: AsStr, W: Write, E: Write>(
+    alloc: Global,
+    arguments: &'a [S],
+    stdout: &mut W,
+    stderr: &mut E,
+) -> Result<Request<'a>, u8> {
+    match parse(alloc, arguments) {
+        Ok(request) => Ok(request),
+        Err(error) => Err(refuse(&error, stdout, stderr)),
+    }
+}

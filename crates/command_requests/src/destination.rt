@@ -1,0 +1,36 @@
+//! Where a text goes: standard output, or a file.
+use crate::place::Place;
+
+/// Where a text goes that a run leaves beside its outcome.
+#[derive(Clone, Copy)]
+pub enum Destination<'a> {
+    /// Standard output, after the guest's output.
+    StandardOutput,
+    /// The file at this path.
+    File(&'a str),
+}
+
+impl<'a> Destination<'a> {
+    ghost use Rattle.std.specs.Prelude.{◌≡◌};
+    ghost use Rattle.command_requests.specs.Destination.{destination_of, place_of};
+
+    /// The destination that an argument names: standard output is `-`.
+    pub fn named(argument: &'a str) -> Self
+        ensures { result ≡ destination_of argument.entry }
+    {
+        match argument {
+            "-" => Destination::StandardOutput,
+            path => Destination::File(path),
+        }
+    }
+
+    /// What a text for it is written to.
+    pub fn place(self) -> Place<'a>
+        ensures { result ≡ place_of self.entry }
+    {
+        match self {
+            Destination::StandardOutput => Place::StandardOutput,
+            Destination::File(path) => Place::Path(path),
+        }
+    }
+}

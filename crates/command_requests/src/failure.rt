@@ -1,0 +1,84 @@
+//! The failures of a command: the line on standard error, and the status.
+ghost use Rattle.std.specs.Prelude.{◌≡◌};
+
+use crate::place::Place;
+use elf32_reader::ElfFault;
+use output_files::{FileName, ReadFault, WriteFault};
+use std::alloc::AllocError;
+use thiserror::Error;
+
+/// Why a request was not done. Its text is the line for the user.
+#[derive(Clone, Copy, Debug, Error)]
+pub enum Failure<'a> {
+    /// The arguments of the command line are not all text.
+    #[error("error: invalid UTF-8 was detected in one or more arguments")]
+    NotText,
+    /// Two arguments name one file.
+    #[error("error: {0} and {1} name one file")]
+    OneFile(FileName<'a>, FileName<'a>),
+    /// A number of the run is outside its range.
+    #[error("error: a number is outside its range")]
+    OutsideRange,
+    /// The file is not a program that can be run.
+    #[error("elf refused: {0}")]
+    ElfRefused(ElfFault),
+    /// The guest's input is over its limit.
+    #[error("input too large")]
+    InputTooLarge,
+    #[error("cannot read {0}")]
+    CannotRead(Place<'a>),
+    #[error("cannot write {0}")]
+    CannotWrite(Place<'a>),
+    #[error("out of memory")]
+    OutOfMemory,
+}
+
+impl<'a> Failure<'a> {
+    /// The failure that a fault of a read from this place is.
+    pub fn of_read(place: Place<'a>, fault: ReadFault) -> Self
+        ensures failed { fault ≡ ReadFault.ReadFailed → result ≡ Failure.CannotRead place.entry }
+        ensures memory { fault ≡ ReadFault.OutOfMemory → result ≡ Failure.OutOfMemory }
+    {
+        match fault {
+            ReadFault::ReadFailed => Failure::CannotRead(place),
+            ReadFault::OutOfMemory => Failure::OutOfMemory,
+        }
+    }
+
+    /// The failure that a fault of a write to this place is.
+    pub fn of_write(place: Place<'a>, fault: WriteFault) -> Self
+        ensures failed { fault ≡ WriteFault.WriteFailed → result ≡ Failure.CannotWrite place.entry }
+        ensures memory { fault ≡ WriteFault.OutOfMemory → result ≡ Failure.OutOfMemory }
+    {
+        match fault {
+            WriteFault::WriteFailed => Failure::CannotWrite(place),
+            WriteFault::OutOfMemory => Failure::OutOfMemory,
+        }
+    }
+}
+
+impl Failure<'_> {
+    ghost use Rattle.command_requests.specs.Status.{failure_status};
+
+    /// The status that the program ends with: 2 for wrong arguments, and else 123 to 125.
+    pub fn status(&self) -> u8
+        ensures { result ≡ failure_status self.now }
+    {
+        match self {
+            Failure::NotText | Failure::OneFile(..) | Failure::OutsideRange => 2,
+            Failure::ElfRefused(_) => 123,
+            Failure::InputTooLarge | Failure::CannotRead(_) | Failure::CannotWrite(_) => 124,
+            Failure::OutOfMemory => 125,
+        }
+    }
+}
+
+impl From<AllocError> for Failure<'_> {
+    ghost use Rattle.command_requests.specs.declared.failure.Failure.TheVariants.{OutOfMemory};
+
+    ghost from_gives = { λ _ failure. failure ≡ OutOfMemory };
+
+    fn from(_error: AllocError) -> Self {
+        Failure::OutOfMemory
+    }
+}

@@ -1,0 +1,30 @@
+//! What a command line asks for: requests, the names in them, and where outputs go.
+#![tactic(auto)]
+
+mod arguments;
+mod asking;
+mod command_line;
+mod destination;
+mod failing;
+mod failure;
+mod limits;
+mod naming;
+mod numbers;
+mod place;
+mod printing;
+mod records;
+mod refusing;
+mod request;
+
+pub use arguments::arguments_of;
+pub use asking::asked;
+pub use destination::Destination;
+pub use failing::fail;
+pub use failure::Failure;
+pub use limits::{MAX_BOUND, MAX_WORKERS};
+pub use naming::named_twice;
+pub use numbers::Numbers;
+pub use place::Place;
+pub use printing::print;
+pub use records::Records;
+pub use request::Request;

@@ -1,0 +1,122 @@
+//! Whether two arguments of a run name one file.
+ghost use Rattle.std.specs.Prelude.{◌≡◌, ◌++◌, true, None, Contains, IfErr, IfOk, IfSome, OnOk};
+ghost use Rattle.output_files.specs.Names.{text_of};
+ghost use Rattle.command_requests.specs.Names.{counts, names_in, names_of, IsUnlike, AreUnlike, Stand};
+
+use crate::destination::Destination;
+use crate::failure::Failure;
+use crate::place::Place;
+use crate::records::Records;
+use output_files::{FileName, Files};
+use std::alloc::{AllocError, Global};
+
+/// Two names of one file among those of the program, of the files for the texts and of their parts, where there are
+/// two. Standard output and what is below `/dev/` don't count.
+pub fn named_twice<'a, F: Files>(
+    alloc: Global,
+    file: &'a str,
+    records: &Records<'a>,
+    files: &F,
+) -> Result<Option<(FileName<'a>, FileName<'a>)>, Failure<'a>>
+    ensures none { IfOk result (λ twins. twins ≡ None → AreUnlike (names_of file.entry records.now)) }
+    ensures some { IfOk result (λ twins. IfSome twins (λ two. Stand two.0 two.1 (names_of file.entry records.now))) }
+    ensures err { IfErr result (λ failure. failure ≡ Failure.OutOfMemory) }
+{
+    let names = names_of(alloc, file, records)?;
+    first_twins(alloc, names.as_slice(), files)
+}
+
+/// The names of the files of a run.
+fn names_of<'a>(
+    alloc: Global,
+    file: &'a str,
+    records: &Records<'a>,
+) -> Result<Vec<FileName<'a>>, AllocError>
+    ensures { IfOk result (λ names. names.items ≡ names_of file.entry records.now) }
+{
+    let mut names = Vec::new(alloc);
+    if is_counted(file) {
+        names.push(FileName::At(file))?;
+    }
+    add_names(records.trace, &mut names)?;
+    add_names(records.report, &mut names)?;
+    add_names(records.digest, &mut names)?;
+    Ok(names)
+}
+
+/// Adds the names of the file of a destination and of its part.
+fn add_names<'a>(
+    destination: Option<Destination<'a>>,
+    names: &mut Vec<FileName<'a>>,
+) -> Result<(), AllocError>
+    ensures { OnOk result (names.new.items ≡ names.old.items ++ names_in destination.entry) }
+{
+    if let Some(Destination::File(path)) = destination
+        && is_counted(path)
+    {
+        names.push(FileName::At(path))?;
+        names.push(FileName::PartOf(path))?;
+    }
+    Ok(())
+}
+
+/// Whether a path is one of those of which each names a file of its own.
+fn is_counted(path: &str) -> bool
+    ensures { result ≡ counts path.now }
+{
+    path != "-" && !path.as_bytes().starts_with(b"/dev/")
+}
+
+/// The first two of these names that are of one file.
+fn first_twins<'a, F: Files>(
+    alloc: Global,
+    names: &[FileName<'a>],
+    files: &F,
+) -> Result<Option<(FileName<'a>, FileName<'a>)>, Failure<'a>>
+    ensures none { IfOk result (λ twins. twins ≡ None → AreUnlike names.now) }
+    ensures some { IfOk result (λ twins. IfSome twins (λ two. Stand two.0 two.1 names.now)) }
+    ensures err { IfErr result (λ failure. failure ≡ Failure.OutOfMemory) }
+{
+    let [name, others @ ..] = names else {
+        return Ok(None);
+    };
+    match twin_of(alloc, *name, others, files)? {
+        Some(twin) => Ok(Some((*name, twin))),
+        None => first_twins(alloc, others, files),
+    }
+}
+
+/// The first of these names that is of the same file as this one.
+fn twin_of<'a, F: Files>(
+    alloc: Global,
+    name: FileName<'a>,
+    others: &[FileName<'a>],
+    files: &F,
+) -> Result<Option<FileName<'a>>, Failure<'a>>
+    ensures none { IfOk result (λ twin. twin ≡ None → IsUnlike name.entry others.now) }
+    ensures some { IfOk result (λ twin. IfSome twin (λ other. Contains others.now other)) }
+    ensures err { IfErr result (λ failure. failure ≡ Failure.OutOfMemory) }
+{
+    for other in others {
+        if is_one_file(alloc, name, *other, files)? {
+            return Ok(Some(*other));
+        }
+    }
+    Ok(None)
+}
+
+/// Whether two names are of one file.
+fn is_one_file<'a, F: Files>(
+    alloc: Global,
+    name: FileName<'a>,
+    other: FileName<'a>,
+    files: &F,
+) -> Result<bool, Failure<'a>>
+    ensures alike { text_of name.entry ≡ text_of other.entry → IfOk result (λ is_one. is_one ≡ true) }
+    ensures failed { IfErr result (λ failure. failure ≡ Failure.OutOfMemory) }
+{
+    match files.is_one_file(alloc, name, other) {
+        Ok(is_one) => Ok(is_one),
+        Err(fault) => Err(Failure::of_write(Place::Path(name.path()), fault)),
+    }
+}

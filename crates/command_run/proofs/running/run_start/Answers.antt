@@ -1,0 +1,20 @@
+use Rattle.std.proofs.Common.{inl, refl}
+use Rattle.std.proofs.KnownBytes.{Appends-kept}
+use Rattle.token.specs.RunInTurn.{point_of}
+use Rattle.command_outputs.specs.Recorders.{AreTold}
+use Rattle.command_run.proofs.Runs.{all_sent, stopped_by}
+use Rattle.command_run.proofs.running.run_start.Goals as goal
+use Rattle.command_run.proofs.running.run_start.Goals.{in-Ok+in-Ok-finish, in-Ok+in-Err-finish, in-Err}
+
+-- all of the output was put out before the last flush failed
+pub returns-clause-stopped : goal.returns-clause-stopped
+returns-clause-stopped g c = elim c.match-result.branch [
+  | in-Ok+in-Ok-finish w ↦ rw w.result-is tt
+  | in-Ok+in-Err-finish w ↦ rw (w.result-is, w.stdout-is) (
+    inl refl,
+    all_sent (AreTold g.O.Write.contents) (point_of c.args.start).setup w.in-Ok.end c.run_wanted-run.result.recorder _ _
+        (rw w.in-Ok.is at c.run_wanted-run.ensures.ended) (Appends-kept _ _ _ _ (rw w.in-Ok.is at c.run_wanted-run.ensures.sent) w.finish.ensures.bytes),
+  )
+  | in-Err w ↦ rw (w.result-is, w.stdout-is, w.failure_of_run.ensures)
+      (stopped_by c.args.trace (point_of c.args.start).setup w.in-Err.fault _ _ (rw w.in-Err.is at c.run_wanted-run.ensures.fault) (rw w.in-Err.is at c.run_wanted-run.ensures.sent))
+]

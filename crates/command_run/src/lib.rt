@@ -1,0 +1,9 @@
+//! The command run, over any files and streams.
+#![tactic(auto)]
+
+mod performing;
+mod run_failure;
+mod running;
+
+pub use performing::run_file;
+pub use running::open_bytes;

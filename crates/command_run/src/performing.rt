@@ -1,0 +1,99 @@
+//! Runs of files, with their texts put where they are to be.
+ghost use Rattle.std.specs.Prelude.{◌≡◌, ◌+◌, ◌-◌, ◌^◌, ◌<◌, []};
+ghost use Rattle.output_files.specs.Content.{Tells};
+ghost use Rattle.output_files.specs.Taken.{TakesAtMost};
+ghost use Rattle.runtime.specs.Limits as limit;
+ghost use Rattle.command_outputs.specs.Records.{NamesNone};
+ghost use Rattle.token.specs.RunInTurn.{point_of};
+ghost use Rattle.command_run.specs.Serves.{Concludes, RunsInto};
+
+use crate::running::{Ran, open_file, run_start};
+use command_outputs::{Ended, Outputs, TextRecorders, abandon, begin, write_records};
+use command_requests::{Failure, Records, named_twice};
+use output_files::Files;
+use runtime::{Config, RunOutcome, Start, WriteSink};
+use std::alloc::Global;
+use std::io::{Read, Write};
+use std::sync::Wait;
+use std::thread::Threads;
+use token::one_history;
+
+/// Runs the program of a file, and puts its output and its texts where they are to be, unless two arguments name one
+/// file.
+pub fn run_file<'a, H: Threads + Wait + Sync, F: Files, R: Read, W: Write>(
+    rt: &H,
+    alloc: Global,
+    file: &'a str,
+    config: &Config,
+    records: &Records<'a>,
+    files: &mut F,
+    stdin: &mut R,
+    stdout: &mut WriteSink<W>,
+) -> Result<RunOutcome, Failure<'a>>
+    requires { stdout.old.failures < 2 ^ 64 - 1 }
+    ensures input { TakesAtMost (limit.input + 1) (R.remaining stdin.old) (R.remaining stdin.new) }
+    ensures answer { RunsInto (Tells F.Output.contents) (F.content files.old) (F.content files.new) (R.remaining stdin.old)
+        (W.contents stdout.old.writer) (W.contents stdout.new.writer) file.now config.now records.now result }
+    ensures unnamed { NamesNone records.now → files.new ≡ files.old }
+{
+    if let Some((one, other)) = named_twice(alloc, file, records, files)? {
+        return Err(Failure::OneFile(one, other));
+    }
+    let start = open_file(alloc, file, config, files, stdin)?;
+    run_opened_file(rt, alloc, start, config.workers, records, files, stdout)
+}
+
+/// Does all turns of a run, and puts its output and its texts where they are to be.
+fn run_opened_file<'a, H: Threads + Wait + Sync, F: Files, W: Write>(
+    rt: &H,
+    alloc: Global,
+    start: Start,
+    workers: u32,
+    records: &Records<'a>,
+    files: &mut F,
+    stdout: &mut WriteSink<W>,
+) -> Result<RunOutcome, Failure<'a>>
+    requires output { (point_of start).state.output ≡ [] }
+    requires failures { stdout.old.failures < 2 ^ 64 - 1 }
+    ensures answer { Concludes (Tells F.Output.contents) records.now (F.content files.old) (F.content files.new)
+        (W.contents stdout.old.writer) (W.contents stdout.new.writer) (point_of start).setup result }
+    ensures unnamed { NamesNone records.now → files.new ≡ files.old }
+{
+    one_history();
+    let Outputs { trace, made } = begin(alloc, records, files)?;
+    let recorders = TextRecorders::new(alloc, records, trace);
+    let Ran { result, recorders } = run_start(
+        rt,
+        alloc,
+        start,
+        workers,
+        records.trace,
+        recorders,
+        stdout,
+    );
+    match result {
+        Ok(end) => {
+            let outcome = end.outcome;
+            let ended = Ended {
+                outcome: end.outcome,
+                output: end.output,
+                memory: end.memory,
+            };
+            write_records(
+                alloc,
+                records,
+                recorders,
+                made,
+                ended,
+                files,
+                &mut stdout.writer,
+            )?;
+            Ok(outcome)
+        }
+        Err(failure) => {
+            let trace = recorders.into_trace_output();
+            abandon(records, Outputs { trace, made }, files);
+            Err(failure)
+        }
+    }
+}

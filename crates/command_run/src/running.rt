@@ -1,0 +1,150 @@
+//! The command `run`: opens a file and its input, and runs them to their end.
+ghost use Rattle.std.specs.Prelude.{◌≡◌, ◌+◌, ◌-◌, ◌^◌, ◌<◌, [], IfErr, IfOk, is_some};
+ghost use Rattle.std.specs.Io.KnownBytes.{Appends};
+ghost use Rattle.output_files.specs.Taken.{TakesAtMost};
+ghost use Rattle.runtime.specs.Faults.{IsUnderWay};
+ghost use Rattle.runtime.specs.Limits as limit;
+ghost use Rattle.runtime.specs.Recorded.{Ends};
+ghost use Rattle.runtime.specs.Sending.{SendsEnd};
+ghost use Rattle.token.specs.RunInTurn.{point_of};
+ghost use Rattle.command_outputs.specs.Recorders.{AreSame, AreTold};
+ghost use Rattle.command_run.specs.Serves.{AreRun, IsOpenedFrom, IsRefused, IsStopped, IsUnrun};
+
+use crate::run_failure::{failure_of, failure_of_run};
+use command_outputs::TextRecorders;
+use command_requests::{Destination, Failure, Place};
+use elf32_reader::FILE_LIMIT;
+use output_files::{Files, read_upto};
+use runtime::{
+    Both, Config, MAX_INPUT, OpenGate, RecordedRun, RunEnd, Start, WriteSink, open_run, run_opened,
+};
+use std::alloc::Global;
+use std::io::{Read, Write};
+use std::marker::Brand;
+use std::sync::Wait;
+use std::thread::Threads;
+use token::{IsWanted, Wanted};
+
+/// How a run ended, or why it didn't, and what recorded its texts.
+#[derive(Drop)]
+pub struct Ran<'a, O> {
+    /// How it ended, and what it left.
+    pub result: Result<RunEnd, Failure<'a>>,
+    /// The recorders, which were told of each turn.
+    pub recorders: TextRecorders<O>,
+}
+
+/// The run of the program of a file on the bytes of `stdin`, of which no turn is done.
+pub fn open_file<'a, F: Files, R: Read>(
+    alloc: Global,
+    file: &'a str,
+    config: &Config,
+    files: &F,
+    stdin: &mut R,
+) -> Result<Start, Failure<'a>>
+    ensures input { TakesAtMost (limit.input + 1) (R.remaining stdin.old) (R.remaining stdin.new) }
+    ensures opened { IfOk result (λ start. AreRun (F.content files.now file.now) (R.remaining stdin.old) (IsOpenedFrom config.now start)) }
+    ensures output { IfOk result (λ start. (point_of start).state.output ≡ []) }
+    ensures failed { IfErr result (IsUnrun file.now (F.content files.now file.now) (R.remaining stdin.old) config.now) }
+{
+    let elf = match files.read(alloc, file, FILE_LIMIT) {
+        Ok(elf) => elf,
+        Err(fault) => return Err(Failure::of_read(Place::Path(file), fault)),
+    };
+    let input = match read_upto(alloc, stdin, MAX_INPUT) {
+        Ok(input) => input,
+        Err(fault) => return Err(Failure::of_read(Place::StandardInput, fault)),
+    };
+    open_bytes(alloc, elf.as_slice(), input.as_slice(), config)
+}
+
+/// The run of the program that the bytes of a file are, of which no turn is done.
+pub fn open_bytes<'a>(
+    alloc: Global,
+    elf: &[u8],
+    input: &[u8],
+    config: &Config,
+) -> Result<Start, Failure<'a>>
+    ensures opened { IfOk result (λ start. IsOpenedFrom config.now start elf.now input.now) }
+    ensures output { IfOk result (λ start. (point_of start).state.output ≡ []) }
+    ensures failed { IfErr result (IsRefused elf.now input.now config.now) }
+{
+    match open_run(alloc, elf, input, config) {
+        Ok(start) => Ok(start),
+        Err(fault) => Err(failure_of(fault)),
+    }
+}
+
+/// Does all turns of a run by so many host threads at most, puts its output out, and tells the recorders of its texts
+/// each turn. Its trace goes to this destination, where there is one.
+pub fn run_start<'a, H: Threads + Wait + Sync, O: Write, W: Write>(
+    rt: &H,
+    alloc: Global,
+    start: Start,
+    workers: u32,
+    trace: Option<Destination<'a>>,
+    recorders: TextRecorders<O>,
+    stdout: &mut WriteSink<W>,
+) -> Ran<'a, O>
+    requires output { (point_of start).state.output ≡ [] }
+    requires failures { stdout.old.failures < 2 ^ 64 - 1 }
+    requires none { AreTold O.contents recorders [] [] }
+    ensures ended { IfOk result.result (λ end. Ends (AreTold O.contents) (point_of start).setup end result.recorders) }
+    ensures same { IfOk result.result (λ _. AreSame recorders result.recorders) }
+    ensures sent { IfOk result.result (λ end. Appends (W.contents stdout.old.writer) (W.contents stdout.new.writer) end.output.items) }
+    ensures stopped { IfErr result.result (IsStopped trace.entry (point_of start).setup (W.contents stdout.old.writer) (W.contents stdout.new.writer)) }
+{
+    let run = run_wanted::<Brand, Brand, Brand, _, _, _>(
+        rt, alloc, start, workers, recorders, stdout,
+    );
+    let RecordedRun { result, recorder } = run;
+    let result = match result {
+        Ok(end) => match stdout.finish() {
+            Ok(()) => Ok(end),
+            Err(_) => Err(Failure::CannotWrite(Place::StandardOutput)),
+        },
+        Err(fault) => Err(failure_of_run(fault, trace)),
+    };
+    Ran {
+        result,
+        recorders: recorder,
+    }
+}
+
+/// Does all turns of a run, and tells the recorders each. At the end it is known that the same ones are there.
+fn run_wanted<T: IsWanted, S: IsWanted, D: IsWanted, H: Threads + Wait + Sync, O: Write, W: Write>(
+    rt: &H,
+    alloc: Global,
+    start: Start,
+    workers: u32,
+    recorders: TextRecorders<O>,
+    stdout: &mut WriteSink<W>,
+) -> RecordedRun<TextRecorders<O>>
+    requires output { (point_of start).state.output ≡ [] }
+    requires failures { stdout.old.failures < 2 ^ 64 - 1 }
+    requires none { AreTold O.contents recorders [] [] }
+    requires trace { is_some recorders.trace ≡ T.is_wanted }
+    requires sharing { is_some recorders.sharing ≡ S.is_wanted }
+    requires digest { is_some recorders.digest ≡ D.is_wanted }
+    ensures ended { IfOk result.result (λ end. Ends (AreTold O.contents) (point_of start).setup end result.recorder) }
+    ensures same { IfOk result.result (λ _. AreSame recorders result.recorder) }
+    ensures sent { SendsEnd (point_of start).setup result.result (W.contents stdout.old.writer) (W.contents stdout.new.writer) }
+    ensures fault { IfErr result.result IsUnderWay }
+{
+    let all = Both {
+        first: Wanted::<T, _>::new(recorders.trace),
+        second: Both {
+            first: Wanted::<S, _>::new(recorders.sharing),
+            second: Wanted::<D, _>::new(recorders.digest),
+        },
+    };
+    let run = run_opened(rt, alloc, start, workers, &OpenGate, stdout, all);
+    RecordedRun {
+        result: run.result,
+        recorder: TextRecorders {
+            trace: run.recorder.first.recorder,
+            sharing: run.recorder.second.first.recorder,
+            digest: run.recorder.second.second.recorder,
+        },
+    }
+}
