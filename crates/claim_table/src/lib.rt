@@ -12,8 +12,6 @@ mod rule;
 mod seat;
 mod seat_log;
 mod size;
-#[cfg(test)]
-mod tests;
 mod view;
 
 pub use draws::Draws;

@@ -5,13 +5,10 @@ use std::alloc::{AllocError, Global};
 /// The segment of zeros that a program has beside its code: its address and its size.
 pub const PAGE: [(u32, u32); 1] = [(DATA, 4096)];
 
-/// Segments of 16 pages of zeros in a row.
-pub const PAGES: [(u32, u32); 2] = [(DATA, 4096), (DATA + 4096, 61_440)];
-
 /// A guest program.
 #[derive(Clone, Copy, Debug)]
 pub struct Program {
-    /// Its name, and that of its files in `samples/` where it is a sample.
+    /// Its name, and that of its files in the data of `test_guest_runs`.
     pub name: &'static str,
     /// Its listing as `dthreads disasm` prints it, in parts: a line for each word, with its address, the word and the
     /// instruction.
@@ -43,6 +40,13 @@ impl Program {
         }
         Ok(text)
     }
+}
+
+/// The words of a listing.
+pub fn words_of(alloc: Global, listing: &str) -> Result<Vec<u32>, AllocError> {
+    let mut words = Vec::new(alloc);
+    push_words(&mut words, listing)?;
+    Ok(words)
 }
 
 /// Appends the words of some lines of a listing.

@@ -194,6 +194,3 @@ fn nameless_file<R: rt::Files + rt::Env + AllocGlobal>(host: &R) -> io::Result<R
     }
     Err(io::Error::from(ErrorKind::AlreadyExists))
 }
-
-#[cfg(test)]
-mod tests;

@@ -2,8 +2,6 @@
 #![tactic(auto)]
 
 mod access;
-#[cfg(test)]
-mod fakes;
 mod file_name;
 mod host_files;
 mod host_output;

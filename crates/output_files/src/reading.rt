@@ -78,6 +78,3 @@ fn read_piece<R: Read>(
     *failures += 1;
     Err(ReadFault::ReadFailed)
 }
-
-#[cfg(test)]
-mod tests;

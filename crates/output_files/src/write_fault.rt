@@ -31,6 +31,3 @@ impl From<io::Error> for WriteFault {
         }
     }
 }
-
-#[cfg(test)]
-mod tests;

@@ -14,8 +14,6 @@ mod run_fault;
 mod running;
 mod sending;
 mod sink;
-#[cfg(test)]
-mod tests;
 mod turns;
 mod write_sink;
 

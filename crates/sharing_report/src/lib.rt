@@ -21,8 +21,6 @@ mod pages;
 mod shared_phases;
 mod sharing;
 mod sharing_recorder;
-#[cfg(test)]
-mod tests;
 mod text;
 mod thread_set;
 mod turn_count;

@@ -18,10 +18,7 @@ const WORKERS: u32 = 2;
 
 /// A run opened.
 pub fn open(alloc: Global, schedule: &Schedule) -> Result<Answer, Failed> {
-    let Some(run) = schedule.run() else {
-        return Err(Failed::Other);
-    };
-    let image = image_of(alloc, &run.program)?;
+    let image = image_of(alloc, &schedule.program)?;
     let world = again!(World::open(alloc, &image, b"", BOUND, None, WORKERS), true);
     answer_of(alloc, &world)
 }
@@ -87,10 +84,7 @@ pub fn world_amid(alloc: Global, schedule: &Schedule, count: usize) -> Result<Wo
 
 /// A run of which nothing has happened.
 fn world_of(alloc: Global, schedule: &Schedule) -> Result<World, Failed> {
-    let Some(run) = schedule.run() else {
-        return Err(Failed::Other);
-    };
-    let image = image_of(alloc, &run.program)?;
+    let image = image_of(alloc, &schedule.program)?;
     Ok(World::open(alloc, &image, b"", BOUND, None, WORKERS)?)
 }
 

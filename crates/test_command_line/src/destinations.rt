@@ -1,8 +1,8 @@
-//! Where the texts of a run go: after the guest's output, or nowhere where a path can't be written.
+//! Texts of a run that go nowhere, since a path can't be written.
 
 use crate::fakes::{EndlessReader, FailingReader, MemoryFiles};
 use crate::performed::Performed;
-use data_guest_programs::{COUNTER, LETTER, ONE_THREAD, RACE, Run, SHARED_BYTES};
+use data_guest_programs::{COUNTER, LETTER, RACE};
 use std::alloc::AllocError;
 use std::io;
 use std::io::Read;
@@ -10,47 +10,6 @@ use std::process::Abort;
 use std::sync::Wait;
 use std::test::Fail;
 use std::thread::Threads;
-
-const PRINTED: [&str; 7] = ["dthreads", "run", "a.elf", "--report", "-", "--trace", "-"];
-
-/// Checks that the texts of a run stand on standard output after the guest's output, the trace first.
-fn check_printed<H: Abort + AllocGlobal + Threads + Wait + Sync>(
-    rt: &H,
-    run: &Run,
-) -> Result<(), AllocError> {
-    let file = run.program.file(rt.alloc())?;
-    let mut files = MemoryFiles::with_old_files(rt.alloc(), file.as_slice())?;
-    let mut texts = run.trace_text(rt.alloc())?;
-    texts.push_str(run.report)?;
-    let mut input = run.input;
-    let performed = Performed::new(rt, &PRINTED, &mut files, &mut input);
-    let name = run.name;
-    let stdout = performed.stdout.as_slice();
-    assert_eq!(rt; performed.status, run.status, "the status of {name}");
-    assert!(rt; stdout.ends_with(texts.as_bytes()), "the texts of {name}");
-    assert!(rt; texts.len() <= stdout.len());
-    assert!(rt;
-        run.output.is(&stdout[..stdout.len() - texts.len()]),
-        "the output of {name}"
-    );
-    files.assert_old(rt);
-    Ok(())
-}
-
-#[test]
-fn texts_follow_the_output(rt: HostRuntime) -> Result<(), Fail> {
-    for run in &SHARED_BYTES {
-        if run.bound.is_none() && run.quantum.is_none() {
-            check_printed(&rt, run)?;
-        }
-    }
-    for run in &ONE_THREAD {
-        if run.bound.is_none() && run.quantum.is_none() {
-            check_printed(&rt, run)?;
-        }
-    }
-    Ok(())
-}
 
 /// Checks the line for a run of which the texts can't be written, and that the guest wrote nothing.
 fn check_line<H: Abort + AllocGlobal + Threads + Wait + Sync, R: Read>(

@@ -8,8 +8,6 @@ mod command_lines;
 #[cfg(test)]
 mod destinations;
 #[cfg(test)]
-mod digests;
-#[cfg(test)]
 mod failing_writes;
 #[cfg(test)]
 mod fakes;
@@ -21,5 +19,3 @@ mod performed;
 mod refusals;
 #[cfg(test)]
 mod replays;
-#[cfg(test)]
-mod runs;

@@ -36,14 +36,6 @@ impl Performed {
         }
     }
 
-    /// Whether standard error has this line alone, or nothing where the line is empty.
-    pub fn is_message(&self, line: &str) -> bool {
-        match self.stderr.as_slice() {
-            [text @ .., b'\n'] => text == line.as_bytes(),
-            text => text.is_empty() && line.is_empty(),
-        }
-    }
-
     /// Fails the test unless the program ended with this status and wrote these texts.
     pub fn assert_is(&self, rt: &impl Abort, status: u8, stdout: &[u8], stderr: &str) {
         assert_eq!(rt;

@@ -1,12 +1,10 @@
-//! What the command replay prints and answers: written schedules, and what is looked at before them.
+//! What the command replay looks at before the events, and a trace that cannot be printed.
 
 use crate::fakes::{EndlessFiles, EndlessReader, FailingReader, FailingWriter, MemoryFiles};
 use crate::performed::Performed;
 use command_line::perform;
-use data_guest_programs::{RACE, Run, SEVEN};
-use data_written_schedules::{Schedule, schedules};
+use data_guest_programs::{RACE, SEVEN};
 use runtime::WriteSink;
-use std::alloc::{AllocError, Global};
 use std::io;
 use std::io::Read;
 use std::process::Abort;
@@ -15,65 +13,6 @@ use std::test::Fail;
 use std::thread::Threads;
 
 const REPLAY: [&str; 6] = ["dthreads", "replay", "a.elf", "schedule", "--workers", "2"];
-
-/// The arguments of a replay, with the limits of the run that the schedule is for.
-fn arguments_of(alloc: Global, schedule: &Schedule, run: &Run) -> Result<Vec<String>, AllocError> {
-    let mut arguments = Vec::new(alloc);
-    for argument in ["dthreads", "replay", "a.elf", "schedule", "--workers"] {
-        arguments.push(String::from_str(alloc, argument)?)?;
-    }
-    arguments.push(schedule.workers.to_string(alloc)?)?;
-    for (option, limit) in [("--bound", run.bound), ("--quantum", run.quantum)] {
-        if let Some(limit) = limit {
-            arguments.push(String::from_str(alloc, option)?)?;
-            arguments.push(limit.to_string(alloc)?)?;
-        }
-    }
-    Ok(arguments)
-}
-
-/// Checks all that the replay of a schedule gives.
-fn check_replay<H: Abort + AllocGlobal + Threads + Wait + Sync>(
-    rt: &H,
-    schedule: &Schedule,
-    run: &Run,
-) -> Result<(), AllocError> {
-    let alloc = rt.alloc();
-    let arguments = arguments_of(alloc, schedule, run)?;
-    let file = run.program.file(alloc)?;
-    let text = schedule.whole_text(alloc)?;
-    let trace = schedule.trace_text(alloc, run)?;
-    let mut files = MemoryFiles::with_schedule(alloc, file.as_slice(), text.as_bytes());
-    let mut input = run.input;
-    let performed = Performed::new(rt, &arguments, &mut files, &mut input);
-    let name = schedule.name;
-    assert_eq!(rt;
-        performed.status,
-        schedule.status(run),
-        "the status of {name}"
-    );
-    assert!(rt;
-        performed.stdout.as_slice() == trace.as_bytes(),
-        "the trace of {name}"
-    );
-    assert!(rt;
-        performed.is_message(schedule.line(run)),
-        "the line of {name}"
-    );
-    Ok(())
-}
-
-#[test]
-fn written_schedules(rt: HostRuntime) -> Result<(), Fail> {
-    for schedule in schedules().into_iter().flatten() {
-        let run = schedule.run();
-        assert!(rt; run.is_some(), "the run of {}", schedule.name);
-        if let Some(run) = run {
-            check_replay(&rt, schedule, run)?;
-        }
-    }
-    Ok(())
-}
 
 /// Checks the line for a replay that prints nothing.
 fn check_line<H: Abort + AllocGlobal + Threads + Wait + Sync, R: Read>(

@@ -14,7 +14,7 @@ mod files;
 #[cfg(test)]
 mod fixtures;
 #[cfg(test)]
-mod guest_runs;
+mod guest_files;
 #[cfg(test)]
 mod harts;
 #[cfg(test)]
@@ -26,11 +26,13 @@ mod objects;
 #[cfg(test)]
 mod permissions;
 #[cfg(test)]
-mod recorders;
+mod reports;
 #[cfg(test)]
 mod runs;
 #[cfg(test)]
 mod segments;
+#[cfg(test)]
+mod sharing;
 #[cfg(test)]
 mod sinks;
 #[cfg(test)]

@@ -1,12 +1,10 @@
 //! Words with their texts, worked out by hand from the instruction listings of the RISC-V ISA, chapter 24, and listings.
 
-use data_guest_programs::{LATE_WORK, MEASURED, Program, Run, runs};
 use decoder::*;
 use disassembler::*;
-use elf32_reader::{Image, Segment, read};
+use elf32_reader::{Image, Segment};
 use guest_memory::Perm;
 use std::alloc::{AllocError, Global};
-use std::process::Abort;
 use std::test::Fail;
 
 /// An address, a word and its text there.
@@ -220,36 +218,4 @@ fn lists_words(rt: HostRuntime) -> Result<(), Fail> {
          00030004: 00100893 addi x17,x0,1\n"
     );
     Ok(())
-}
-
-/// Asserts that the listing that stands with a program is that of its file.
-fn assert_listing(rt: &impl Abort, alloc: Global, program: &Program) -> Result<(), Fail> {
-    let image = read(alloc, &program.file(alloc)?)?;
-    let wanted = program.listing_text(alloc)?;
-    assert_eq!(rt;
-        listing(alloc, &image)?.as_str(),
-        wanted.as_str(),
-        "{}",
-        program.name
-    );
-    Ok(())
-}
-
-/// Asserts that of the programs of some runs.
-fn assert_listings(rt: &impl Abort, alloc: Global, runs: &[Run]) -> Result<(), Fail> {
-    for run in runs {
-        assert_listing(rt, alloc, &run.program)?;
-    }
-    Ok(())
-}
-
-#[test]
-fn programs_have_their_listings(rt: HostRuntime) -> Result<(), Fail> {
-    for table in runs() {
-        assert_listings(&rt, rt.alloc(), table)?;
-    }
-    for program in &MEASURED {
-        assert_listing(&rt, rt.alloc(), program)?;
-    }
-    assert_listing(&rt, rt.alloc(), &LATE_WORK)
 }

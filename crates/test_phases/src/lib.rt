@@ -2,6 +2,8 @@
 #![tactic(auto)]
 
 #[cfg(test)]
+mod draws;
+#[cfg(test)]
 mod fates;
 #[cfg(test)]
 mod fixtures;
@@ -14,8 +16,6 @@ mod one_thread;
 #[cfg(test)]
 mod overlap;
 #[cfg(test)]
-mod phase_turns;
+mod overlapping;
 #[cfg(test)]
 mod stops;
-#[cfg(test)]
-mod whole_runs;

@@ -1,0 +1,55 @@
+//! Runs the guest programs of its data/ with 1, 2, 3, 4 and 64 workers and through the command line, and prints what they give.
+//!
+//! With no arguments it prints a line for each row: `NAME: ok`, or what differs. `test_guest_runs NAME..` does so for the rows of
+//! these names; after the word `brief` it makes runs that take long in one way alone. `test_guest_runs walk N [SEED]` walks N times through the short runs by events that are picked from the seed, and
+//! `test_guest_runs write FOLDER` writes the ELF files of the samples to a folder.
+#![tactic(auto)]
+
+mod by_command;
+mod case;
+mod data;
+mod differences;
+mod fields;
+mod guest;
+mod guest_run;
+mod guest_text;
+mod listings;
+mod memory_files;
+mod output;
+mod performed;
+mod phases;
+mod recorded;
+mod replay_row;
+mod replay_text;
+mod replays;
+mod rounds;
+mod rows;
+mod samples;
+mod single_call;
+mod turn_by_turn;
+mod walked;
+mod whole_runs;
+
+use anyhow::Result;
+use fields::decimal;
+use rows::{Effort, show_rows, show_walks};
+use samples::write_samples;
+use std::env;
+
+fn main(rt: HostRuntime) -> Result<()> {
+    let arguments: Vec<String> = env::args(&rt)?.collect(rt.alloc())?;
+    match arguments.as_slice() {
+        [] | [_] => show_rows(&rt, Effort::Whole, &[]),
+        [_, action, chosen @ ..] if action.as_str() == "brief" => {
+            show_rows(&rt, Effort::Brief, chosen)
+        }
+        [_, action, folder] if action.as_str() == "write" => write_samples(&rt, folder.as_str()),
+        [_, action, rounds] if action.as_str() == "walk" => {
+            show_walks(&rt, decimal(rounds.as_str())?, 1)
+        }
+        [_, action, rounds, seed] if action.as_str() == "walk" => {
+            show_walks(&rt, decimal(rounds.as_str())?, decimal(seed.as_str())?)
+        }
+        [_, chosen @ ..] => show_rows(&rt, Effort::Whole, chosen),
+    }
+}
