@@ -1,11 +1,8 @@
 -- What the program answers to a request and what it leaves, told by the files' content and the standard streams as far as these are
 -- known.
-use Rattle.std.specs.Prelude.{◌≡◌, ◌⊎◌, ℕ, ◌+◌, Option, None, Some, Result, Ok, Err, List, ◌++◌, IfSome, take}
+use Rattle.std.specs.Prelude.{◌≡◌, ◌⊎◌, ℕ, ◌+◌, Option, Some, Result, Ok, Err, List, ◌++◌}
 use Rattle.std.specs.Io.KnownBytes.{Appends}
 use Rattle.std.specs.Result.{IsErrAnd}
-use Rattle.disassembler.specs.Listings.{listing_of}
-use Rattle.elf32_reader.specs.Segments.{image_of}
-use Rattle.elf32_reader.specs.Refusals.{first_refusal}
 use Rattle.elf32_reader.specs.Format.{file_limit}
 use Rattle.output_files.specs.Content.{Content}
 use Rattle.runtime.specs.Reports.{IsComplete}
@@ -25,8 +22,7 @@ use Rattle.command_outputs.specs.Records.{AreFiled, AreTextsOf, AreUnwritten, Ca
 use Rattle.command_requests.specs.declared.destination.Destination.{Destination}
 use Rattle.command_requests.specs.declared.failure.Failure.{Failure}
 use Rattle.command_requests.specs.declared.failure.Failure.TheVariants.{NotText, OneFile, OutsideRange, ElfRefused, InputTooLarge, CannotRead, CannotWrite, OutOfMemory}
-use Rattle.command_requests.specs.declared.place.Place.{Place}
-use Rattle.command_requests.specs.declared.place.Place.TheVariants.{Path, StandardInput, StandardOutput}
+use Rattle.command_requests.specs.declared.place.Place.TheVariants.{StandardOutput}
 use Rattle.command_requests.specs.declared.records.Records.{Records}
 
 -- Why no run of a file's bytes and an input begins. Memory can run out once the configuration and the input are in order.

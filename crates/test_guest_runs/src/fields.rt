@@ -11,6 +11,14 @@ pub fn decimal(text: &str) -> Result<u64> {
     }
 }
 
+/// The number below 2^32 that a decimal text says.
+pub fn small(text: &str) -> Result<u32> {
+    match text.parse() {
+        Ok(number) => Ok(number),
+        Err(_) => Err(anyhow!("not a number below 2^32: {text}")),
+    }
+}
+
 /// The word that some hexadecimal digits say.
 pub fn word(text: &str) -> Result<u32> {
     match u32::from_str_radix(text, 16) {

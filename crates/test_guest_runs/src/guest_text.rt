@@ -1,7 +1,7 @@
 //! The text of a guest's file in `data/`: fields by lines, and blocks whose lines begin with two spaces. Lines that begin with
 //! `#` are comments.
 
-use crate::fields::{byte, bytes, decimal, split, word};
+use crate::fields::{byte, bytes, decimal, small, split, word};
 use crate::guest::Guest;
 use crate::guest_run::GuestRun;
 use crate::output::Output;
@@ -62,7 +62,7 @@ fn take_field(alloc: Global, guest: &mut Guest, line: &str) -> Result<Block> {
         ("listing", "") => return Ok(Block::Listing),
         ("zeros", segment) => {
             let (address, size) = split(segment);
-            guest.zeros.push((word(address)?, decimal(size)? as u32))?;
+            guest.zeros.push((word(address)?, small(size)?))?;
         }
         ("run", name) => guest.runs.push(GuestRun::new(alloc, name)?)?,
         (name, rest) => match guest.runs.last_mut() {
@@ -86,7 +86,7 @@ fn take_run_field(alloc: Global, run: &mut GuestRun, name: &str, rest: &str) -> 
         "bound" => run.bound = Some(decimal(rest)?),
         "quantum" => run.quantum = Some(decimal(rest)?),
         "ends" => run.ending = String::from_str(alloc, rest)?,
-        "status" => run.status = (decimal(rest)? % 256) as u8,
+        "status" => run.status = (small(rest)? % 256) as u8,
         "output" => run.output = output_of(alloc, rest)?,
         "changed" => push_words(&mut run.changed, rest)?,
         "counted" => {
@@ -102,7 +102,7 @@ fn take_run_field(alloc: Global, run: &mut GuestRun, name: &str, rest: &str) -> 
 /// The output that bytes say, or `zeros` and their number.
 fn output_of(alloc: Global, text: &str) -> Result<Output> {
     match split(text) {
-        ("zeros", count) => Ok(Output::Zeros(decimal(count)? as usize)),
+        ("zeros", count) => Ok(Output::Zeros(small(count)? as usize)),
         _ => Ok(Output::Bytes(bytes(alloc, text)?)),
     }
 }

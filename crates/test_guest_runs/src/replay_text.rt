@@ -1,7 +1,7 @@
 //! The text of a file of schedules in `data/`: fields by lines, and blocks of events, whose lines begin with two spaces. Lines that
 //! begin with `#` are comments.
 
-use crate::fields::{decimal, split};
+use crate::fields::{small, split};
 use crate::replay_row::{ReplayEnd, ReplayRow};
 use anyhow::{Result, anyhow};
 use std::alloc::Global;
@@ -33,7 +33,7 @@ fn take_line(alloc: Global, row: &mut ReplayRow, line: &str) -> Result<()> {
         ("events", "") => {}
         ("sample", "") => row.is_sample = true,
         ("of", run) => row.run = String::from_str(alloc, run)?,
-        ("workers", count) => row.workers = decimal(count)? as u32,
+        ("workers", count) => row.workers = small(count)?,
         ("ends", end) => row.end = Some(end_of(alloc, end)?),
         ("text", written) => push_written(&mut row.text, written)?,
         _ => return Err(anyhow!("no field of a schedule: {line}")),
@@ -46,8 +46,8 @@ fn end_of(alloc: Global, text: &str) -> Result<ReplayEnd> {
     let (turns, rest) = split(text);
     let (status, line) = split(rest);
     Ok(ReplayEnd {
-        turns: decimal(turns)? as usize,
-        status: (decimal(status)? % 256) as u8,
+        turns: small(turns)? as usize,
+        status: (small(status)? % 256) as u8,
         line: String::from_str(alloc, line)?,
     })
 }

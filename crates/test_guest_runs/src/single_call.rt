@@ -1,5 +1,5 @@
 //! A single call at the edges of its arguments, and what it must give.
-use crate::fields::{decimal, split, word};
+use crate::fields::{small, split, word};
 use crate::guest_run::GuestRun;
 use crate::output::Output;
 use anyhow::{Result, anyhow};
@@ -34,7 +34,7 @@ impl<'a> SingleCall<'a> {
         };
         let (code, value) = split(rest);
         Ok(SingleCall {
-            number: decimal(number)? as u32,
+            number: small(number)?,
             name,
             arguments: [word(first)?, word(second)?],
             code: word(code)?,
