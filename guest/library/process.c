@@ -14,7 +14,10 @@ extern void (*const __fini_array_end[])(void);
 __attribute__((weak)) void __call_exitprocs(int, void *);
 int main(int, char **, char **);
 
-extern char *const dthreads_arguments[];
+extern char *dthreads_arguments[];
+
+/* The name that main began with: a program may change its arguments. */
+const char *dthreads_program_name;
 
 static int count_arguments(void)
 {
@@ -27,10 +30,11 @@ static int count_arguments(void)
 __attribute__((noreturn)) void dthreads_first(void)
 {
     static char *no_environment[] = {NULL};
+    dthreads_program_name = dthreads_arguments[0];
     thread_begin();
     for (void (*const *each)(void) = __init_array_start; each < __init_array_end; each++)
         (*each)();
-    exit(main(count_arguments(), (char **)dthreads_arguments, no_environment));
+    exit(main(count_arguments(), dthreads_arguments, no_environment));
 }
 
 void _exit(int status)
