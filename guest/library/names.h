@@ -5,6 +5,14 @@
 #define block_below dthreads_own_block_below
 #define cancel_here dthreads_own_cancel_here
 #define deadline_of dthreads_own_deadline_of
+#define decimal_digit dthreads_own_decimal_digit
+#define decimal_double dthreads_own_decimal_double
+#define decimal_halve dthreads_own_decimal_halve
+#define decimal_limbs dthreads_own_decimal_limbs
+#define decimal_lowest dthreads_own_decimal_lowest
+#define decimal_power dthreads_own_decimal_power
+#define decimal_round dthreads_own_decimal_round
+#define decimal_set dthreads_own_decimal_set
 #define heap_flush dthreads_own_heap_flush
 #define heap_pages dthreads_own_heap_pages
 #define keys_destroy_values dthreads_own_keys_destroy_values
@@ -25,11 +33,16 @@
 #define output_flush dthreads_own_output_flush
 #define own dthreads_own
 #define read_clock dthreads_own_read_clock
+#define real_of_double dthreads_own_real_of_double
+#define real_of_long dthreads_own_real_of_long
 #define stack_attach dthreads_own_stack_attach
 #define stack_give dthreads_own_stack_give
 #define thread_begin dthreads_own_thread_begin
 #define thread_of dthreads_own_thread_of
 #define threads dthreads_own_threads
 #define tls_fill dthreads_own_tls_fill
+#define wide_down dthreads_own_wide_down
+#define wide_length dthreads_own_wide_length
+#define wide_up dthreads_own_wide_up
 
 #endif
