@@ -4,6 +4,8 @@
 
 #define block_below dthreads_own_block_below
 #define cancel_here dthreads_own_cancel_here
+#define cancel_point dthreads_own_cancel_point
+#define cancel_is_due dthreads_own_cancel_is_due
 #define deadline_of dthreads_own_deadline_of
 #define decimal_digit dthreads_own_decimal_digit
 #define decimal_double dthreads_own_decimal_double
@@ -33,6 +35,7 @@
 #define output_flush dthreads_own_output_flush
 #define own dthreads_own
 #define read_clock dthreads_own_read_clock
+#define readings_drop dthreads_own_readings_drop
 #define real_of_double dthreads_own_real_of_double
 #define real_of_long dthreads_own_real_of_long
 #define stack_attach dthreads_own_stack_attach

@@ -32,6 +32,7 @@ int kill(pid_t process, int signal)
 
 ssize_t write(int file, const void *bytes, size_t length)
 {
+    cancel_point();
     if (file != 1 && file != 2)
         return refuse(EBADF);
     uint32_t part = length < DTHREADS_TRANSFER ? (uint32_t)length : DTHREADS_TRANSFER;
@@ -44,6 +45,7 @@ ssize_t write(int file, const void *bytes, size_t length)
 ssize_t read(int file, void *bytes, size_t length)
 {
     uint32_t got = 0;
+    cancel_point();
     if (file != 0)
         return refuse(EBADF);
     if (dthreads_read(bytes, length < DTHREADS_TRANSFER ? (uint32_t)length : DTHREADS_TRANSFER, &got) != DTHREADS_DONE)

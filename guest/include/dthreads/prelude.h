@@ -63,7 +63,7 @@ template <typename T> struct dthreads_plain { typedef T type; };
 template <typename T> struct dthreads_plain<const T> { typedef T type; };
 template <typename T> struct dthreads_plain<volatile T> { typedef T type; };
 template <typename T> struct dthreads_plain<const volatile T> { typedef T type; };
-#define DTHREADS_PLAIN(object) dthreads_plain<__typeof__(*(object))>::type
+#define DTHREADS_PLAIN(object) typename dthreads_plain<__typeof__(*(object))>::type
 #else
 #define DTHREADS_PLAIN(object) __typeof__((void)0, *(object))
 #endif
