@@ -10,6 +10,14 @@
 #define console_write dthreads_own_console_write
 #define console_write_some dthreads_own_console_write_some
 #define deadline_of dthreads_own_deadline_of
+#define decimal_digit dthreads_own_decimal_digit
+#define decimal_double dthreads_own_decimal_double
+#define decimal_halve dthreads_own_decimal_halve
+#define decimal_limbs dthreads_own_decimal_limbs
+#define decimal_lowest dthreads_own_decimal_lowest
+#define decimal_power dthreads_own_decimal_power
+#define decimal_round dthreads_own_decimal_round
+#define decimal_set dthreads_own_decimal_set
 #define entry_add dthreads_own_entry_add
 #define entry_find dthreads_own_entry_find
 #define entry_remove dthreads_own_entry_remove
@@ -26,8 +34,8 @@
 #define files_finish dthreads_own_files_finish
 #define files_here dthreads_own_files_here
 #define files_read dthreads_own_files_read
-#define files_root dthreads_own_files_root
 #define files_receive dthreads_own_files_receive
+#define files_root dthreads_own_files_root
 #define files_write dthreads_own_files_write
 #define heap_flush dthreads_own_heap_flush
 #define heap_map dthreads_own_heap_map
@@ -73,6 +81,8 @@
 #define random_fill dthreads_own_random_fill
 #define random_state dthreads_own_random_state
 #define read_clock dthreads_own_read_clock
+#define real_of_double dthreads_own_real_of_double
+#define real_of_long dthreads_own_real_of_long
 #define stack_attach dthreads_own_stack_attach
 #define stack_give dthreads_own_stack_give
 #define stream_close dthreads_own_stream_close
@@ -89,5 +99,8 @@
 #define thread_of dthreads_own_thread_of
 #define threads dthreads_own_threads
 #define tls_fill dthreads_own_tls_fill
+#define wide_down dthreads_own_wide_down
+#define wide_length dthreads_own_wide_length
+#define wide_up dthreads_own_wide_up
 
 #endif
