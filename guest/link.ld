@@ -9,6 +9,7 @@ PHDRS
     constants PT_LOAD FLAGS(4);
     data PT_LOAD FLAGS(6);
     template PT_TLS FLAGS(4);
+    note PT_NOTE FLAGS(4);
 }
 
 SECTIONS
@@ -36,6 +37,11 @@ SECTIONS
         KEEP(*(.fini_array))
         __fini_array_end = .;
     } :constants
+
+    /* That the kit's library started the program, for guest/dthreads-exec. */
+    .note.dthreads : {
+        KEEP(*(.note.dthreads))
+    } :constants :note
 
     /* A thread's block keeps the template's place modulo the greater alignment of both parts. */
     __tls_align = MAX(MAX(ALIGNOF(.tdata), ALIGNOF(.tbss)), 16);

@@ -19,7 +19,8 @@ enum {
     /* A freed block of so many pages goes back to the machine, as long as less than a quarter of the heap was given. */
     RELEASED_PAGES = 64,
     /* What a page belongs to, beside the small sizes 1 to SIZES. */
-    LARGE = 255
+    LARGE = 255,
+    MAPPED = 254
 };
 
 static const uint16_t sizes[SIZES] = {
@@ -181,6 +182,41 @@ static void pages_give(char *address, uint32_t pages)
 void *heap_pages(uint32_t pages)
 {
     return pages_take(pages);
+}
+
+/* Pages of mmap, which may be given back in any parts. */
+
+void *heap_map(uint32_t pages)
+{
+    monitor_enter();
+    char *address = pages_take(pages);
+    for (uint32_t i = 0; address && i < pages; i++)
+        page_size[page_of(address) + i] = MAPPED;
+    monitor_leave();
+    return address;
+}
+
+static bool is_mapped(uint32_t first, uint32_t pages)
+{
+    if (first >= DTHREADS_HEAP_PAGES || pages > DTHREADS_HEAP_PAGES - first)
+        return false;
+    for (uint32_t i = 0; i < pages; i++)
+        if (page_size[first + i] != MAPPED)
+            return false;
+    return true;
+}
+
+bool heap_unmap(void *address, uint32_t pages)
+{
+    uint32_t first = page_of(address);
+    monitor_enter();
+    bool is_range = is_mapped(first, pages);
+    if (is_range) {
+        memset(&page_size[first], 0, pages);
+        pages_give(address, pages);
+    }
+    monitor_leave();
+    return is_range;
 }
 
 /* Small blocks. */

@@ -175,6 +175,9 @@ void mutex_release(pthread_mutex_t *mutex);
 void heap_flush(void);
 /* Pages for a stack and the like, or NULL; they are never given back. */
 void *heap_pages(uint32_t pages);
+/* Pages that can be given back, or NULL; false for a range that isn't whole of such pages. */
+void *heap_map(uint32_t pages);
+bool heap_unmap(void *address, uint32_t pages);
 
 void keys_destroy_values(void);
 /* What a thread that ends remembers of its read locks. */
