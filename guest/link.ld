@@ -92,3 +92,7 @@ SECTIONS
     .riscv.attributes 0 : { KEEP(*(.riscv.attributes)) }
     /DISCARD/ : { *(.comment) *(.note .note.*) *(.eh_frame) *(.eh_frame.*) *(.gcc_except_table*) }
 }
+
+/* What the machine would refuse when it loads the file: over 16,384 pages, or an address from 0x20000000 on. */
+__dthreads_pages = (ALIGN(ADDR(.bss) + SIZEOF(.bss), 4096) - 0x00010000) / 4096;
+ASSERT(__dthreads_pages <= 16384, "dthreads-cc: the program's code and data take over 64 MiB, more than the machine loads: use malloc")

@@ -68,10 +68,11 @@ typedef struct {
     struct dthreads_thread *writer;
     unsigned readers;
     struct dthreads_queue waiters;
+    int kind;
 } pthread_rwlock_t;
 
 typedef struct {
-    int unused;
+    int kind;
 } pthread_rwlockattr_t;
 
 typedef struct {
@@ -101,6 +102,14 @@ enum {
     PTHREAD_MUTEX_ERRORCHECK_NP = PTHREAD_MUTEX_ERRORCHECK
 };
 
+/* Whether a reader goes before a writer that waits: always, if it reads the lock already, never. */
+enum {
+    PTHREAD_RWLOCK_PREFER_READER_NP = 1,
+    PTHREAD_RWLOCK_PREFER_WRITER_NP = 0,
+    PTHREAD_RWLOCK_PREFER_WRITER_NONRECURSIVE_NP = 2,
+    PTHREAD_RWLOCK_DEFAULT_NP = PTHREAD_RWLOCK_PREFER_WRITER_NP
+};
+
 enum { PTHREAD_MUTEX_STALLED = 0, PTHREAD_MUTEX_ROBUST = 1 };
 enum { PTHREAD_PROCESS_PRIVATE = 0, PTHREAD_PROCESS_SHARED = 1 };
 enum { PTHREAD_CANCEL_ENABLE = 0, PTHREAD_CANCEL_DISABLE = 1 };
@@ -117,7 +126,9 @@ enum { PTHREAD_PRIO_NONE = 0, PTHREAD_PRIO_INHERIT = 1, PTHREAD_PRIO_PROTECT = 2
 #define PTHREAD_RECURSIVE_MUTEX_INITIALIZER_NP { PTHREAD_MUTEX_RECURSIVE, NULL, 0, { NULL, NULL } }
 #define PTHREAD_ERRORCHECK_MUTEX_INITIALIZER_NP { PTHREAD_MUTEX_ERRORCHECK, NULL, 0, { NULL, NULL } }
 #define PTHREAD_COND_INITIALIZER { CLOCK_REALTIME, { NULL, NULL } }
-#define PTHREAD_RWLOCK_INITIALIZER { NULL, 0, { NULL, NULL } }
+#define PTHREAD_RWLOCK_INITIALIZER { NULL, 0, { NULL, NULL }, PTHREAD_RWLOCK_DEFAULT_NP }
+#define PTHREAD_RWLOCK_WRITER_NONRECURSIVE_INITIALIZER_NP \
+    { NULL, 0, { NULL, NULL }, PTHREAD_RWLOCK_PREFER_WRITER_NONRECURSIVE_NP }
 #define PTHREAD_ONCE_INIT { 0, { NULL, NULL } }
 
 /* Threads. */
@@ -125,6 +136,7 @@ int pthread_create(pthread_t *, const pthread_attr_t *, void *(*)(void *), void 
 int pthread_join(pthread_t, void **);
 int pthread_tryjoin_np(pthread_t, void **);
 int pthread_timedjoin_np(pthread_t, void **, const struct timespec *);
+int pthread_clockjoin_np(pthread_t, void **, clockid_t, const struct timespec *);
 int pthread_detach(pthread_t);
 void pthread_exit(void *) __attribute__((noreturn));
 pthread_t pthread_self(void);
@@ -210,6 +222,8 @@ int pthread_rwlockattr_init(pthread_rwlockattr_t *);
 int pthread_rwlockattr_destroy(pthread_rwlockattr_t *);
 int pthread_rwlockattr_setpshared(pthread_rwlockattr_t *, int);
 int pthread_rwlockattr_getpshared(const pthread_rwlockattr_t *, int *);
+int pthread_rwlockattr_setkind_np(pthread_rwlockattr_t *, int);
+int pthread_rwlockattr_getkind_np(const pthread_rwlockattr_t *, int *);
 
 /* Spin locks, which don't spin. */
 int pthread_spin_init(pthread_spinlock_t *, int);

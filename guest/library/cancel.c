@@ -7,6 +7,17 @@ void cancel_here(enum wake wake)
         pthread_exit(PTHREAD_CANCELED);
 }
 
+bool cancel_is_due(void)
+{
+    return self() && self()->cancelled && !own.cancel_disabled && !own.ending;
+}
+
+void cancel_point(void)
+{
+    if (cancel_is_due())
+        pthread_exit(PTHREAD_CANCELED);
+}
+
 int pthread_cancel(pthread_t name)
 {
     monitor_enter();

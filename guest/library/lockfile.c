@@ -29,8 +29,11 @@ int ftrylockfile(FILE *file)
 void funlockfile(FILE *file)
 {
     struct stream *stream = stream_of(file);
-    if (stream) {
-        monitor_enter();
+    if (!stream)
+        return;
+    monitor_enter();
+    if (stream->owner == self())
         stream_leave(stream);
-    }
+    else
+        monitor_leave();
 }

@@ -45,7 +45,9 @@ enum life {
     /* It has ended and nobody has joined it. */
     ENDED,
     /* It waits for a start routine. */
-    PARKED
+    PARKED,
+    /* It ended with a mutex: its record stays the owner. */
+    LOST
 };
 
 /* What others see of a thread. Only who is in the monitor may touch it. */
@@ -67,6 +69,10 @@ struct dthreads_thread {
     bool detached;
     bool is_writer;
     struct dthreads_thread *joiner;
+    /* What it keeps for itself; another thread may touch it while this one waits. */
+    struct own *own;
+    /* Mutexes that it held at its end. */
+    uint32_t ended_with;
     void *(*start)(void *);
     void *argument;
     void *result;
@@ -84,7 +90,6 @@ struct own {
     struct dthreads_thread *thread;
     /* Mutexes, spin locks and write locks held: the thread stays in the monitor while it has any. */
     uint32_t held;
-    uint32_t read_held;
     /* Calls of the library within each other. */
     uint32_t depth;
     uint32_t operations;
@@ -158,6 +163,10 @@ bool deadline_of(clockid_t clock, const struct timespec *time, uint64_t *deadlin
 
 /* Ends this thread where it was asked to. */
 void cancel_here(enum wake wake);
+/* Whether it was asked to, as far as the thread knows: it learns of it by its calls. */
+bool cancel_is_due(void);
+/* A call that takes no turn to find out. */
+void cancel_point(void);
 
 void mutex_acquire(pthread_mutex_t *mutex);
 void mutex_release(pthread_mutex_t *mutex);
@@ -171,6 +180,8 @@ void *heap_map(uint32_t pages);
 bool heap_unmap(void *address, uint32_t pages);
 
 void keys_destroy_values(void);
+/* What a thread that ends remembers of its read locks. */
+__attribute__((weak)) void readings_drop(void);
 void output_flush(void);
 void thread_begin(void);
 /* The living or ended thread of a name, or NULL. */

@@ -14,6 +14,14 @@ void mutex_release(pthread_mutex_t *mutex)
     mutex->owner = monitor_wake_first(&mutex->waiters);
 }
 
+/* Frees a normal mutex of another thread, which waits for something else or has ended. */
+static void mutex_free(pthread_mutex_t *mutex)
+{
+    if (mutex->owner && mutex->owner->life == LIVING)
+        mutex->owner->own->held--;
+    mutex->owner = monitor_wake_first(&mutex->waiters);
+}
+
 /* Waits for a mutex that another thread owns; who frees it makes this thread its owner. */
 static int mutex_wait(pthread_mutex_t *mutex, uint64_t deadline)
 {
@@ -76,9 +84,12 @@ int pthread_mutex_trylock(pthread_mutex_t *mutex)
 int pthread_mutex_unlock(pthread_mutex_t *mutex)
 {
     monitor_enter();
-    int code = mutex->owner == self() ? 0 : EPERM;
-    if (code == 0 && --mutex->count == 0)
+    bool is_mine = mutex->owner == self();
+    int code = is_mine || mutex->kind == PTHREAD_MUTEX_NORMAL ? 0 : EPERM;
+    if (is_mine && --mutex->count == 0)
         mutex_release(mutex);
+    else if (!is_mine && code == 0)
+        mutex_free(mutex);
     monitor_leave();
     return code;
 }

@@ -4,6 +4,8 @@
 
 #define block_below dthreads_own_block_below
 #define cancel_here dthreads_own_cancel_here
+#define cancel_is_due dthreads_own_cancel_is_due
+#define cancel_point dthreads_own_cancel_point
 #define console_is_framed dthreads_own_console_is_framed
 #define console_read dthreads_own_console_read
 #define console_read_some dthreads_own_console_read_some
@@ -81,6 +83,7 @@
 #define random_fill dthreads_own_random_fill
 #define random_state dthreads_own_random_state
 #define read_clock dthreads_own_read_clock
+#define readings_drop dthreads_own_readings_drop
 #define real_of_double dthreads_own_real_of_double
 #define real_of_long dthreads_own_real_of_long
 #define stack_attach dthreads_own_stack_attach

@@ -39,16 +39,10 @@ static int console_of(int descriptor)
     return files_console ? files_console(descriptor) : descriptor;
 }
 
-static void cancellation_point(void)
-{
-    if (self()->cancelled && !own.cancel_disabled && !own.ending)
-        pthread_exit(PTHREAD_CANCELED);
-}
-
 ssize_t write(int descriptor, const void *bytes, size_t length)
 {
     int console = console_of(descriptor);
-    cancellation_point();
+    cancel_point();
     if (console == STDOUT_FILENO || console == STDERR_FILENO)
         return console_write_some(console, bytes, length);
     return files_write ? files_write(descriptor, bytes, length) : refuse(EBADF);
@@ -56,7 +50,7 @@ ssize_t write(int descriptor, const void *bytes, size_t length)
 
 ssize_t read(int descriptor, void *bytes, size_t length)
 {
-    cancellation_point();
+    cancel_point();
     if (console_of(descriptor) == STDIN_FILENO)
         return console_read_some(bytes, length);
     return files_read ? files_read(descriptor, bytes, length) : refuse(EBADF);

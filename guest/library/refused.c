@@ -36,14 +36,20 @@ int pthread_setschedprio(pthread_t thread, int priority)
     return priority == 0 ? 0 : ENOTSUP;
 }
 
+static int concurrency;
+
 int pthread_getconcurrency(void)
 {
-    return 0;
+    return concurrency;
 }
 
+/* The level is a hint that nothing follows. */
 int pthread_setconcurrency(int level)
 {
-    return level == 0 ? 0 : ENOTSUP;
+    if (level < 0)
+        return EINVAL;
+    concurrency = level;
+    return 0;
 }
 
 int pthread_getcpuclockid(pthread_t thread, clockid_t *clock)

@@ -28,7 +28,9 @@ static int wait_until(sem_t *semaphore, uint64_t deadline)
 {
     enum wake wake = WOKEN;
     monitor_enter();
-    if (semaphore->value > 0)
+    if (cancel_is_due())
+        wake = CANCELLED;
+    else if (semaphore->value > 0)
         semaphore->value--;
     else
         wake = monitor_sleep(&semaphore->waiters, deadline, true);

@@ -296,9 +296,15 @@ int puts(const char *text)
 
 size_t fwrite(const void *bytes, size_t size, size_t count, FILE *stream)
 {
+    size_t all;
     if (size == 0 || count == 0)
         return 0;
-    return put_bytes(bytes, size * count, stream) / size;
+    if (__builtin_mul_overflow(size, count, &all)) {
+        stream->flags |= __SERR;
+        errno = EFAULT;
+        return 0;
+    }
+    return put_bytes(bytes, all, stream) / size;
 }
 
 int fflush(FILE *file)
@@ -493,7 +499,9 @@ static size_t copy_long(struct stream *stream, char *bytes, size_t wanted)
 size_t fread(void *bytes, size_t size, size_t count, FILE *file)
 {
     char *place = bytes;
-    size_t length = 0, wanted = size * count;
+    size_t length = 0, wanted;
+    if (__builtin_mul_overflow(size, count, &wanted))
+        wanted = SIZE_MAX;
     if (wanted == 0)
         return 0;
     shared_begin(file);

@@ -118,6 +118,7 @@ void dthreads_thread_run(struct dthreads_thread *thread)
 {
     tls_fill(thread->block);
     own.thread = thread;
+    thread->own = &own;
     begin_together(thread);
     pthread_exit(thread->start(thread->argument));
 }
@@ -136,7 +137,7 @@ static void retire(struct dthreads_thread *thread)
 {
     stack_give(thread->stack);
     thread->stack = NULL;
-    thread->life = thread->detached ? PARKED : ENDED;
+    thread->life = !thread->detached ? ENDED : thread->ended_with > 0 ? LOST : PARKED;
     if (thread->joiner)
         monitor_wake(thread->joiner, WOKEN);
     thread->woken = 0;
@@ -150,10 +151,13 @@ void pthread_exit(void *value)
     own.ending = true;
     run_cleanup();
     keys_destroy_values();
+    if (readings_drop)
+        readings_drop();
     monitor_enter();
     if (monitor.living == 1)
         exit(0);
     heap_flush();
+    thread->ended_with = own.held;
     monitor_hold();
     thread->result = value;
     monitor.living--;
@@ -167,7 +171,7 @@ static void reap(struct dthreads_thread *thread, void **value)
 {
     if (value)
         *value = thread->result;
-    thread->life = PARKED;
+    thread->life = thread->ended_with > 0 ? LOST : PARKED;
 }
 
 static int join(pthread_t name, void **value, uint64_t deadline)
@@ -179,6 +183,8 @@ static int join(pthread_t name, void **value, uint64_t deadline)
         return EDEADLK;
     if (thread->detached || thread->joiner)
         return EINVAL;
+    if (cancel_is_due() && deadline > 0)
+        return EINTR;
     enum wake wake = WOKEN;
     while (thread->life != ENDED && wake == WOKEN) {
         thread->joiner = self();
@@ -215,8 +221,13 @@ int pthread_tryjoin_np(pthread_t name, void **value)
 
 int pthread_timedjoin_np(pthread_t name, void **value, const struct timespec *time)
 {
-    uint64_t deadline;
-    if (!deadline_of(CLOCK_REALTIME, time, &deadline))
+    return pthread_clockjoin_np(name, value, CLOCK_REALTIME, time);
+}
+
+int pthread_clockjoin_np(pthread_t name, void **value, clockid_t clock, const struct timespec *time)
+{
+    uint64_t deadline = NEVER;
+    if (time && !deadline_of(clock, time, &deadline))
         return EINVAL;
     return join_until(name, value, deadline);
 }
@@ -226,10 +237,11 @@ int pthread_detach(pthread_t name)
     monitor_enter();
     struct dthreads_thread *thread = thread_of(name);
     int code = !thread ? ESRCH : thread->detached ? EINVAL : 0;
-    if (code == 0) {
+    /* A thread that another one waits for is the other's. */
+    if (code == 0 && !thread->joiner) {
         thread->detached = true;
         if (thread->life == ENDED)
-            thread->life = PARKED;
+            reap(thread, NULL);
     }
     monitor_leave();
     return code;
@@ -298,4 +310,5 @@ void thread_begin(void)
     thread->stack_size = DTHREADS_FIRST_STACK;
     thread->stack_base = (char *)(uintptr_t)(FIRST_STACK_TOP - DTHREADS_FIRST_STACK);
     own.thread = thread;
+    thread->own = &own;
 }
