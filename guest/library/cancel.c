@@ -57,7 +57,7 @@ void pthread_testcancel(void)
         return;
     monitor_enter();
     bool is_cancelled = self()->cancelled;
-    monitor_leave();
+    monitor_finish();
     if (is_cancelled)
         pthread_exit(PTHREAD_CANCELED);
 }

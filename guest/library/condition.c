@@ -14,7 +14,7 @@ static enum wake wait_here(pthread_cond_t *condition, pthread_mutex_t *mutex, ui
 {
     unsigned count = mutex->count;
     mutex_release(mutex);
-    enum wake wake = monitor_sleep(&condition->waiters, deadline, true);
+    enum wake wake = monitor_sleep_lightly(&condition->waiters, deadline, true);
     mutex_retake(mutex, count);
     return wake;
 }
@@ -27,7 +27,7 @@ static int wait_until(pthread_cond_t *condition, pthread_mutex_t *mutex, uint64_
         return EPERM;
     }
     enum wake wake = wait_here(condition, mutex, deadline);
-    monitor_leave();
+    monitor_finish();
     cancel_here(wake);
     return wake == TIMED_OUT ? ETIMEDOUT : 0;
 }
@@ -54,7 +54,7 @@ int pthread_cond_signal(pthread_cond_t *condition)
 {
     monitor_enter();
     monitor_wake_first(&condition->waiters);
-    monitor_leave();
+    monitor_finish();
     return 0;
 }
 
@@ -62,7 +62,7 @@ int pthread_cond_broadcast(pthread_cond_t *condition)
 {
     monitor_enter();
     monitor_wake_all(&condition->waiters);
-    monitor_leave();
+    monitor_finish();
     return 0;
 }
 

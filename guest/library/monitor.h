@@ -36,7 +36,9 @@ enum {
 enum wake {
     WOKEN,
     TIMED_OUT,
-    CANCELLED
+    CANCELLED,
+    /* By a signal. */
+    INTERRUPTED
 };
 
 enum life {
@@ -65,6 +67,7 @@ struct dthreads_thread {
     uint8_t wake;
     bool asleep;
     bool may_be_cancelled;
+    bool may_be_interrupted;
     bool cancelled;
     bool detached;
     bool is_writer;
@@ -76,6 +79,10 @@ struct dthreads_thread {
     void *(*start)(void *);
     void *argument;
     void *result;
+    /* Signals, a bit each: that came, that are to wait, and for which the thread waits. */
+    uint64_t pending;
+    uint64_t blocked;
+    uint64_t awaited;
     /* How many threads had been created with it. */
     uint32_t created;
     struct stack *stack;
@@ -118,6 +125,10 @@ struct monitor {
     uint32_t waiting[OWN_CONDITIONS + CROWD_CONDITIONS];
     struct stack *stacks;
     uint32_t crowds;
+    /* Signals that no thread takes yet, and the alarm's time with its interval. */
+    uint64_t signals;
+    uint64_t alarm;
+    uint64_t alarm_interval;
 };
 
 extern struct monitor monitor;
@@ -138,6 +149,8 @@ static inline bool alone(void)
 /* Between these a thread sees and changes what all share; calls may nest. */
 void monitor_enter(void);
 void monitor_leave(void);
+/* Leaves it at the end of a call of the program: signals that came are delivered. */
+void monitor_finish(void);
 /* Makes sure that the machine's mutex is held, for a thread in the monitor that is no longer alone, or sleeps. */
 void monitor_hold(void);
 /* Lets others have their turns, also where mutexes are held. */
@@ -145,7 +158,9 @@ void monitor_breathe(void);
 
 /* Sleeps in a queue, or in none, until another thread wakes this one or the clock reaches the deadline. */
 enum wake monitor_sleep(struct dthreads_queue *queue, uint64_t deadline, bool may_be_cancelled);
-/* As above, for a queue whose sleepers are all woken at once: `crowd` is its condition's number. */
+/* As the first, but a signal ends the sleep, too. */
+enum wake monitor_sleep_lightly(struct dthreads_queue *queue, uint64_t deadline, bool may_be_cancelled);
+/* As the first, for a queue whose sleepers are all woken at once: `crowd` is its condition's number. */
 void monitor_sleep_in_crowd(struct dthreads_queue *queue, uint32_t crowd);
 void monitor_wake(struct dthreads_thread *thread, enum wake wake);
 /* Wakes the first of a queue, or nobody. */
@@ -167,6 +182,19 @@ void cancel_here(enum wake wake);
 bool cancel_is_due(void);
 /* A call that takes no turn to find out. */
 void cancel_point(void);
+
+/* Of the functions of signal.h, which are linked by need. Runs the handlers of what came; false if one of them doesn't let the
+ * call that it interrupted go on. */
+__attribute__((weak)) bool signals_deliver(void);
+/* The alarm's time has come. */
+__attribute__((weak)) void alarm_ring(void);
+
+/* A place where signals may be delivered. */
+static inline void signal_point(void)
+{
+    if (signals_deliver && own.thread && own.depth == 0 && own.thread->pending & ~own.thread->blocked)
+        signals_deliver();
+}
 
 void mutex_acquire(pthread_mutex_t *mutex);
 void mutex_release(pthread_mutex_t *mutex);

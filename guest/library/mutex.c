@@ -50,7 +50,7 @@ static int mutex_lock(pthread_mutex_t *mutex, uint64_t deadline)
 {
     monitor_enter();
     int code = mutex_take(mutex, deadline);
-    monitor_leave();
+    monitor_finish();
     return code;
 }
 
@@ -77,7 +77,7 @@ int pthread_mutex_trylock(pthread_mutex_t *mutex)
     monitor_enter();
     bool is_busy = mutex->owner && !(mutex->owner == self() && mutex->kind == PTHREAD_MUTEX_RECURSIVE);
     int code = is_busy ? EBUSY : mutex_take(mutex, NEVER);
-    monitor_leave();
+    monitor_finish();
     return code;
 }
 
@@ -90,7 +90,7 @@ int pthread_mutex_unlock(pthread_mutex_t *mutex)
         mutex_release(mutex);
     else if (!is_mine && code == 0)
         mutex_free(mutex);
-    monitor_leave();
+    monitor_finish();
     return code;
 }
 
@@ -195,7 +195,7 @@ int pthread_spin_trylock(pthread_spinlock_t *lock)
         lock->owner = self();
         own.held++;
     }
-    monitor_leave();
+    monitor_finish();
     return code;
 }
 
@@ -209,7 +209,7 @@ int pthread_spin_lock(pthread_spinlock_t *lock)
         lock->owner = self();
         own.held++;
     }
-    monitor_leave();
+    monitor_finish();
     return code;
 }
 
@@ -221,6 +221,6 @@ int pthread_spin_unlock(pthread_spinlock_t *lock)
         own.held--;
         lock->owner = monitor_wake_first(&lock->waiters);
     }
-    monitor_leave();
+    monitor_finish();
     return code;
 }

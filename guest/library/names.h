@@ -2,6 +2,7 @@
 #ifndef NAMES_H
 #define NAMES_H
 
+#define alarm_ring dthreads_own_alarm_ring
 #define block_below dthreads_own_block_below
 #define cancel_here dthreads_own_cancel_here
 #define cancel_is_due dthreads_own_cancel_is_due
@@ -44,16 +45,19 @@
 #define heap_pages dthreads_own_heap_pages
 #define heap_unmap dthreads_own_heap_unmap
 #define is_dots dthreads_own_is_dots
+#define is_signal dthreads_own_is_signal
 #define keys_destroy_values dthreads_own_keys_destroy_values
 #define monitor dthreads_own_monitor
 #define monitor_breathe dthreads_own_monitor_breathe
 #define monitor_enter dthreads_own_monitor_enter
+#define monitor_finish dthreads_own_monitor_finish
 #define monitor_hold dthreads_own_monitor_hold
 #define monitor_leave dthreads_own_monitor_leave
 #define monitor_one_less dthreads_own_monitor_one_less
 #define monitor_rouse dthreads_own_monitor_rouse
 #define monitor_sleep dthreads_own_monitor_sleep
 #define monitor_sleep_in_crowd dthreads_own_monitor_sleep_in_crowd
+#define monitor_sleep_lightly dthreads_own_monitor_sleep_lightly
 #define monitor_wake dthreads_own_monitor_wake
 #define monitor_wake_all dthreads_own_monitor_wake_all
 #define monitor_wake_first dthreads_own_monitor_wake_first
@@ -86,6 +90,10 @@
 #define readings_drop dthreads_own_readings_drop
 #define real_of_double dthreads_own_real_of_double
 #define real_of_long dthreads_own_real_of_long
+#define signal_info dthreads_own_signal_info
+#define signal_send dthreads_own_signal_send
+#define signals_abort dthreads_own_signals_abort
+#define signals_deliver dthreads_own_signals_deliver
 #define stack_attach dthreads_own_stack_attach
 #define stack_give dthreads_own_stack_give
 #define stream_close dthreads_own_stream_close

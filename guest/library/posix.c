@@ -7,8 +7,6 @@
 #define DESCRIPTORS 256
 
 enum {
-    /* The status of a program that a signal ended is its number and this. */
-    BY_SIGNAL = 128,
     PROCESS = 1,
     PROCESSORS = 4
 };
@@ -22,15 +20,6 @@ static int refuse(int code)
 pid_t getpid(void)
 {
     return PROCESS;
-}
-
-/* A signal that has no handler ends the run; raise calls this. */
-int kill(pid_t process, int signal)
-{
-    if (process != PROCESS)
-        return refuse(ESRCH);
-    output_flush();
-    _exit(BY_SIGNAL + signal);
 }
 
 /* The standard stream of the console that a descriptor has open, or another number. */

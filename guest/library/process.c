@@ -94,8 +94,12 @@ void exit(int status)
     _exit(status);
 }
 
+__attribute__((weak)) void signals_abort(void);
+
 void abort(void)
 {
+    if (signals_abort)
+        signals_abort();
     output_flush();
     _exit(ABORTED);
 }

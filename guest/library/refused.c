@@ -9,13 +9,6 @@ int pthread_atfork(void (*prepare)(void), void (*parent)(void), void (*child)(vo
     return ENOSYS;
 }
 
-int pthread_kill(pthread_t thread, int signal)
-{
-    (void)thread;
-    (void)signal;
-    return ENOSYS;
-}
-
 int pthread_getschedparam(pthread_t thread, int *policy, struct sched_param *parameters)
 {
     (void)thread;

@@ -124,7 +124,7 @@ static int read_until(pthread_rwlock_t *lock, uint64_t deadline)
         code = wait_for_turn(lock, false, deadline);
     if (code == 0)
         reading_begin(lock);
-    monitor_leave();
+    monitor_finish();
     return code;
 }
 
@@ -140,7 +140,7 @@ static int write_until(pthread_rwlock_t *lock, uint64_t deadline)
         code = wait_for_turn(lock, true, deadline);
     if (code == 0)
         own.held++;
-    monitor_leave();
+    monitor_finish();
     return code;
 }
 
@@ -204,7 +204,7 @@ int pthread_rwlock_unlock(pthread_rwlock_t *lock)
     }
     if (code == 0)
         hand_over(lock);
-    monitor_leave();
+    monitor_finish();
     return code;
 }
 

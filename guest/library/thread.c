@@ -44,6 +44,9 @@ static void thread_fill(struct dthreads_thread *thread, void *(*start)(void *), 
     thread->joiner = NULL;
     thread->cancelled = false;
     thread->asleep = false;
+    thread->pending = 0;
+    thread->awaited = 0;
+    thread->blocked = self() ? self()->blocked : 0;
     strcpy(thread->name, self() ? self()->name : "");
     thread->deadline = NEVER;
 }
@@ -93,7 +96,7 @@ int pthread_create(pthread_t *name, const pthread_attr_t *attributes, void *(*st
     output_flush();
     monitor_enter();
     int code = thread_make(name, attributes, start, argument);
-    monitor_leave();
+    monitor_finish();
     return code;
 }
 
@@ -188,11 +191,13 @@ static int join(pthread_t name, void **value, uint64_t deadline)
     enum wake wake = WOKEN;
     while (thread->life != ENDED && wake == WOKEN) {
         thread->joiner = self();
-        wake = monitor_sleep(NULL, deadline, true);
+        wake = monitor_sleep_lightly(NULL, deadline, true);
         thread->joiner = NULL;
     }
     if (wake == CANCELLED)
         return EINTR;
+    if (wake == INTERRUPTED && thread->life != ENDED)
+        return EAGAIN;
     if (thread->life != ENDED)
         return ETIMEDOUT;
     reap(thread, value);
@@ -203,7 +208,12 @@ static int join_until(pthread_t name, void **value, uint64_t deadline)
 {
     monitor_enter();
     int code = join(name, value, deadline);
-    monitor_leave();
+    while (code == EAGAIN) {
+        monitor_finish();
+        monitor_enter();
+        code = join(name, value, deadline);
+    }
+    monitor_finish();
     cancel_here(code == EINTR ? CANCELLED : WOKEN);
     return code;
 }
@@ -302,6 +312,7 @@ void thread_begin(void)
     struct dthreads_thread *thread = &threads[0];
     tls_fill(__tls_first);
     monitor.earliest = NEVER;
+    monitor.alarm = NEVER;
     monitor.living = 1;
     monitor.awake = 1;
     monitor.made = 1;
