@@ -4,6 +4,9 @@
 #include "console.h"
 #include "packed.h"
 
+/* Only a program in C++ with its library has it. */
+__attribute__((weak)) void dthreads_unwind_begin(void);
+
 /* Only a program that asks for its environment has it. */
 #pragma weak environ
 
@@ -34,6 +37,8 @@ static int count_arguments(char **arguments)
 __attribute__((noreturn)) static void run(char **arguments, char **environment)
 {
     dthreads_program_name = arguments[0];
+    if (dthreads_unwind_begin)
+        dthreads_unwind_begin();
     for (void (*const *each)(void) = __init_array_start; each < __init_array_end; each++)
         (*each)();
     exit(main(count_arguments(arguments), arguments, environment));
