@@ -10,80 +10,11 @@
 #include <sched.h>
 #include <errno.h>
 #include <dthreads/limits.h>
+#include <dthreads/types.h>
 
 #ifdef __cplusplus
 extern "C" {
 #endif
-
-struct dthreads_thread;
-
-/* Those who wait for an object, in the order in which they are woken. */
-struct dthreads_queue {
-    struct dthreads_thread *first;
-    struct dthreads_thread *last;
-};
-
-typedef unsigned long pthread_t;
-typedef unsigned pthread_key_t;
-
-typedef struct {
-    size_t stack_size;
-    void *stack_address;
-    size_t guard_size;
-    int detach_state;
-} pthread_attr_t;
-
-typedef struct {
-    int kind;
-    struct dthreads_thread *owner;
-    unsigned count;
-    struct dthreads_queue waiters;
-} pthread_mutex_t;
-
-typedef struct {
-    int kind;
-} pthread_mutexattr_t;
-
-typedef struct {
-    clockid_t clock;
-    struct dthreads_queue waiters;
-} pthread_cond_t;
-
-typedef struct {
-    clockid_t clock;
-} pthread_condattr_t;
-
-typedef struct {
-    unsigned count;
-    unsigned arrived;
-    unsigned crowd;
-    struct dthreads_queue waiters;
-} pthread_barrier_t;
-
-typedef struct {
-    int unused;
-} pthread_barrierattr_t;
-
-typedef struct {
-    struct dthreads_thread *writer;
-    unsigned readers;
-    struct dthreads_queue waiters;
-    int kind;
-} pthread_rwlock_t;
-
-typedef struct {
-    int kind;
-} pthread_rwlockattr_t;
-
-typedef struct {
-    struct dthreads_thread *owner;
-    struct dthreads_queue waiters;
-} pthread_spinlock_t;
-
-typedef struct {
-    int state;
-    struct dthreads_queue waiters;
-} pthread_once_t;
 
 enum {
     PTHREAD_CREATE_JOINABLE = 0,
@@ -281,6 +212,8 @@ int pthread_getattr_default_np(pthread_attr_t *);
 int pthread_setattr_default_np(const pthread_attr_t *);
 int pthread_setname_np(pthread_t, const char *);
 int pthread_getname_np(pthread_t, char *, size_t);
+int pthread_getaffinity_np(pthread_t, size_t, cpu_set_t *);
+int pthread_setaffinity_np(pthread_t, size_t, const cpu_set_t *);
 
 #ifdef __cplusplus
 }

@@ -22,6 +22,12 @@ extern "C" {
 #define FOPEN_MAX 256
 #endif
 
+ssize_t getline(char **__restrict, size_t *__restrict, FILE *__restrict);
+ssize_t getdelim(char **__restrict, size_t *__restrict, int, FILE *__restrict);
+FILE *open_memstream(char **, size_t *);
+int dprintf(int, const char *__restrict, ...) __attribute__((format(printf, 2, 3)));
+int vdprintf(int, const char *__restrict, __builtin_va_list) __attribute__((format(printf, 2, 0)));
+char *ctermid(char *);
 FILE *popen(const char *, const char *);
 int pclose(FILE *);
 int fclose(FILE *);

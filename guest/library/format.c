@@ -6,6 +6,7 @@
 #include <string.h>
 #include <wchar.h>
 #include "decimal.h"
+#include "wide.h"
 
 enum {
     /* Bytes of the longest integer, in octal digits. */
@@ -52,13 +53,16 @@ struct output {
     /* What was written so far. */
     int count;
     bool has_failed;
+    /* The text goes on as wide characters: its bytes are those of UTF-8, and characters are counted. */
+    bool is_wide;
 };
 
 static void put(struct output *output, char character)
 {
     if (!output->has_failed && output->stream->put(character, output->stream) < 0)
         output->has_failed = true;
-    output->count++;
+    if (!output->is_wide || (character & 0xc0) != 0x80)
+        output->count++;
 }
 
 static void put_text(struct output *output, const char *text, int length)
@@ -160,41 +164,49 @@ static void put_string(struct output *output, const struct directive *directive,
     put_field(output, directive, text, (int)strnlen(text, most));
 }
 
-/* The bytes of wide text, as many whole characters as `most` bytes have room for; fewer than 0 where one has no bytes. */
-static int wide_bytes(const wchar_t *text, int most)
+/* The bytes of a wide character, and how many places it takes; fewer than 0 where it has none. */
+static int wide_bytes(const struct output *output, wchar_t character, char *bytes, int *length)
+{
+    mbstate_t state = {0};
+    if (output->is_wide) {
+        *length = utf8_put(bytes, character);
+        return 1;
+    }
+    return *length = (int)wcrtomb(bytes, character, &state);
+}
+
+/* The places of wide text: of as many whole characters as `most` places have room for. */
+static int wide_places(const struct output *output, const wchar_t *text, int most)
 {
     char bytes[8];
-    mbstate_t state = {0};
-    int length = 0;
-    for (; *text; text++) {
-        int more = (int)wcrtomb(bytes, *text, &state);
+    int places = 0, length;
+    for (; places < most && *text; text++) {
+        int more = wide_bytes(output, *text, bytes, &length);
         if (more < 0)
             return -1;
-        if (more > most - length)
+        if (more > most - places)
             break;
-        length += more;
+        places += more;
     }
-    return length;
+    return places;
 }
 
 static void put_wide(struct output *output, const struct directive *directive, const wchar_t *text)
 {
     char bytes[8];
-    mbstate_t state = {0};
-    int start = output->count;
+    int start = output->count, length;
     if (!text)
         text = L"(null)";
-    int length = wide_bytes(text, directive->precision == NONE ? INT32_MAX : directive->precision);
-    if (length < 0) {
+    int places = wide_places(output, text, directive->precision == NONE ? INT32_MAX : directive->precision);
+    if (places < 0) {
         output->has_failed = true;
         return;
     }
     if (!directive->is_left)
-        fill(output, ' ', directive->width - length);
-    for (int done = 0; done < length; text++) {
-        int more = (int)wcrtomb(bytes, *text, &state);
-        put_text(output, bytes, more);
-        done += more;
+        fill(output, ' ', directive->width - places);
+    for (int done = 0; done < places; text++) {
+        done += wide_bytes(output, *text, bytes, &length);
+        put_text(output, bytes, length);
     }
     end_field(output, directive, start);
 }
@@ -202,15 +214,17 @@ static void put_wide(struct output *output, const struct directive *directive, c
 static void put_character(struct output *output, const struct directive *directive, wint_t character)
 {
     char bytes[8] = {(char)character};
-    int length = 1;
-    if (directive->size == OF_LONG) {
-        mbstate_t state = {0};
-        length = (int)wcrtomb(bytes, (wchar_t)character, &state);
-    }
-    if (length < 0)
+    int length = 1, places = 1, start = output->count;
+    if (directive->size == OF_LONG)
+        places = wide_bytes(output, (wchar_t)character, bytes, &length);
+    if (places < 0) {
         output->has_failed = true;
-    else
-        put_field(output, directive, bytes, length);
+        return;
+    }
+    if (!directive->is_left)
+        fill(output, ' ', directive->width - places);
+    put_text(output, bytes, length);
+    end_field(output, directive, start);
 }
 
 /* Floating point. */
@@ -697,7 +711,7 @@ static bool is_numbered(const char *format)
 
 int dthreads_exact_vfprintf(FILE *stream, const char *format, va_list given)
 {
-    struct output output = {.stream = stream};
+    struct output output = {.stream = stream, .is_wide = stream_is_wide(stream)};
     union value values[MOST_NUMBERED];
     va_list list;
     int error = errno;

@@ -110,8 +110,13 @@
 #define thread_of dthreads_own_thread_of
 #define threads dthreads_own_threads
 #define tls_fill dthreads_own_tls_fill
+#define utf8_of dthreads_own_utf8_of
+#define utf8_put dthreads_own_utf8_put
+#define utf8_take dthreads_own_utf8_take
 #define wide_down dthreads_own_wide_down
 #define wide_length dthreads_own_wide_length
+#define wide_text_get dthreads_own_wide_text_get
+#define wide_text_put dthreads_own_wide_text_put
 #define wide_up dthreads_own_wide_up
 
 #endif

@@ -8,6 +8,7 @@
 #include <stdlib.h>
 #include <string.h>
 #include <wchar.h>
+#include "wide.h"
 
 enum {
     /* The field of a number that needs no memory. */
@@ -303,6 +304,9 @@ struct target {
     size_t length;
     size_t size;
     mbstate_t state;
+    struct utf8 utf8;
+    /* The input's bytes are those of wide characters. */
+    bool is_from_wide;
     bool has_failed;
 };
 
@@ -350,6 +354,8 @@ static void target_add(struct target *target, int character)
         return;
     if (target->bytes)
         target->bytes[target->length++] = byte;
+    else if (target->is_from_wide)
+        target->length += utf8_take(&target->utf8, (unsigned char)byte, &target->wide[target->length]);
     else if (mbrtowc(&target->wide[target->length], &byte, 1, &target->state) <= 1)
         target->length++;
 }
@@ -406,6 +412,7 @@ static enum outcome scan_text(struct source *source, const struct directive *dir
         for (int i = 0; i < BYTES; i++)
             members[i] = !isspace(i);
     target_begin(&target, directive, place);
+    target.is_from_wide = stream_is_wide(source->stream);
     while ((character = next(source)) != EOF && members[character]) {
         target_add(&target, character);
         count++;
@@ -420,6 +427,7 @@ static enum outcome scan_characters(struct source *source, const struct directiv
     int character, wanted = directive->width == ANY_WIDTH ? 1 : directive->width;
     source->left = wanted;
     target_begin(&target, directive, place);
+    target.is_from_wide = stream_is_wide(source->stream);
     while (source->left > 0 && (character = next(source)) != EOF)
         target_add(&target, character);
     return source->left == wanted ? target_drop(&target, source) : target_end(&target, false);

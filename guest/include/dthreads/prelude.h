@@ -7,6 +7,10 @@
 #define DTHREADS_PRELUDE_H
 #pragma GCC system_header
 
+/* Programs ask by these whether there is what POSIX has. */
+#define __unix__ 1
+#define __unix 1
+
 /* Numbers of 32 bits are ints, as on other machines of 32 bits: an int and a uint32_t may then be the same object. To this
  * compiler they were longs, which have the same size; the C library's files know no difference. */
 #undef __INT32_TYPE__
