@@ -41,6 +41,14 @@ enum wake {
     INTERRUPTED
 };
 
+/* A robust mutex: as it was made, its owner has ended with it, and nobody has made it consistent since. */
+enum robust {
+    STALLED,
+    ROBUST,
+    OWNER_DEAD,
+    NOT_RECOVERABLE
+};
+
 enum life {
     UNUSED,
     LIVING,
@@ -83,6 +91,8 @@ struct dthreads_thread {
     uint64_t pending;
     uint64_t blocked;
     uint64_t awaited;
+    /* The robust mutexes that it holds. */
+    pthread_mutex_t *robust;
     /* How many threads had been created with it. */
     uint32_t created;
     struct stack *stack;
@@ -198,6 +208,13 @@ static inline void signal_point(void)
 
 void mutex_acquire(pthread_mutex_t *mutex);
 void mutex_release(pthread_mutex_t *mutex);
+/* What the new owner of a mutex learns of the one before: 0, or EOWNERDEAD. */
+int mutex_code(const pthread_mutex_t *mutex);
+/* Frees the robust mutexes of a thread that ends. */
+__attribute__((weak)) void robust_leave(struct dthreads_thread *thread);
+/* Keeps a robust mutex with its owner's, and takes it from there. */
+__attribute__((weak)) void robust_hold(pthread_mutex_t *mutex);
+__attribute__((weak)) void robust_drop(pthread_mutex_t *mutex);
 
 /* Gives this thread's cached blocks back. */
 void heap_flush(void);

@@ -62,6 +62,7 @@
 #define monitor_wake_all dthreads_own_monitor_wake_all
 #define monitor_wake_first dthreads_own_monitor_wake_first
 #define mutex_acquire dthreads_own_mutex_acquire
+#define mutex_code dthreads_own_mutex_code
 #define mutex_release dthreads_own_mutex_release
 #define node_make dthreads_own_node_make
 #define node_open dthreads_own_node_open
@@ -90,6 +91,9 @@
 #define readings_drop dthreads_own_readings_drop
 #define real_of_double dthreads_own_real_of_double
 #define real_of_long dthreads_own_real_of_long
+#define robust_drop dthreads_own_robust_drop
+#define robust_hold dthreads_own_robust_hold
+#define robust_leave dthreads_own_robust_leave
 #define signal_info dthreads_own_signal_info
 #define signal_send dthreads_own_signal_send
 #define signals_abort dthreads_own_signals_abort

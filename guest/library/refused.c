@@ -52,12 +52,6 @@ int pthread_getcpuclockid(pthread_t thread, clockid_t *clock)
     return ENOSYS;
 }
 
-int pthread_mutex_consistent(pthread_mutex_t *mutex)
-{
-    (void)mutex;
-    return EINVAL;
-}
-
 int pthread_mutex_getprioceiling(const pthread_mutex_t *mutex, int *ceiling)
 {
     (void)mutex;

@@ -45,6 +45,7 @@ static void thread_fill(struct dthreads_thread *thread, void *(*start)(void *), 
     thread->cancelled = false;
     thread->asleep = false;
     thread->pending = 0;
+    thread->robust = NULL;
     thread->awaited = 0;
     thread->blocked = self() ? self()->blocked : 0;
     strcpy(thread->name, self() ? self()->name : "");
@@ -160,6 +161,8 @@ void pthread_exit(void *value)
     if (monitor.living == 1)
         exit(0);
     heap_flush();
+    if (robust_leave)
+        robust_leave(thread);
     thread->ended_with = own.held;
     monitor_hold();
     thread->result = value;

@@ -22,15 +22,19 @@ typedef struct {
     int detach_state;
 } pthread_attr_t;
 
-typedef struct {
+typedef struct dthreads_mutex {
     int kind;
     struct dthreads_thread *owner;
     unsigned count;
     struct dthreads_queue waiters;
+    /* Of a robust one: whether its owner has ended with it, and the owner's next robust one. */
+    int robust;
+    struct dthreads_mutex *next;
 } pthread_mutex_t;
 
 typedef struct {
     int kind;
+    int robust;
 } pthread_mutexattr_t;
 
 typedef struct {
