@@ -1,6 +1,5 @@
 /* Semaphores without a name. A post goes to the first that waits. */
 #include <semaphore.h>
-#include <stdarg.h>
 #include "monitor.h"
 
 static int refuse(int code)
@@ -93,24 +92,4 @@ int sem_getvalue(sem_t *semaphore, int *value)
     *value = (int)semaphore->value;
     monitor_finish();
     return 0;
-}
-
-sem_t *sem_open(const char *name, int flags, ...)
-{
-    (void)name;
-    (void)flags;
-    errno = ENOSYS;
-    return SEM_FAILED;
-}
-
-int sem_close(sem_t *semaphore)
-{
-    (void)semaphore;
-    return refuse(ENOSYS);
-}
-
-int sem_unlink(const char *name)
-{
-    (void)name;
-    return refuse(ENOSYS);
 }
