@@ -9,6 +9,7 @@ PHDRS
     constants PT_LOAD FLAGS(4);
     data PT_LOAD FLAGS(6);
     template PT_TLS FLAGS(4);
+    note PT_NOTE FLAGS(4);
 }
 
 SECTIONS
@@ -36,6 +37,11 @@ SECTIONS
         KEEP(*(.fini_array))
         __fini_array_end = .;
     } :constants
+
+    /* That the kit's library started the program, for guest/dthreads-exec. */
+    .note.dthreads : {
+        KEEP(*(.note.dthreads))
+    } :constants :note
 
     /* A thread's block keeps the template's place modulo the greater alignment of both parts. */
     __tls_align = MAX(MAX(ALIGNOF(.tdata), ALIGNOF(.tbss)), 16);
@@ -86,3 +92,7 @@ SECTIONS
     .riscv.attributes 0 : { KEEP(*(.riscv.attributes)) }
     /DISCARD/ : { *(.comment) *(.note .note.*) *(.eh_frame) *(.eh_frame.*) *(.gcc_except_table*) }
 }
+
+/* What the machine would refuse when it loads the file: over 16,384 pages, or an address from 0x20000000 on. */
+__dthreads_pages = (ALIGN(ADDR(.bss) + SIZEOF(.bss), 4096) - 0x00010000) / 4096;
+ASSERT(__dthreads_pages <= 16384, "dthreads-cc: the program's code and data take over 64 MiB, more than the machine loads: use malloc")

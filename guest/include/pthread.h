@@ -10,79 +10,11 @@
 #include <sched.h>
 #include <errno.h>
 #include <dthreads/limits.h>
+#include <dthreads/types.h>
 
 #ifdef __cplusplus
 extern "C" {
 #endif
-
-struct dthreads_thread;
-
-/* Those who wait for an object, in the order in which they are woken. */
-struct dthreads_queue {
-    struct dthreads_thread *first;
-    struct dthreads_thread *last;
-};
-
-typedef unsigned long pthread_t;
-typedef unsigned pthread_key_t;
-
-typedef struct {
-    size_t stack_size;
-    void *stack_address;
-    size_t guard_size;
-    int detach_state;
-} pthread_attr_t;
-
-typedef struct {
-    int kind;
-    struct dthreads_thread *owner;
-    unsigned count;
-    struct dthreads_queue waiters;
-} pthread_mutex_t;
-
-typedef struct {
-    int kind;
-} pthread_mutexattr_t;
-
-typedef struct {
-    clockid_t clock;
-    struct dthreads_queue waiters;
-} pthread_cond_t;
-
-typedef struct {
-    clockid_t clock;
-} pthread_condattr_t;
-
-typedef struct {
-    unsigned count;
-    unsigned arrived;
-    unsigned crowd;
-    struct dthreads_queue waiters;
-} pthread_barrier_t;
-
-typedef struct {
-    int unused;
-} pthread_barrierattr_t;
-
-typedef struct {
-    struct dthreads_thread *writer;
-    unsigned readers;
-    struct dthreads_queue waiters;
-} pthread_rwlock_t;
-
-typedef struct {
-    int unused;
-} pthread_rwlockattr_t;
-
-typedef struct {
-    struct dthreads_thread *owner;
-    struct dthreads_queue waiters;
-} pthread_spinlock_t;
-
-typedef struct {
-    int state;
-    struct dthreads_queue waiters;
-} pthread_once_t;
 
 enum {
     PTHREAD_CREATE_JOINABLE = 0,
@@ -101,7 +33,20 @@ enum {
     PTHREAD_MUTEX_ERRORCHECK_NP = PTHREAD_MUTEX_ERRORCHECK
 };
 
-enum { PTHREAD_MUTEX_STALLED = 0, PTHREAD_MUTEX_ROBUST = 1 };
+/* Whether a reader goes before a writer that waits: always, if it reads the lock already, never. */
+enum {
+    PTHREAD_RWLOCK_PREFER_READER_NP = 1,
+    PTHREAD_RWLOCK_PREFER_WRITER_NP = 0,
+    PTHREAD_RWLOCK_PREFER_WRITER_NONRECURSIVE_NP = 2,
+    PTHREAD_RWLOCK_DEFAULT_NP = PTHREAD_RWLOCK_PREFER_WRITER_NP
+};
+
+enum {
+    PTHREAD_MUTEX_STALLED = 0,
+    PTHREAD_MUTEX_ROBUST = 1,
+    PTHREAD_MUTEX_STALLED_NP = PTHREAD_MUTEX_STALLED,
+    PTHREAD_MUTEX_ROBUST_NP = PTHREAD_MUTEX_ROBUST
+};
 enum { PTHREAD_PROCESS_PRIVATE = 0, PTHREAD_PROCESS_SHARED = 1 };
 enum { PTHREAD_CANCEL_ENABLE = 0, PTHREAD_CANCEL_DISABLE = 1 };
 enum { PTHREAD_CANCEL_DEFERRED = 0, PTHREAD_CANCEL_ASYNCHRONOUS = 1 };
@@ -113,11 +58,14 @@ enum { PTHREAD_PRIO_NONE = 0, PTHREAD_PRIO_INHERIT = 1, PTHREAD_PRIO_PROTECT = 2
 #define PTHREAD_CANCELED ((void *)-1)
 #define PTHREAD_NULL ((pthread_t)0)
 
-#define PTHREAD_MUTEX_INITIALIZER { PTHREAD_MUTEX_NORMAL, NULL, 0, { NULL, NULL } }
-#define PTHREAD_RECURSIVE_MUTEX_INITIALIZER_NP { PTHREAD_MUTEX_RECURSIVE, NULL, 0, { NULL, NULL } }
-#define PTHREAD_ERRORCHECK_MUTEX_INITIALIZER_NP { PTHREAD_MUTEX_ERRORCHECK, NULL, 0, { NULL, NULL } }
+#define PTHREAD_MUTEX_INITIALIZER { PTHREAD_MUTEX_NORMAL, NULL, 0, { NULL, NULL }, 0, NULL }
+#define PTHREAD_RECURSIVE_MUTEX_INITIALIZER_NP { PTHREAD_MUTEX_RECURSIVE, NULL, 0, { NULL, NULL }, 0, NULL }
+#define PTHREAD_ERRORCHECK_MUTEX_INITIALIZER_NP { PTHREAD_MUTEX_ERRORCHECK, NULL, 0, { NULL, NULL }, 0, NULL }
+#define PTHREAD_ADAPTIVE_MUTEX_INITIALIZER_NP PTHREAD_MUTEX_INITIALIZER
 #define PTHREAD_COND_INITIALIZER { CLOCK_REALTIME, { NULL, NULL } }
-#define PTHREAD_RWLOCK_INITIALIZER { NULL, 0, { NULL, NULL } }
+#define PTHREAD_RWLOCK_INITIALIZER { NULL, 0, { NULL, NULL }, PTHREAD_RWLOCK_DEFAULT_NP }
+#define PTHREAD_RWLOCK_WRITER_NONRECURSIVE_INITIALIZER_NP \
+    { NULL, 0, { NULL, NULL }, PTHREAD_RWLOCK_PREFER_WRITER_NONRECURSIVE_NP }
 #define PTHREAD_ONCE_INIT { 0, { NULL, NULL } }
 
 /* Threads. */
@@ -125,6 +73,7 @@ int pthread_create(pthread_t *, const pthread_attr_t *, void *(*)(void *), void 
 int pthread_join(pthread_t, void **);
 int pthread_tryjoin_np(pthread_t, void **);
 int pthread_timedjoin_np(pthread_t, void **, const struct timespec *);
+int pthread_clockjoin_np(pthread_t, void **, clockid_t, const struct timespec *);
 int pthread_detach(pthread_t);
 void pthread_exit(void *) __attribute__((noreturn));
 pthread_t pthread_self(void);
@@ -210,6 +159,8 @@ int pthread_rwlockattr_init(pthread_rwlockattr_t *);
 int pthread_rwlockattr_destroy(pthread_rwlockattr_t *);
 int pthread_rwlockattr_setpshared(pthread_rwlockattr_t *, int);
 int pthread_rwlockattr_getpshared(const pthread_rwlockattr_t *, int *);
+int pthread_rwlockattr_setkind_np(pthread_rwlockattr_t *, int);
+int pthread_rwlockattr_getkind_np(const pthread_rwlockattr_t *, int *);
 
 /* Spin locks, which don't spin. */
 int pthread_spin_init(pthread_spinlock_t *, int);
@@ -267,6 +218,8 @@ int pthread_getattr_default_np(pthread_attr_t *);
 int pthread_setattr_default_np(const pthread_attr_t *);
 int pthread_setname_np(pthread_t, const char *);
 int pthread_getname_np(pthread_t, char *, size_t);
+int pthread_getaffinity_np(pthread_t, size_t, cpu_set_t *);
+int pthread_setaffinity_np(pthread_t, size_t, const cpu_set_t *);
 
 #ifdef __cplusplus
 }

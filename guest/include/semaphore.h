@@ -1,7 +1,8 @@
-/* Semaphores of POSIX without a name. Named ones and those shared between processes answer ENOSYS. */
+/* Semaphores of POSIX, with and without a name, among the threads of the process. */
 #ifndef _SEMAPHORE_H
 #define _SEMAPHORE_H
 
+#include <fcntl.h>
 #include <pthread.h>
 
 #ifdef __cplusplus

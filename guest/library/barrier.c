@@ -9,7 +9,7 @@ int pthread_barrier_init(pthread_barrier_t *barrier, const pthread_barrierattr_t
         return EINVAL;
     monitor_enter();
     *barrier = (pthread_barrier_t){.count = count, .crowd = monitor.crowds++};
-    monitor_leave();
+    monitor_finish();
     return 0;
 }
 
@@ -30,7 +30,7 @@ int pthread_barrier_wait(pthread_barrier_t *barrier)
     } else {
         monitor_sleep_in_crowd(&barrier->waiters, barrier->crowd);
     }
-    monitor_leave();
+    monitor_finish();
     if (wakes_others && !own.inside)
         dthreads_sync();
     return is_last ? PTHREAD_BARRIER_SERIAL_THREAD : 0;

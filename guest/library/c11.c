@@ -85,7 +85,7 @@ void thrd_yield(void)
 
 int mtx_init(mtx_t *mutex, int type)
 {
-    pthread_mutexattr_t attributes = {type & mtx_recursive ? PTHREAD_MUTEX_RECURSIVE : PTHREAD_MUTEX_NORMAL};
+    pthread_mutexattr_t attributes = {.kind = type & mtx_recursive ? PTHREAD_MUTEX_RECURSIVE : PTHREAD_MUTEX_NORMAL};
     return result_of(pthread_mutex_init(mutex, &attributes));
 }
 

@@ -7,6 +7,17 @@ void cancel_here(enum wake wake)
         pthread_exit(PTHREAD_CANCELED);
 }
 
+bool cancel_is_due(void)
+{
+    return self() && self()->cancelled && !own.cancel_disabled && !own.ending;
+}
+
+void cancel_point(void)
+{
+    if (cancel_is_due())
+        pthread_exit(PTHREAD_CANCELED);
+}
+
 int pthread_cancel(pthread_t name)
 {
     monitor_enter();
@@ -46,7 +57,7 @@ void pthread_testcancel(void)
         return;
     monitor_enter();
     bool is_cancelled = self()->cancelled;
-    monitor_leave();
+    monitor_finish();
     if (is_cancelled)
         pthread_exit(PTHREAD_CANCELED);
 }

@@ -14,6 +14,6 @@ uint64_t read_clock(void)
 {
     monitor_enter();
     uint64_t now = monitor.clock;
-    monitor_leave();
+    monitor_finish();
     return now;
 }

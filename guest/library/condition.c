@@ -2,20 +2,23 @@
 #include "monitor.h"
 
 /* Takes the mutex again, however often it was held before. */
-static void mutex_retake(pthread_mutex_t *mutex, unsigned count)
+static int mutex_retake(pthread_mutex_t *mutex, unsigned count)
 {
     if (mutex->owner)
         monitor_sleep(&mutex->waiters, NEVER, false);
+    if (mutex->robust == NOT_RECOVERABLE)
+        return ENOTRECOVERABLE;
     mutex_acquire(mutex);
     mutex->count = count;
+    return mutex_code(mutex);
 }
 
-static enum wake wait_here(pthread_cond_t *condition, pthread_mutex_t *mutex, uint64_t deadline)
+static enum wake wait_here(pthread_cond_t *condition, pthread_mutex_t *mutex, uint64_t deadline, int *code)
 {
     unsigned count = mutex->count;
     mutex_release(mutex);
-    enum wake wake = monitor_sleep(&condition->waiters, deadline, true);
-    mutex_retake(mutex, count);
+    enum wake wake = monitor_sleep_lightly(&condition->waiters, deadline, true);
+    *code = mutex_retake(mutex, count);
     return wake;
 }
 
@@ -26,10 +29,11 @@ static int wait_until(pthread_cond_t *condition, pthread_mutex_t *mutex, uint64_
         monitor_leave();
         return EPERM;
     }
-    enum wake wake = wait_here(condition, mutex, deadline);
-    monitor_leave();
+    int code;
+    enum wake wake = wait_here(condition, mutex, deadline, &code);
+    monitor_finish();
     cancel_here(wake);
-    return wake == TIMED_OUT ? ETIMEDOUT : 0;
+    return code ? code : wake == TIMED_OUT ? ETIMEDOUT : 0;
 }
 
 int pthread_cond_wait(pthread_cond_t *condition, pthread_mutex_t *mutex)
@@ -54,7 +58,7 @@ int pthread_cond_signal(pthread_cond_t *condition)
 {
     monitor_enter();
     monitor_wake_first(&condition->waiters);
-    monitor_leave();
+    monitor_finish();
     return 0;
 }
 
@@ -62,7 +66,7 @@ int pthread_cond_broadcast(pthread_cond_t *condition)
 {
     monitor_enter();
     monitor_wake_all(&condition->waiters);
-    monitor_leave();
+    monitor_finish();
     return 0;
 }
 

@@ -5,7 +5,7 @@
 #include <stdlib.h>
 #include <string.h>
 
-extern char *const dthreads_arguments[];
+extern const char *dthreads_program_name;
 
 /* One line: the program, the message, and what the error means where there is one. */
 static void say(int code, const char *format, va_list arguments)
@@ -14,7 +14,7 @@ static void say(int code, const char *format, va_list arguments)
     text[0] = 0;
     if (format)
         vsnprintf(text, sizeof text, format, arguments);
-    fprintf(stderr, "%s: %s%s%s\n", dthreads_arguments[0], text, code && format ? ": " : "", code ? strerror(code) : "");
+    fprintf(stderr, "%s: %s%s%s\n", dthreads_program_name, text, code && format ? ": " : "", code ? strerror(code) : "");
 }
 
 #define SAY(code) \

@@ -19,7 +19,8 @@ enum {
     /* A freed block of so many pages goes back to the machine, as long as less than a quarter of the heap was given. */
     RELEASED_PAGES = 64,
     /* What a page belongs to, beside the small sizes 1 to SIZES. */
-    LARGE = 255
+    LARGE = 255,
+    MAPPED = 254
 };
 
 static const uint16_t sizes[SIZES] = {
@@ -183,6 +184,41 @@ void *heap_pages(uint32_t pages)
     return pages_take(pages);
 }
 
+/* Pages of mmap, which may be given back in any parts. */
+
+void *heap_map(uint32_t pages)
+{
+    monitor_enter();
+    char *address = pages_take(pages);
+    for (uint32_t i = 0; address && i < pages; i++)
+        page_size[page_of(address) + i] = MAPPED;
+    monitor_leave();
+    return address;
+}
+
+static bool is_mapped(uint32_t first, uint32_t pages)
+{
+    if (first >= DTHREADS_HEAP_PAGES || pages > DTHREADS_HEAP_PAGES - first)
+        return false;
+    for (uint32_t i = 0; i < pages; i++)
+        if (page_size[first + i] != MAPPED)
+            return false;
+    return true;
+}
+
+bool heap_unmap(void *address, uint32_t pages)
+{
+    uint32_t first = page_of(address);
+    monitor_enter();
+    bool is_range = is_mapped(first, pages);
+    if (is_range) {
+        memset(&page_size[first], 0, pages);
+        pages_give(address, pages);
+    }
+    monitor_leave();
+    return is_range;
+}
+
 /* Small blocks. */
 
 static uint32_t size_index(size_t size)
@@ -249,13 +285,30 @@ void heap_flush(void)
 
 /* Large blocks. */
 
-static void *large(size_t size)
+/* Pages whose address is a multiple of so many bytes, a power of two: what was taken around them goes back. */
+static char *aligned_take(uint32_t pages, size_t align)
 {
-    if (size > (size_t)DTHREADS_HEAP_PAGES * DTHREADS_PAGE)
+    uint32_t more = (uint32_t)(align / DTHREADS_PAGE) - 1;
+    char *taken = pages_take(pages + more);
+    if (!taken || more == 0)
+        return taken;
+    uint32_t before = (uint32_t)((-(uintptr_t)taken & (align - 1)) / DTHREADS_PAGE);
+    char *address = taken + (size_t)before * DTHREADS_PAGE;
+    if (before > 0)
+        run_insert(taken, before);
+    if (before < more)
+        run_insert(address + (size_t)pages * DTHREADS_PAGE, more - before);
+    return address;
+}
+
+static void *large(size_t size, size_t align)
+{
+    size_t most = (size_t)DTHREADS_HEAP_PAGES * DTHREADS_PAGE;
+    if (size > most || align > most)
         return NULL;
-    uint32_t pages = (uint32_t)((size + DTHREADS_PAGE - 1) / DTHREADS_PAGE);
+    uint32_t pages = size == 0 ? 1 : (uint32_t)((size + DTHREADS_PAGE - 1) / DTHREADS_PAGE);
     monitor_enter();
-    char *address = pages_take(pages);
+    char *address = aligned_take(pages, align);
     if (address) {
         page_size[page_of(address)] = LARGE;
         large_pages[page_of(address)] = (uint16_t)pages;
@@ -277,31 +330,40 @@ static void large_free(char *address)
 
 void *malloc(size_t size)
 {
-    void *address = size <= LARGEST_SMALL ? small(size) : large(size);
+    void *address = size <= LARGEST_SMALL ? small(size) : large(size, DTHREADS_PAGE);
     if (!address)
         errno = ENOMEM;
     return address;
+}
+
+/* What the page of a block belongs to. An address that is no block's ends the program. */
+static uint32_t kind_of(const void *address)
+{
+    uint32_t page = page_of(address);
+    uint32_t kind = page < DTHREADS_HEAP_PAGES ? page_size[page] : 0;
+    uint32_t align = kind == LARGE ? DTHREADS_PAGE : sizes[0];
+    if ((kind == LARGE || (kind > 0 && kind <= SIZES)) && (uintptr_t)address % align == 0)
+        return kind;
+    abort();
 }
 
 void free(void *address)
 {
     if (!address)
         return;
-    uint32_t kind = page_size[page_of(address)];
+    uint32_t kind = kind_of(address);
     if (kind == LARGE)
         large_free(address);
-    else if (kind > 0)
-        small_free(address, kind - 1);
     else
-        abort();
+        small_free(address, kind - 1);
 }
 
 size_t malloc_usable_size(void *address)
 {
     if (!address)
         return 0;
-    uint32_t page = page_of(address);
-    return page_size[page] == LARGE ? (size_t)large_pages[page] * DTHREADS_PAGE : sizes[page_size[page] - 1];
+    uint32_t kind = kind_of(address);
+    return kind == LARGE ? (size_t)large_pages[page_of(address)] * DTHREADS_PAGE : sizes[kind - 1];
 }
 
 void *calloc(size_t count, size_t size)
@@ -342,19 +404,21 @@ void *reallocarray(void *address, size_t count, size_t size)
     return realloc(address, all);
 }
 
-/* A block of a power of two lies at a multiple of its size, up to a page. */
+/* A small block of a power of two lies at a multiple of its size, and a large one at a multiple of a page. */
 void *memalign(size_t align, size_t size)
 {
     size_t whole = align;
-    if (align <= 16)
+    if (align <= sizes[0] || (size > LARGEST_SMALL && align <= DTHREADS_PAGE))
         return malloc(size);
-    if (align > DTHREADS_PAGE) {
-        errno = ENOMEM;
-        return NULL;
+    if (align > LARGEST_SMALL) {
+        void *address = large(size, align < DTHREADS_PAGE ? DTHREADS_PAGE : align);
+        if (!address)
+            errno = ENOMEM;
+        return address;
     }
     while (whole < size)
         whole *= 2;
-    return malloc(size > LARGEST_SMALL ? size : whole);
+    return malloc(whole);
 }
 
 void *aligned_alloc(size_t align, size_t size)

@@ -33,7 +33,7 @@ static uint64_t earliest_deadline(void)
     for (uint32_t i = 0; i < monitor.made; i++)
         if (threads[i].deadline < earliest)
             earliest = threads[i].deadline;
-    return earliest;
+    return monitor.alarm < earliest ? monitor.alarm : earliest;
 }
 
 static void wake_due(void)
@@ -41,6 +41,8 @@ static void wake_due(void)
     for (uint32_t i = 0; i < monitor.made; i++)
         if (threads[i].deadline <= monitor.clock)
             monitor_wake(&threads[i], TIMED_OUT);
+    if (monitor.alarm <= monitor.clock)
+        alarm_ring();
     monitor.earliest = earliest_deadline();
 }
 
@@ -67,6 +69,12 @@ void monitor_leave(void)
 {
     if (--own.depth == 0 && own.held == 0)
         leave_machine();
+}
+
+void monitor_finish(void)
+{
+    monitor_leave();
+    signal_point();
 }
 
 void monitor_hold(void)
@@ -171,10 +179,11 @@ void monitor_rouse(struct dthreads_thread *thread)
 
 void monitor_one_less(void)
 {
-    if (--monitor.awake > 0 || monitor.earliest == NEVER)
-        return;
-    monitor.earliest = earliest_deadline();
-    if (monitor.earliest != NEVER) {
+    monitor.awake--;
+    while (monitor.awake == 0 && monitor.earliest != NEVER) {
+        monitor.earliest = earliest_deadline();
+        if (monitor.earliest == NEVER)
+            return;
         monitor.clock = monitor.earliest;
         wake_due();
     }
@@ -193,7 +202,7 @@ static void sleep_here(struct dthreads_thread *thread)
     }
 }
 
-enum wake monitor_sleep(struct dthreads_queue *queue, uint64_t deadline, bool may_be_cancelled)
+static enum wake sleep_in(struct dthreads_queue *queue, uint64_t deadline, bool may_be_cancelled)
 {
     struct dthreads_thread *thread = self();
     may_be_cancelled = may_be_cancelled && !own.cancel_disabled && !own.ending;
@@ -212,12 +221,28 @@ enum wake monitor_sleep(struct dthreads_queue *queue, uint64_t deadline, bool ma
     return thread->wake;
 }
 
+enum wake monitor_sleep(struct dthreads_queue *queue, uint64_t deadline, bool may_be_cancelled)
+{
+    self()->may_be_interrupted = false;
+    return sleep_in(queue, deadline, may_be_cancelled);
+}
+
+enum wake monitor_sleep_lightly(struct dthreads_queue *queue, uint64_t deadline, bool may_be_cancelled)
+{
+    struct dthreads_thread *thread = self();
+    if (signals_deliver && thread->pending & ~thread->blocked)
+        return INTERRUPTED;
+    thread->may_be_interrupted = true;
+    return sleep_in(queue, deadline, may_be_cancelled);
+}
+
 void monitor_sleep_in_crowd(struct dthreads_queue *queue, uint32_t crowd)
 {
     struct dthreads_thread *thread = self();
     append(queue, thread);
     thread->condition = (uint8_t)(OWN_CONDITIONS + crowd % CROWD_CONDITIONS);
     thread->may_be_cancelled = false;
+    thread->may_be_interrupted = false;
     thread->deadline = NEVER;
     sleep_here(thread);
 }

@@ -36,7 +36,17 @@ enum {
 enum wake {
     WOKEN,
     TIMED_OUT,
-    CANCELLED
+    CANCELLED,
+    /* By a signal. */
+    INTERRUPTED
+};
+
+/* A robust mutex: as it was made, its owner has ended with it, and nobody has made it consistent since. */
+enum robust {
+    STALLED,
+    ROBUST,
+    OWNER_DEAD,
+    NOT_RECOVERABLE
 };
 
 enum life {
@@ -45,7 +55,9 @@ enum life {
     /* It has ended and nobody has joined it. */
     ENDED,
     /* It waits for a start routine. */
-    PARKED
+    PARKED,
+    /* It ended with a mutex: its record stays the owner. */
+    LOST
 };
 
 /* What others see of a thread. Only who is in the monitor may touch it. */
@@ -63,13 +75,24 @@ struct dthreads_thread {
     uint8_t wake;
     bool asleep;
     bool may_be_cancelled;
+    bool may_be_interrupted;
     bool cancelled;
     bool detached;
     bool is_writer;
     struct dthreads_thread *joiner;
+    /* What it keeps for itself; another thread may touch it while this one waits. */
+    struct own *own;
+    /* Mutexes that it held at its end. */
+    uint32_t ended_with;
     void *(*start)(void *);
     void *argument;
     void *result;
+    /* Signals, a bit each: that came, that are to wait, and for which the thread waits. */
+    uint64_t pending;
+    uint64_t blocked;
+    uint64_t awaited;
+    /* The robust mutexes that it holds. */
+    pthread_mutex_t *robust;
     /* How many threads had been created with it. */
     uint32_t created;
     struct stack *stack;
@@ -84,7 +107,6 @@ struct own {
     struct dthreads_thread *thread;
     /* Mutexes, spin locks and write locks held: the thread stays in the monitor while it has any. */
     uint32_t held;
-    uint32_t read_held;
     /* Calls of the library within each other. */
     uint32_t depth;
     uint32_t operations;
@@ -113,6 +135,10 @@ struct monitor {
     uint32_t waiting[OWN_CONDITIONS + CROWD_CONDITIONS];
     struct stack *stacks;
     uint32_t crowds;
+    /* Signals that no thread takes yet, and the alarm's time with its interval. */
+    uint64_t signals;
+    uint64_t alarm;
+    uint64_t alarm_interval;
 };
 
 extern struct monitor monitor;
@@ -133,6 +159,8 @@ static inline bool alone(void)
 /* Between these a thread sees and changes what all share; calls may nest. */
 void monitor_enter(void);
 void monitor_leave(void);
+/* Leaves it at the end of a call of the program: signals that came are delivered. */
+void monitor_finish(void);
 /* Makes sure that the machine's mutex is held, for a thread in the monitor that is no longer alone, or sleeps. */
 void monitor_hold(void);
 /* Lets others have their turns, also where mutexes are held. */
@@ -140,7 +168,9 @@ void monitor_breathe(void);
 
 /* Sleeps in a queue, or in none, until another thread wakes this one or the clock reaches the deadline. */
 enum wake monitor_sleep(struct dthreads_queue *queue, uint64_t deadline, bool may_be_cancelled);
-/* As above, for a queue whose sleepers are all woken at once: `crowd` is its condition's number. */
+/* As the first, but a signal ends the sleep, too. */
+enum wake monitor_sleep_lightly(struct dthreads_queue *queue, uint64_t deadline, bool may_be_cancelled);
+/* As the first, for a queue whose sleepers are all woken at once: `crowd` is its condition's number. */
 void monitor_sleep_in_crowd(struct dthreads_queue *queue, uint32_t crowd);
 void monitor_wake(struct dthreads_thread *thread, enum wake wake);
 /* Wakes the first of a queue, or nobody. */
@@ -158,16 +188,45 @@ bool deadline_of(clockid_t clock, const struct timespec *time, uint64_t *deadlin
 
 /* Ends this thread where it was asked to. */
 void cancel_here(enum wake wake);
+/* Whether it was asked to, as far as the thread knows: it learns of it by its calls. */
+bool cancel_is_due(void);
+/* A call that takes no turn to find out. */
+void cancel_point(void);
+
+/* Of the functions of signal.h, which are linked by need. Runs the handlers of what came; false if one of them doesn't let the
+ * call that it interrupted go on. */
+__attribute__((weak)) bool signals_deliver(void);
+/* The alarm's time has come. */
+__attribute__((weak)) void alarm_ring(void);
+
+/* A place where signals may be delivered. */
+static inline void signal_point(void)
+{
+    if (signals_deliver && own.thread && own.depth == 0 && own.thread->pending & ~own.thread->blocked)
+        signals_deliver();
+}
 
 void mutex_acquire(pthread_mutex_t *mutex);
 void mutex_release(pthread_mutex_t *mutex);
+/* What the new owner of a mutex learns of the one before: 0, or EOWNERDEAD. */
+int mutex_code(const pthread_mutex_t *mutex);
+/* Frees the robust mutexes of a thread that ends. */
+__attribute__((weak)) void robust_leave(struct dthreads_thread *thread);
+/* Keeps a robust mutex with its owner's, and takes it from there. */
+__attribute__((weak)) void robust_hold(pthread_mutex_t *mutex);
+__attribute__((weak)) void robust_drop(pthread_mutex_t *mutex);
 
 /* Gives this thread's cached blocks back. */
 void heap_flush(void);
 /* Pages for a stack and the like, or NULL; they are never given back. */
 void *heap_pages(uint32_t pages);
+/* Pages that can be given back, or NULL; false for a range that isn't whole of such pages. */
+void *heap_map(uint32_t pages);
+bool heap_unmap(void *address, uint32_t pages);
 
 void keys_destroy_values(void);
+/* What a thread that ends remembers of its read locks. */
+__attribute__((weak)) void readings_drop(void);
 void output_flush(void);
 void thread_begin(void);
 /* The living or ended thread of a name, or NULL. */

@@ -6,11 +6,28 @@ void mutex_acquire(pthread_mutex_t *mutex)
     mutex->owner = self();
     mutex->count = 1;
     own.held++;
+    if (mutex->robust)
+        robust_hold(mutex);
 }
 
 void mutex_release(pthread_mutex_t *mutex)
 {
     own.held--;
+    if (mutex->robust)
+        robust_drop(mutex);
+    mutex->owner = mutex->robust == NOT_RECOVERABLE ? NULL : monitor_wake_first(&mutex->waiters);
+}
+
+int mutex_code(const pthread_mutex_t *mutex)
+{
+    return mutex->robust == OWNER_DEAD ? EOWNERDEAD : 0;
+}
+
+/* Frees a normal mutex of another thread, which waits for something else or has ended. */
+static void mutex_free(pthread_mutex_t *mutex)
+{
+    if (mutex->owner && mutex->owner->life == LIVING)
+        mutex->owner->own->held--;
     mutex->owner = monitor_wake_first(&mutex->waiters);
 }
 
@@ -19,15 +36,19 @@ static int mutex_wait(pthread_mutex_t *mutex, uint64_t deadline)
 {
     if (monitor_sleep(&mutex->waiters, deadline, false) == TIMED_OUT)
         return ETIMEDOUT;
+    if (mutex->robust == NOT_RECOVERABLE)
+        return ENOTRECOVERABLE;
     mutex_acquire(mutex);
-    return 0;
+    return mutex_code(mutex);
 }
 
 static int mutex_take(pthread_mutex_t *mutex, uint64_t deadline)
 {
+    if (mutex->robust == NOT_RECOVERABLE)
+        return ENOTRECOVERABLE;
     if (!mutex->owner) {
         mutex_acquire(mutex);
-        return 0;
+        return mutex_code(mutex);
     }
     if (mutex->owner == self() && mutex->kind == PTHREAD_MUTEX_RECURSIVE) {
         mutex->count++;
@@ -42,7 +63,7 @@ static int mutex_lock(pthread_mutex_t *mutex, uint64_t deadline)
 {
     monitor_enter();
     int code = mutex_take(mutex, deadline);
-    monitor_leave();
+    monitor_finish();
     return code;
 }
 
@@ -69,25 +90,30 @@ int pthread_mutex_trylock(pthread_mutex_t *mutex)
     monitor_enter();
     bool is_busy = mutex->owner && !(mutex->owner == self() && mutex->kind == PTHREAD_MUTEX_RECURSIVE);
     int code = is_busy ? EBUSY : mutex_take(mutex, NEVER);
-    monitor_leave();
+    monitor_finish();
     return code;
 }
 
 int pthread_mutex_unlock(pthread_mutex_t *mutex)
 {
     monitor_enter();
-    int code = mutex->owner == self() ? 0 : EPERM;
-    if (code == 0 && --mutex->count == 0)
+    bool is_mine = mutex->owner == self();
+    int code = is_mine || (mutex->kind == PTHREAD_MUTEX_NORMAL && !mutex->robust) ? 0 : EPERM;
+    if (is_mine && --mutex->count == 0)
         mutex_release(mutex);
-    monitor_leave();
+    else if (!is_mine && code == 0)
+        mutex_free(mutex);
+    monitor_finish();
     return code;
 }
 
 int pthread_mutex_init(pthread_mutex_t *mutex, const pthread_mutexattr_t *attributes)
 {
     *mutex = (pthread_mutex_t)PTHREAD_MUTEX_INITIALIZER;
-    if (attributes)
+    if (attributes) {
         mutex->kind = attributes->kind;
+        mutex->robust = attributes->robust;
+    }
     return 0;
 }
 
@@ -98,7 +124,7 @@ int pthread_mutex_destroy(pthread_mutex_t *mutex)
 
 int pthread_mutexattr_init(pthread_mutexattr_t *attributes)
 {
-    attributes->kind = PTHREAD_MUTEX_DEFAULT;
+    *attributes = (pthread_mutexattr_t){PTHREAD_MUTEX_DEFAULT, PTHREAD_MUTEX_STALLED};
     return 0;
 }
 
@@ -132,19 +158,6 @@ int pthread_mutexattr_getpshared(const pthread_mutexattr_t *attributes, int *sha
 {
     (void)attributes;
     *shared = PTHREAD_PROCESS_PRIVATE;
-    return 0;
-}
-
-int pthread_mutexattr_setrobust(pthread_mutexattr_t *attributes, int robust)
-{
-    (void)attributes;
-    return robust == PTHREAD_MUTEX_STALLED ? 0 : robust == PTHREAD_MUTEX_ROBUST ? ENOTSUP : EINVAL;
-}
-
-int pthread_mutexattr_getrobust(const pthread_mutexattr_t *attributes, int *robust)
-{
-    (void)attributes;
-    *robust = PTHREAD_MUTEX_STALLED;
     return 0;
 }
 
@@ -184,7 +197,7 @@ int pthread_spin_trylock(pthread_spinlock_t *lock)
         lock->owner = self();
         own.held++;
     }
-    monitor_leave();
+    monitor_finish();
     return code;
 }
 
@@ -198,7 +211,7 @@ int pthread_spin_lock(pthread_spinlock_t *lock)
         lock->owner = self();
         own.held++;
     }
-    monitor_leave();
+    monitor_finish();
     return code;
 }
 
@@ -210,6 +223,6 @@ int pthread_spin_unlock(pthread_spinlock_t *lock)
         own.held--;
         lock->owner = monitor_wake_first(&lock->waiters);
     }
-    monitor_leave();
+    monitor_finish();
     return code;
 }

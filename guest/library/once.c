@@ -16,7 +16,7 @@ static bool begin(pthread_once_t *once)
     bool is_first = once->state == NOT_BEGUN;
     if (is_first)
         once->state = BEGUN;
-    monitor_leave();
+    monitor_finish();
     return is_first;
 }
 
@@ -25,7 +25,7 @@ static void end(pthread_once_t *once, int state)
     monitor_enter();
     once->state = state;
     monitor_wake_all(&once->waiters);
-    monitor_leave();
+    monitor_finish();
 }
 
 /* A thread that was cancelled on the way has done nothing. */

@@ -1,11 +1,12 @@
 /* What little there is of a process of POSIX. */
 #include <signal.h>
 #include <unistd.h>
-#include "monitor.h"
+#include "console.h"
+
+/* Open descriptors at most. */
+#define DESCRIPTORS 256
 
 enum {
-    /* The status of a program that a signal ended is its number and this. */
-    BY_SIGNAL = 128,
     PROCESS = 1,
     PROCESSORS = 4
 };
@@ -21,34 +22,27 @@ pid_t getpid(void)
     return PROCESS;
 }
 
-/* A signal that has no handler ends the run; raise calls this. */
-int kill(pid_t process, int signal)
+/* The standard stream of the console that a descriptor has open, or another number. */
+static int console_of(int descriptor)
 {
-    if (process != PROCESS)
-        return refuse(ESRCH);
-    output_flush();
-    _exit(BY_SIGNAL + signal);
+    return files_console ? files_console(descriptor) : descriptor;
 }
 
-ssize_t write(int file, const void *bytes, size_t length)
+ssize_t write(int descriptor, const void *bytes, size_t length)
 {
-    if (file != 1 && file != 2)
-        return refuse(EBADF);
-    uint32_t part = length < DTHREADS_TRANSFER ? (uint32_t)length : DTHREADS_TRANSFER;
-    uint32_t code = dthreads_write(bytes, part);
-    if (code != DTHREADS_DONE)
-        return refuse(code == DTHREADS_BAD_ADDRESS ? EFAULT : ENOSPC);
-    return (ssize_t)part;
+    int console = console_of(descriptor);
+    cancel_point();
+    if (console == STDOUT_FILENO || console == STDERR_FILENO)
+        return console_write_some(console, bytes, length);
+    return files_write ? files_write(descriptor, bytes, length) : refuse(EBADF);
 }
 
-ssize_t read(int file, void *bytes, size_t length)
+ssize_t read(int descriptor, void *bytes, size_t length)
 {
-    uint32_t got = 0;
-    if (file != 0)
-        return refuse(EBADF);
-    if (dthreads_read(bytes, length < DTHREADS_TRANSFER ? (uint32_t)length : DTHREADS_TRANSFER, &got) != DTHREADS_DONE)
-        return refuse(EFAULT);
-    return (ssize_t)got;
+    cancel_point();
+    if (console_of(descriptor) == STDIN_FILENO)
+        return console_read_some(bytes, length);
+    return files_read ? files_read(descriptor, bytes, length) : refuse(EBADF);
 }
 
 int isatty(int file)
@@ -66,6 +60,10 @@ long sysconf(int name)
     case _SC_NPROCESSORS_CONF:
     case _SC_NPROCESSORS_ONLN:
         return PROCESSORS;
+    case _SC_PHYS_PAGES:
+        return DTHREADS_HEAP_PAGES;
+    case _SC_OPEN_MAX:
+        return DESCRIPTORS;
     case _SC_THREAD_KEYS_MAX:
         return PTHREAD_KEYS_MAX;
     case _SC_THREAD_STACK_MIN:

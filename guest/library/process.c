@@ -1,7 +1,14 @@
 /* The run's beginning and end. */
 #include <stdlib.h>
 #include <unistd.h>
-#include "monitor.h"
+#include "console.h"
+#include "packed.h"
+
+/* Only a program in C++ with its library has it. */
+__attribute__((weak)) void dthreads_unwind_begin(void);
+
+/* Only a program that asks for its environment has it. */
+#pragma weak environ
 
 /* The status of a program that SIGABRT ended. */
 #define ABORTED 134
@@ -14,27 +21,59 @@ extern void (*const __fini_array_end[])(void);
 __attribute__((weak)) void __call_exitprocs(int, void *);
 int main(int, char **, char **);
 
-extern char *const dthreads_arguments[];
+extern char *dthreads_arguments[];
 
-static int count_arguments(void)
+/* The name that main began with: a program may change its arguments. */
+const char *dthreads_program_name;
+
+static int count_arguments(char **arguments)
 {
     int count = 0;
-    while (dthreads_arguments[count])
+    while (arguments[count])
         count++;
     return count;
+}
+
+__attribute__((noreturn)) static void run(char **arguments, char **environment)
+{
+    dthreads_program_name = arguments[0];
+    if (dthreads_unwind_begin)
+        dthreads_unwind_begin();
+    for (void (*const *each)(void) = __init_array_start; each < __init_array_end; each++)
+        (*each)();
+    exit(main(count_arguments(arguments), arguments, environment));
 }
 
 __attribute__((noreturn)) void dthreads_first(void)
 {
     static char *no_environment[] = {NULL};
     thread_begin();
-    for (void (*const *each)(void) = __init_array_start; each < __init_array_end; each++)
-        (*each)();
-    exit(main(count_arguments(), (char **)dthreads_arguments, no_environment));
+    if (files_begin)
+        files_begin();
+    run(dthreads_arguments, no_environment);
+}
+
+/* As above, if guest/dthreads-exec started the run: arguments and environment lie on the first thread's stack. */
+__attribute__((noreturn)) void dthreads_first_packed(void)
+{
+    struct packed packed;
+    thread_begin();
+    if (files_begin)
+        files_begin();
+    packed_begin(&packed);
+    char *arguments[packed.arguments + 1], *variables[packed.variables + 1], texts[packed.bytes + 1];
+    packed_texts(&packed, texts, arguments, variables);
+    packed_records();
+    console_is_framed = true;
+    if (&environ)
+        environ = variables;
+    run(arguments, variables);
 }
 
 void _exit(int status)
 {
+    if (files_deliver)
+        files_deliver();
     dthreads_exit((uint32_t)status);
 }
 
@@ -50,11 +89,17 @@ void exit(int status)
     for (void (*const *each)(void) = __fini_array_end; each > __fini_array_start;)
         (*--each)();
     output_flush();
+    if (streams_flush)
+        streams_flush();
     _exit(status);
 }
 
+__attribute__((weak)) void signals_abort(void);
+
 void abort(void)
 {
+    if (signals_abort)
+        signals_abort();
     output_flush();
     _exit(ABORTED);
 }

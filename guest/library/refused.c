@@ -9,13 +9,6 @@ int pthread_atfork(void (*prepare)(void), void (*parent)(void), void (*child)(vo
     return ENOSYS;
 }
 
-int pthread_kill(pthread_t thread, int signal)
-{
-    (void)thread;
-    (void)signal;
-    return ENOSYS;
-}
-
 int pthread_getschedparam(pthread_t thread, int *policy, struct sched_param *parameters)
 {
     (void)thread;
@@ -36,14 +29,20 @@ int pthread_setschedprio(pthread_t thread, int priority)
     return priority == 0 ? 0 : ENOTSUP;
 }
 
+static int concurrency;
+
 int pthread_getconcurrency(void)
 {
-    return 0;
+    return concurrency;
 }
 
+/* The level is a hint that nothing follows. */
 int pthread_setconcurrency(int level)
 {
-    return level == 0 ? 0 : ENOTSUP;
+    if (level < 0)
+        return EINVAL;
+    concurrency = level;
+    return 0;
 }
 
 int pthread_getcpuclockid(pthread_t thread, clockid_t *clock)
@@ -51,12 +50,6 @@ int pthread_getcpuclockid(pthread_t thread, clockid_t *clock)
     (void)thread;
     (void)clock;
     return ENOSYS;
-}
-
-int pthread_mutex_consistent(pthread_mutex_t *mutex)
-{
-    (void)mutex;
-    return EINVAL;
 }
 
 int pthread_mutex_getprioceiling(const pthread_mutex_t *mutex, int *ceiling)

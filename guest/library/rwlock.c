@@ -1,10 +1,84 @@
 /* Read-write locks. A waiting writer goes before new readers, but not before a thread that reads already. Readers leave the
  * monitor, so that they run side by side; a writer stays in it. */
+#include <stdlib.h>
+#include <string.h>
 #include "monitor.h"
+
+/* How often this thread reads a lock. */
+struct reading {
+    const pthread_rwlock_t *lock;
+    uint32_t count;
+};
+
+enum {
+    /* Locks that a thread reads at once before its list takes memory. */
+    FEW = 4
+};
+
+static __thread struct {
+    struct reading few[FEW];
+    struct reading *all;
+    uint32_t length;
+    uint32_t room;
+} readings;
+
+static struct reading *reading_of(const pthread_rwlock_t *lock)
+{
+    struct reading *all = readings.all ? readings.all : readings.few;
+    for (uint32_t i = 0; i < readings.length; i++)
+        if (all[i].lock == lock)
+            return &all[i];
+    return NULL;
+}
+
+/* Makes room for one more; false where memory is out. */
+static bool readings_grow(void)
+{
+    uint32_t room = readings.all ? readings.room : FEW;
+    if (readings.length < room)
+        return true;
+    struct reading *larger = realloc(readings.all, 2 * room * sizeof *larger);
+    if (!larger)
+        return false;
+    if (!readings.all)
+        memcpy(larger, readings.few, sizeof readings.few);
+    readings.all = larger;
+    readings.room = 2 * room;
+    return true;
+}
+
+/* There is room. */
+static void reading_begin(const pthread_rwlock_t *lock)
+{
+    struct reading *reading = reading_of(lock);
+    struct reading *all = readings.all ? readings.all : readings.few;
+    if (!reading) {
+        reading = &all[readings.length++];
+        *reading = (struct reading){.lock = lock};
+    }
+    reading->count++;
+}
+
+static void reading_end(struct reading *reading)
+{
+    struct reading *all = readings.all ? readings.all : readings.few;
+    if (--reading->count == 0)
+        *reading = all[--readings.length];
+}
+
+void readings_drop(void)
+{
+    free(readings.all);
+    readings.all = NULL;
+    readings.length = 0;
+}
 
 static bool may_read(const pthread_rwlock_t *lock)
 {
-    return !lock->writer && (!lock->waiters.first || own.read_held > 0);
+    if (lock->writer)
+        return false;
+    return !lock->waiters.first || lock->kind == PTHREAD_RWLOCK_PREFER_READER_NP
+        || (lock->kind == PTHREAD_RWLOCK_PREFER_WRITER_NP && reading_of(lock));
 }
 
 static bool may_write(const pthread_rwlock_t *lock)
@@ -42,13 +116,15 @@ static int read_until(pthread_rwlock_t *lock, uint64_t deadline)
     int code = 0;
     if (lock->writer == self())
         code = EDEADLK;
+    else if (!readings_grow())
+        code = EAGAIN;
     else if (may_read(lock))
         lock->readers++;
     else
         code = wait_for_turn(lock, false, deadline);
     if (code == 0)
-        own.read_held++;
-    monitor_leave();
+        reading_begin(lock);
+    monitor_finish();
     return code;
 }
 
@@ -64,7 +140,7 @@ static int write_until(pthread_rwlock_t *lock, uint64_t deadline)
         code = wait_for_turn(lock, true, deadline);
     if (code == 0)
         own.held++;
-    monitor_leave();
+    monitor_finish();
     return code;
 }
 
@@ -76,7 +152,7 @@ int pthread_rwlock_rdlock(pthread_rwlock_t *lock)
 int pthread_rwlock_tryrdlock(pthread_rwlock_t *lock)
 {
     int code = read_until(lock, 0);
-    return code == 0 ? 0 : EBUSY;
+    return code == 0 || code == EAGAIN ? code : EBUSY;
 }
 
 int pthread_rwlock_clockrdlock(pthread_rwlock_t *lock, clockid_t clock, const struct timespec *time)
@@ -116,25 +192,27 @@ int pthread_rwlock_unlock(pthread_rwlock_t *lock)
 {
     int code = 0;
     monitor_enter();
+    struct reading *reading = reading_of(lock);
     if (lock->writer == self()) {
         lock->writer = NULL;
         own.held--;
-    } else if (!lock->writer && lock->readers > 0) {
+    } else if (reading) {
         lock->readers--;
-        own.read_held--;
+        reading_end(reading);
     } else {
         code = EPERM;
     }
     if (code == 0)
         hand_over(lock);
-    monitor_leave();
+    monitor_finish();
     return code;
 }
 
 int pthread_rwlock_init(pthread_rwlock_t *lock, const pthread_rwlockattr_t *attributes)
 {
-    (void)attributes;
     *lock = (pthread_rwlock_t)PTHREAD_RWLOCK_INITIALIZER;
+    if (attributes)
+        lock->kind = attributes->kind;
     return 0;
 }
 
@@ -145,7 +223,22 @@ int pthread_rwlock_destroy(pthread_rwlock_t *lock)
 
 int pthread_rwlockattr_init(pthread_rwlockattr_t *attributes)
 {
-    (void)attributes;
+    attributes->kind = PTHREAD_RWLOCK_DEFAULT_NP;
+    return 0;
+}
+
+int pthread_rwlockattr_setkind_np(pthread_rwlockattr_t *attributes, int kind)
+{
+    if (kind != PTHREAD_RWLOCK_PREFER_READER_NP && kind != PTHREAD_RWLOCK_PREFER_WRITER_NP
+        && kind != PTHREAD_RWLOCK_PREFER_WRITER_NONRECURSIVE_NP)
+        return EINVAL;
+    attributes->kind = kind;
+    return 0;
+}
+
+int pthread_rwlockattr_getkind_np(const pthread_rwlockattr_t *attributes, int *kind)
+{
+    *kind = attributes->kind;
     return 0;
 }
 

@@ -1,6 +1,5 @@
 /* Semaphores without a name. A post goes to the first that waits. */
 #include <semaphore.h>
-#include <stdarg.h>
 #include "monitor.h"
 
 static int refuse(int code)
@@ -24,17 +23,29 @@ int sem_destroy(sem_t *semaphore)
     return semaphore->waiters.first ? refuse(EBUSY) : 0;
 }
 
-static int wait_until(sem_t *semaphore, uint64_t deadline)
+static enum wake take(sem_t *semaphore, uint64_t deadline)
 {
     enum wake wake = WOKEN;
     monitor_enter();
-    if (semaphore->value > 0)
+    if (cancel_is_due())
+        wake = CANCELLED;
+    else if (semaphore->value > 0)
         semaphore->value--;
     else
-        wake = monitor_sleep(&semaphore->waiters, deadline, true);
+        wake = monitor_sleep_lightly(&semaphore->waiters, deadline, true);
     monitor_leave();
+    return wake;
+}
+
+static int wait_until(sem_t *semaphore, uint64_t deadline)
+{
+    enum wake wake;
+    do
+        wake = take(semaphore, deadline);
+    while (wake == INTERRUPTED && signals_deliver());
+    signal_point();
     cancel_here(wake);
-    return wake == TIMED_OUT ? refuse(ETIMEDOUT) : 0;
+    return wake == TIMED_OUT ? refuse(ETIMEDOUT) : wake == INTERRUPTED ? refuse(EINTR) : 0;
 }
 
 int sem_wait(sem_t *semaphore)
@@ -59,7 +70,7 @@ int sem_trywait(sem_t *semaphore)
     bool is_free = semaphore->value > 0;
     if (is_free)
         semaphore->value--;
-    monitor_leave();
+    monitor_finish();
     return is_free ? 0 : refuse(EAGAIN);
 }
 
@@ -71,7 +82,7 @@ int sem_post(sem_t *semaphore)
         code = EOVERFLOW;
     else if (!monitor_wake_first(&semaphore->waiters))
         semaphore->value++;
-    monitor_leave();
+    monitor_finish();
     return code ? refuse(code) : 0;
 }
 
@@ -79,26 +90,6 @@ int sem_getvalue(sem_t *semaphore, int *value)
 {
     monitor_enter();
     *value = (int)semaphore->value;
-    monitor_leave();
+    monitor_finish();
     return 0;
-}
-
-sem_t *sem_open(const char *name, int flags, ...)
-{
-    (void)name;
-    (void)flags;
-    errno = ENOSYS;
-    return SEM_FAILED;
-}
-
-int sem_close(sem_t *semaphore)
-{
-    (void)semaphore;
-    return refuse(ENOSYS);
-}
-
-int sem_unlink(const char *name)
-{
-    (void)name;
-    return refuse(ENOSYS);
 }

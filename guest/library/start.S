@@ -15,6 +15,13 @@ _start:
     la tp, __tls_first
     call dthreads_first
 
+# The entry if guest/dthreads-exec started the run: the note of the file has its address.
+    .globl dthreads_start_packed
+dthreads_start_packed:
+    load_gp
+    la tp, __tls_first
+    call dthreads_first_packed
+
 # A thread of the library: a0 is its record, which has its stack and its thread-local block.
     .globl dthreads_thread_entry
 dthreads_thread_entry:
@@ -101,3 +108,12 @@ __dthreads_fence:
     .globl __dthreads_sync
 __dthreads_sync:
     kept dthreads_synchronise
+
+# What guest/dthreads-exec looks for in a file: that this library started the program, the version of the form in which
+# arguments, environment and files come, and the entry that reads it.
+    .section .note.dthreads, "a", @note
+    .balign 4
+    .word 9, 8, 1
+    .asciz "dthreads"
+    .balign 4
+    .word 1, dthreads_start_packed

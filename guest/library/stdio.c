@@ -1,9 +1,11 @@
-/* The three standard streams. A call's text is written in one piece when the call ends, so lines of threads stay whole. While
- * one thread lives, text stays in a buffer up to the end of its line. stdout and stderr both go to the one output. */
-#include <stdio.h>
+/* The three standard streams, and the calls that all streams share. A call's text on a standard stream is written in one piece
+ * when the call ends, so lines of threads stay whole. While one thread lives, text on stdout stays in a buffer up to the end of
+ * its line. */
 #include <stdarg.h>
 #include <string.h>
-#include "monitor.h"
+#include <unistd.h>
+#include "stream.h"
+#include "console.h"
 
 #undef putc
 #undef putchar
@@ -31,51 +33,71 @@ static struct {
     char bytes[LINE];
 } line;
 
-static struct {
-    uint32_t place;
-    uint32_t length;
-    uint32_t holds;
-    char bytes[INPUT];
-} input;
+static char input[INPUT];
 
-static int put_character(char character, FILE *stream);
-static int get_character(FILE *stream);
-static int flush_stream(FILE *stream);
+static struct stream input_stream = {
+    .file = FDEV_SETUP_STREAM(NULL, stream_get, stream_flush, _FDEV_SETUP_READ), .buffer = input, .room = INPUT,
+};
+static struct stream output_stream = {
+    .file = FDEV_SETUP_STREAM(stream_put, NULL, stream_flush, _FDEV_SETUP_WRITE), .descriptor = STDOUT_FILENO,
+};
+static struct stream error_stream = {
+    .file = FDEV_SETUP_STREAM(stream_put, NULL, stream_flush, _FDEV_SETUP_WRITE), .descriptor = STDERR_FILENO,
+};
 
-static FILE input_stream = FDEV_SETUP_STREAM(NULL, get_character, NULL, _FDEV_SETUP_READ);
-static FILE output_stream = FDEV_SETUP_STREAM(put_character, NULL, flush_stream, _FDEV_SETUP_WRITE);
-static FILE error_stream = FDEV_SETUP_STREAM(put_character, NULL, flush_stream, _FDEV_SETUP_WRITE);
+FILE *const stdin = &input_stream.file;
+FILE *const stdout = &output_stream.file;
+FILE *const stderr = &error_stream.file;
 
-FILE *const stdin = &input_stream;
-FILE *const stdout = &output_stream;
-FILE *const stderr = &error_stream;
+/* A program without it pays nothing for it: text on a standard stream is one turn. */
+__attribute__((weak)) void flockfile(FILE *);
 
-static int flush_stream(FILE *stream)
+struct stream *stream_of(FILE *file)
 {
-    (void)stream;
-    output_flush();
-    return 0;
+    return file->flush == stream_flush ? (struct stream *)file : NULL;
+}
+
+__attribute__((noinline)) void stream_enter(struct stream *stream)
+{
+    monitor_enter();
+    while (stream->owner && stream->owner != self())
+        monitor_sleep(&stream->waiters, NEVER, false);
+    stream->owner = self();
+    stream->count++;
+}
+
+__attribute__((noinline)) void stream_leave(struct stream *stream)
+{
+    if (--stream->count == 0) {
+        stream->owner = NULL;
+        monitor_wake_first(&stream->waiters);
+    }
+    monitor_leave();
 }
 
 /* Writes whole; false where the output is full. */
-static bool write_all(const char *bytes, uint32_t length)
+static __attribute__((noinline)) bool write_all(int descriptor, const char *bytes, uint32_t length)
 {
+    int console = files_console ? files_console(descriptor) : descriptor;
+    if (console > STDIN_FILENO)
+        return console_write(console == STDERR_FILENO ? FRAME_ERROR : FRAME_OUTPUT, bytes, length) == DTHREADS_DONE;
     while (length > 0) {
-        uint32_t part = length < DTHREADS_TRANSFER ? length : DTHREADS_TRANSFER;
-        if (dthreads_write(bytes, part) != DTHREADS_DONE)
+        ssize_t count = files_write ? files_write(descriptor, bytes, length) : -1;
+        if (count < 0)
             return false;
-        bytes += part;
-        length -= part;
+        bytes += count;
+        length -= (uint32_t)count;
     }
     return true;
 }
 
-void output_flush(void)
+__attribute__((noinline)) void output_flush(void)
 {
     if (line.length > 0) {
         uint32_t length = line.length;
         line.length = 0;
-        write_all(line.bytes, length);
+        if (!write_all(STDOUT_FILENO, line.bytes, length))
+            stdout->flags |= __SERR;
     }
 }
 
@@ -85,7 +107,7 @@ static bool keep(const char *bytes, uint32_t length)
     if (length >= LINE - line.length) {
         output_flush();
         if (length >= LINE)
-            return write_all(bytes, length);
+            return write_all(STDOUT_FILENO, bytes, length);
     }
     memcpy(line.bytes + line.length, bytes, length);
     line.length += length;
@@ -94,26 +116,51 @@ static bool keep(const char *bytes, uint32_t length)
     return true;
 }
 
-static bool emit(FILE *stream, const char *bytes, uint32_t length)
+static bool emit_now(struct stream *stream, const char *bytes, uint32_t length)
 {
-    bool is_done = true;
-    if (length == 0)
-        return true;
-    if (stream == stdout && alone())
-        is_done = keep(bytes, length);
-    else {
-        output_flush();
-        is_done = write_all(bytes, length);
-    }
-    if (!is_done)
-        stream->flags |= __SERR;
+    if (stream == &output_stream && alone())
+        return keep(bytes, length);
+    output_flush();
+    return write_all(stream->descriptor, bytes, length);
+}
+
+/* As above, when no other thread has the stream by flockfile. */
+static bool emit_in_turn(struct stream *stream, const char *bytes, uint32_t length)
+{
+    if (!flockfile || alone())
+        return emit_now(stream, bytes, length);
+    stream_enter(stream);
+    bool is_done = emit_now(stream, bytes, length);
+    stream_leave(stream);
     return is_done;
 }
 
-static int put_character(char character, FILE *stream)
+static __attribute__((noinline)) bool emit(struct stream *stream, const char *bytes, uint32_t length)
 {
-    if (!piece)
-        return emit(stream, &character, 1) ? 0 : EOF;
+    if (length == 0)
+        return true;
+    bool is_done = stream->file.flags & __SWR && emit_in_turn(stream, bytes, length);
+    if (!is_done)
+        stream->file.flags |= __SERR;
+    return is_done;
+}
+
+/* True for the standard streams of output. */
+static bool is_output(const FILE *file)
+{
+    return file == stdout || file == stderr;
+}
+
+static bool put_text(struct stream *stream, const char *bytes, uint32_t length)
+{
+    return is_output(&stream->file) ? emit(stream, bytes, length) : stream_write(stream, bytes, length);
+}
+
+int stream_put(char character, FILE *file)
+{
+    struct stream *stream = (struct stream *)file;
+    if (!piece || !is_output(file))
+        return put_text(stream, &character, 1) ? 0 : EOF;
     if (piece->length == PIECE) {
         if (!piece->is_begun)
             monitor_enter();
@@ -123,6 +170,19 @@ static int put_character(char character, FILE *stream)
     }
     piece->bytes[piece->length++] = character;
     return 0;
+}
+
+int stream_flush(FILE *file)
+{
+    struct stream *stream = (struct stream *)file;
+    if (is_output(file) || !stream_settle) {
+        output_flush();
+        return file->flags & __SERR && is_output(file) ? EOF : 0;
+    }
+    stream_enter(stream);
+    bool is_done = stream_settle(stream);
+    stream_leave(stream);
+    return is_done ? 0 : EOF;
 }
 
 static void piece_begin(struct piece *begun)
@@ -136,9 +196,25 @@ static void piece_end(FILE *stream)
 {
     struct piece *ended = piece;
     piece = NULL;
-    emit(stream, ended->bytes, ended->length);
+    emit((struct stream *)stream, ended->bytes, ended->length);
     if (ended->is_begun)
         monitor_leave();
+}
+
+/* Threads share the run's input and what fopen gives; the streams of sprintf and its kin are a thread's own. */
+
+static void shared_begin(FILE *file)
+{
+    struct stream *stream = stream_of(file);
+    if (stream)
+        stream_enter(stream);
+}
+
+static void shared_end(FILE *file)
+{
+    struct stream *stream = stream_of(file);
+    if (stream)
+        stream_leave(stream);
 }
 
 int __d_vfprintf(FILE *, const char *, va_list);
@@ -146,16 +222,18 @@ int __d_vfscanf(FILE *, const char *, va_list);
 int dthreads_vfprintf(FILE *, const char *, va_list);
 int dthreads_vfscanf(FILE *, const char *, va_list);
 
-/* True for the streams of the run, as against those of sprintf and its kin. */
-static bool is_output(const FILE *stream)
+static int print_shared(FILE *stream, const char *format, va_list arguments)
 {
-    return stream == stdout || stream == stderr;
+    shared_begin(stream);
+    int count = dthreads_vfprintf(stream, format, arguments);
+    shared_end(stream);
+    return count;
 }
 
 int __wrap_vfprintf(FILE *stream, const char *format, va_list arguments)
 {
     if (!is_output(stream) || piece)
-        return dthreads_vfprintf(stream, format, arguments);
+        return print_shared(stream, format, arguments);
     struct piece here;
     piece_begin(&here);
     int count = dthreads_vfprintf(stream, format, arguments);
@@ -163,14 +241,14 @@ int __wrap_vfprintf(FILE *stream, const char *format, va_list arguments)
     return stream->flags & __SERR ? EOF : count;
 }
 
-int fputc(int character, FILE *stream)
+int fputc(int character, FILE *file)
 {
     unsigned char byte = (unsigned char)character;
-    if (!(stream->flags & __SWR))
+    if (!(file->flags & __SWR))
         return EOF;
-    if (is_output(stream))
-        return emit(stream, (char *)&byte, 1) ? byte : EOF;
-    return stream->put((char)byte, stream) < 0 ? EOF : byte;
+    if (is_output(file))
+        return emit((struct stream *)file, (char *)&byte, 1) ? byte : EOF;
+    return file->put((char)byte, file) < 0 ? EOF : byte;
 }
 
 int putc(int character, FILE *stream)
@@ -183,19 +261,26 @@ int putchar(int character)
     return fputc(character, stdout);
 }
 
-static bool put_bytes(const char *bytes, size_t length, FILE *stream)
+/* How many bytes were put. */
+static size_t put_bytes(const char *bytes, size_t length, FILE *file)
 {
-    if (is_output(stream))
-        return emit(stream, bytes, (uint32_t)length);
+    struct stream *stream = stream_of(file);
+    if (!(file->flags & __SWR)) {
+        file->flags |= __SERR;
+        return 0;
+    }
+    if (stream)
+        return put_text(stream, bytes, (uint32_t)length) ? length : 0;
     for (size_t i = 0; i < length; i++)
-        if (fputc(bytes[i], stream) == EOF)
-            return false;
-    return true;
+        if (fputc(bytes[i], file) == EOF)
+            return i;
+    return length;
 }
 
 int fputs(const char *text, FILE *stream)
 {
-    return put_bytes(text, strlen(text), stream) ? 0 : EOF;
+    size_t length = strlen(text);
+    return put_bytes(text, length, stream) == length ? 0 : EOF;
 }
 
 int puts(const char *text)
@@ -203,97 +288,126 @@ int puts(const char *text)
     struct piece here;
     piece_begin(&here);
     for (; *text; text++)
-        put_character(*text, stdout);
-    put_character('\n', stdout);
+        stream_put(*text, stdout);
+    stream_put('\n', stdout);
     piece_end(stdout);
     return stdout->flags & __SERR ? EOF : 0;
 }
 
 size_t fwrite(const void *bytes, size_t size, size_t count, FILE *stream)
 {
+    size_t all;
     if (size == 0 || count == 0)
         return 0;
-    return put_bytes(bytes, size * count, stream) ? count : 0;
+    if (__builtin_mul_overflow(size, count, &all)) {
+        stream->flags |= __SERR;
+        errno = EFAULT;
+        return 0;
+    }
+    return put_bytes(bytes, all, stream) / size;
 }
 
-int fflush(FILE *stream)
+int fflush(FILE *file)
 {
-    (void)stream;
+    if (file && stream_of(file) != NULL)
+        return stream_flush(file);
     output_flush();
+    if (file && file->flush)
+        return file->flush(file);
+    if (!file && streams_flush)
+        streams_flush();
     return 0;
 }
 
-int setvbuf(FILE *stream, char *buffer, int mode, size_t size)
+int setvbuf(FILE *file, char *buffer, int mode, size_t size)
 {
-    (void)stream;
+    struct stream *stream = stream_of(file);
     (void)buffer;
-    (void)mode;
     (void)size;
+    if (stream)
+        stream->mode = (uint8_t)mode;
     return 0;
 }
 
 void setbuf(FILE *stream, char *buffer)
 {
-    (void)stream;
-    (void)buffer;
+    setvbuf(stream, buffer, buffer ? _IOFBF : _IONBF, 0);
 }
 
 void setbuffer(FILE *stream, char *buffer, size_t size)
 {
-    (void)stream;
-    (void)buffer;
-    (void)size;
+    setvbuf(stream, buffer, buffer ? _IOFBF : _IONBF, size);
 }
 
 void setlinebuf(FILE *stream)
 {
-    (void)stream;
+    setvbuf(stream, NULL, _IOLBF, 0);
 }
 
-int fileno(FILE *stream)
+int fileno(FILE *file)
 {
-    return stream == stdin ? 0 : stream == stdout ? 1 : 2;
+    struct stream *stream = stream_of(file);
+    if (stream && file->flags & (__SRD | __SWR))
+        return stream->descriptor;
+    errno = EBADF;
+    return -1;
 }
 
 /* Input. */
 
-/* Reads in the monitor, so that threads share one place in the input. */
-static int get_character(FILE *stream)
+static ssize_t read_some(struct stream *stream, void *bytes, uint32_t length)
 {
-    int character = _FDEV_EOF;
-    (void)stream;
-    monitor_enter();
-    if (input.place == input.length) {
+    int console = files_console ? files_console(stream->descriptor) : stream->descriptor;
+    if (console == STDIN_FILENO)
+        return console_read_some(bytes, length);
+    bool was_disabled = own.cancel_disabled;
+    own.cancel_disabled = true;
+    ssize_t count = files_read ? files_read(stream->descriptor, bytes, length) : -1;
+    own.cancel_disabled = was_disabled;
+    return count;
+}
+
+/* Reads into the stream's buffer, or to another place; how many bytes came. */
+static uint32_t fetch(struct stream *stream, void *bytes, uint32_t length)
+{
+    if (stream->file.flags & __SEOF)
+        return 0;
+    if (stream == &input_stream)
         output_flush();
-        input.place = 0;
-        input.length = 0;
-        dthreads_read(input.bytes, INPUT, &input.length);
-    }
-    if (input.place < input.length)
-        character = (unsigned char)input.bytes[input.place++];
-    monitor_leave();
+    ssize_t count = read_some(stream, bytes, length);
+    if (count <= 0)
+        stream->file.flags |= count < 0 ? __SERR : __SEOF;
+    return count > 0 ? (uint32_t)count : 0;
+}
+
+static bool fill(struct stream *stream)
+{
+    if (stream->is_writing)
+        stream_settle(stream);
+    stream->place = 0;
+    stream->length = fetch(stream, stream->buffer, stream->room);
+    return stream->length > 0;
+}
+
+/* Reads in the monitor, so that threads share one place in the input. */
+int stream_get(FILE *file)
+{
+    struct stream *stream = (struct stream *)file;
+    int character = _FDEV_EOF;
+    stream_enter(stream);
+    if ((!stream->is_writing && stream->place < stream->length) || fill(stream))
+        character = (unsigned char)stream->buffer[stream->place++];
+    else if (file->flags & __SERR)
+        character = _FDEV_ERR;
+    stream_leave(stream);
     return character;
-}
-
-/* Threads share the run's input; the streams of sscanf and its kin are a thread's own. */
-
-static void input_begin(const FILE *stream)
-{
-    if (stream == stdin)
-        monitor_enter();
-}
-
-static void input_end(const FILE *stream)
-{
-    if (stream == stdin)
-        monitor_leave();
 }
 
 int fgetc(FILE *stream)
 {
     if (!(stream->flags & __SRD))
         return EOF;
-    input_begin(stream);
+    shared_begin(stream);
     int character;
     if (stream->unget) {
         character = (unsigned char)stream->unget;
@@ -303,7 +417,7 @@ int fgetc(FILE *stream)
     }
     if (character < 0)
         stream->flags |= character == _FDEV_EOF ? __SEOF : __SERR;
-    input_end(stream);
+    shared_end(stream);
     return character < 0 ? EOF : character;
 }
 
@@ -321,100 +435,92 @@ int ungetc(int character, FILE *stream)
 {
     if (character == EOF)
         return EOF;
-    input_begin(stream);
+    shared_begin(stream);
     bool is_free = !stream->unget;
     if (is_free) {
         stream->unget = (__ungetc_t)((unsigned char)character | 0x100);
         stream->flags &= (uint8_t)~__SEOF;
     }
-    input_end(stream);
-    return is_free ? character : EOF;
+    shared_end(stream);
+    return is_free ? (unsigned char)character : EOF;
 }
 
-/* What is left in the buffer of the input, up to so many bytes. */
-static size_t copy_input(char *bytes, size_t wanted)
+/* What is left in the buffer of a stream, up to so many bytes. */
+static size_t copy_input(struct stream *stream, char *bytes, size_t wanted)
 {
-    size_t left = input.length - input.place;
+    if (!stream || stream->is_writing)
+        return 0;
+    size_t left = stream->length - stream->place;
     size_t count = left < wanted ? left : wanted;
-    memcpy(bytes, input.bytes + input.place, count);
-    input.place += (uint32_t)count;
+    memcpy(bytes, stream->buffer + stream->place, count);
+    stream->place += (uint32_t)count;
     return count;
 }
 
 /* The same, up to the end of a line. */
-static size_t copy_line(char *text, size_t wanted)
+static size_t copy_line(struct stream *stream, char *text, size_t wanted)
 {
-    const char *start = input.bytes + input.place;
-    size_t left = input.length - input.place;
+    if (!stream || stream->is_writing)
+        return 0;
+    const char *start = stream->buffer + stream->place;
+    size_t left = stream->length - stream->place;
     const char *end = memchr(start, '\n', left < wanted ? left : wanted);
-    return copy_input(text, end ? (size_t)(end - start) : wanted);
+    return copy_input(stream, text, end ? (size_t)(end - start) : wanted);
 }
 
-char *fgets(char *text, int size, FILE *stream)
+char *fgets(char *text, int size, FILE *file)
 {
     int length = 0;
-    input_begin(stream);
+    shared_begin(file);
     while (length < size - 1) {
-        int character = fgetc(stream);
+        int character = fgetc(file);
         if (character == EOF)
             break;
         text[length++] = (char)character;
         if (character == '\n')
             break;
-        if (stream == stdin)
-            length += (int)copy_line(text + length, (size_t)(size - 1 - length));
+        length += (int)copy_line(stream_of(file), text + length, (size_t)(size - 1 - length));
     }
-    input_end(stream);
-    if (size > 0)
-        text[length] = 0;
-    return length > 0 ? text : NULL;
+    shared_end(file);
+    if (length == 0 && size != 1)
+        return NULL;
+    text[length] = 0;
+    return text;
 }
 
-size_t fread(void *bytes, size_t size, size_t count, FILE *stream)
+/* Whole bufferfuls go straight to their place. */
+static size_t copy_long(struct stream *stream, char *bytes, size_t wanted)
+{
+    if (!stream || wanted < stream->room || stream->is_writing || stream->place < stream->length)
+        return 0;
+    return fetch(stream, bytes, wanted < INT32_MAX ? (uint32_t)wanted : INT32_MAX);
+}
+
+size_t fread(void *bytes, size_t size, size_t count, FILE *file)
 {
     char *place = bytes;
-    size_t length = 0;
-    input_begin(stream);
-    while (length < size * count) {
-        int character = fgetc(stream);
+    size_t length = 0, wanted;
+    if (__builtin_mul_overflow(size, count, &wanted))
+        wanted = SIZE_MAX;
+    if (wanted == 0)
+        return 0;
+    shared_begin(file);
+    while (length < wanted) {
+        int character = fgetc(file);
         if (character == EOF)
             break;
         place[length++] = (char)character;
-        if (stream == stdin)
-            length += copy_input(place + length, size * count - length);
+        length += copy_input(stream_of(file), place + length, wanted - length);
+        length += copy_long(stream_of(file), place + length, wanted - length);
     }
-    input_end(stream);
-    return size ? length / size : 0;
+    shared_end(file);
+    return length / size;
 }
 
 int __wrap_vfscanf(FILE *stream, const char *format, va_list arguments)
 {
-    input_begin(stream);
+    shared_begin(stream);
     int count = dthreads_vfscanf(stream, format, arguments);
-    input_end(stream);
+    shared_end(stream);
     return count;
-}
-
-/* A thread that has a stream keeps the others from all of them. */
-
-void flockfile(FILE *stream)
-{
-    (void)stream;
-    monitor_enter();
-    own.held++;
-    monitor_leave();
-}
-
-int ftrylockfile(FILE *stream)
-{
-    flockfile(stream);
-    return 0;
-}
-
-void funlockfile(FILE *stream)
-{
-    (void)stream;
-    monitor_enter();
-    own.held--;
-    monitor_leave();
 }

@@ -44,6 +44,10 @@ static void thread_fill(struct dthreads_thread *thread, void *(*start)(void *), 
     thread->joiner = NULL;
     thread->cancelled = false;
     thread->asleep = false;
+    thread->pending = 0;
+    thread->robust = NULL;
+    thread->awaited = 0;
+    thread->blocked = self() ? self()->blocked : 0;
     strcpy(thread->name, self() ? self()->name : "");
     thread->deadline = NEVER;
 }
@@ -93,7 +97,7 @@ int pthread_create(pthread_t *name, const pthread_attr_t *attributes, void *(*st
     output_flush();
     monitor_enter();
     int code = thread_make(name, attributes, start, argument);
-    monitor_leave();
+    monitor_finish();
     return code;
 }
 
@@ -118,6 +122,7 @@ void dthreads_thread_run(struct dthreads_thread *thread)
 {
     tls_fill(thread->block);
     own.thread = thread;
+    thread->own = &own;
     begin_together(thread);
     pthread_exit(thread->start(thread->argument));
 }
@@ -136,7 +141,7 @@ static void retire(struct dthreads_thread *thread)
 {
     stack_give(thread->stack);
     thread->stack = NULL;
-    thread->life = thread->detached ? PARKED : ENDED;
+    thread->life = !thread->detached ? ENDED : thread->ended_with > 0 ? LOST : PARKED;
     if (thread->joiner)
         monitor_wake(thread->joiner, WOKEN);
     thread->woken = 0;
@@ -150,10 +155,15 @@ void pthread_exit(void *value)
     own.ending = true;
     run_cleanup();
     keys_destroy_values();
+    if (readings_drop)
+        readings_drop();
     monitor_enter();
     if (monitor.living == 1)
         exit(0);
     heap_flush();
+    if (robust_leave)
+        robust_leave(thread);
+    thread->ended_with = own.held;
     monitor_hold();
     thread->result = value;
     monitor.living--;
@@ -167,7 +177,7 @@ static void reap(struct dthreads_thread *thread, void **value)
 {
     if (value)
         *value = thread->result;
-    thread->life = PARKED;
+    thread->life = thread->ended_with > 0 ? LOST : PARKED;
 }
 
 static int join(pthread_t name, void **value, uint64_t deadline)
@@ -179,14 +189,18 @@ static int join(pthread_t name, void **value, uint64_t deadline)
         return EDEADLK;
     if (thread->detached || thread->joiner)
         return EINVAL;
+    if (cancel_is_due() && deadline > 0)
+        return EINTR;
     enum wake wake = WOKEN;
     while (thread->life != ENDED && wake == WOKEN) {
         thread->joiner = self();
-        wake = monitor_sleep(NULL, deadline, true);
+        wake = monitor_sleep_lightly(NULL, deadline, true);
         thread->joiner = NULL;
     }
     if (wake == CANCELLED)
         return EINTR;
+    if (wake == INTERRUPTED && thread->life != ENDED)
+        return EAGAIN;
     if (thread->life != ENDED)
         return ETIMEDOUT;
     reap(thread, value);
@@ -197,7 +211,12 @@ static int join_until(pthread_t name, void **value, uint64_t deadline)
 {
     monitor_enter();
     int code = join(name, value, deadline);
-    monitor_leave();
+    while (code == EAGAIN) {
+        monitor_finish();
+        monitor_enter();
+        code = join(name, value, deadline);
+    }
+    monitor_finish();
     cancel_here(code == EINTR ? CANCELLED : WOKEN);
     return code;
 }
@@ -215,8 +234,13 @@ int pthread_tryjoin_np(pthread_t name, void **value)
 
 int pthread_timedjoin_np(pthread_t name, void **value, const struct timespec *time)
 {
-    uint64_t deadline;
-    if (!deadline_of(CLOCK_REALTIME, time, &deadline))
+    return pthread_clockjoin_np(name, value, CLOCK_REALTIME, time);
+}
+
+int pthread_clockjoin_np(pthread_t name, void **value, clockid_t clock, const struct timespec *time)
+{
+    uint64_t deadline = NEVER;
+    if (time && !deadline_of(clock, time, &deadline))
         return EINVAL;
     return join_until(name, value, deadline);
 }
@@ -226,10 +250,11 @@ int pthread_detach(pthread_t name)
     monitor_enter();
     struct dthreads_thread *thread = thread_of(name);
     int code = !thread ? ESRCH : thread->detached ? EINVAL : 0;
-    if (code == 0) {
+    /* A thread that another one waits for is the other's. */
+    if (code == 0 && !thread->joiner) {
         thread->detached = true;
         if (thread->life == ENDED)
-            thread->life = PARKED;
+            reap(thread, NULL);
     }
     monitor_leave();
     return code;
@@ -290,6 +315,7 @@ void thread_begin(void)
     struct dthreads_thread *thread = &threads[0];
     tls_fill(__tls_first);
     monitor.earliest = NEVER;
+    monitor.alarm = NEVER;
     monitor.living = 1;
     monitor.awake = 1;
     monitor.made = 1;
@@ -298,4 +324,5 @@ void thread_begin(void)
     thread->stack_size = DTHREADS_FIRST_STACK;
     thread->stack_base = (char *)(uintptr_t)(FIRST_STACK_TOP - DTHREADS_FIRST_STACK);
     own.thread = thread;
+    thread->own = &own;
 }

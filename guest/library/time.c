@@ -73,14 +73,16 @@ clock_t times(struct tms *times)
     return now;
 }
 
-/* Sleeps for so long, or up to that time where it isn't relative. */
-static int sleep_until(uint64_t time, bool is_relative)
+/* Sleeps for so long, or up to that time if it isn't relative; what is left of it if a signal came. */
+static uint64_t sleep_until(uint64_t time, bool is_relative)
 {
     monitor_enter();
-    enum wake wake = monitor_sleep(NULL, is_relative ? monitor.clock + time : time, true);
-    monitor_leave();
+    uint64_t deadline = is_relative ? monitor.clock + time : time;
+    enum wake wake = monitor_sleep_lightly(NULL, deadline, true);
+    uint64_t left = wake == INTERRUPTED && deadline > monitor.clock ? deadline - monitor.clock : wake == INTERRUPTED;
+    monitor_finish();
     cancel_here(wake);
-    return 0;
+    return left;
 }
 
 int clock_nanosleep(clockid_t clock, int flags, const struct timespec *time, struct timespec *rest)
@@ -88,9 +90,10 @@ int clock_nanosleep(clockid_t clock, int flags, const struct timespec *time, str
     uint64_t deadline;
     if (!deadline_of(flags & TIMER_ABSTIME ? clock : CLOCK_MONOTONIC, time, &deadline) || !is_clock(clock))
         return EINVAL;
-    if (rest)
-        *rest = (struct timespec){0};
-    return sleep_until(deadline, !(flags & TIMER_ABSTIME));
+    uint64_t left = sleep_until(deadline, !(flags & TIMER_ABSTIME));
+    if (rest && !(flags & TIMER_ABSTIME))
+        *rest = timespec_of(left);
+    return left ? EINTR : 0;
 }
 
 int nanosleep(const struct timespec *time, struct timespec *rest)
@@ -104,21 +107,23 @@ int nanosleep(const struct timespec *time, struct timespec *rest)
 
 int usleep(useconds_t microseconds)
 {
-    return sleep_until((uint64_t)microseconds * 1000, true);
+    if (sleep_until((uint64_t)microseconds * 1000, true) == 0)
+        return 0;
+    errno = EINTR;
+    return -1;
 }
 
 unsigned sleep(unsigned seconds)
 {
-    sleep_until(seconds * SECOND, true);
-    return 0;
+    return (unsigned)((sleep_until(seconds * SECOND, true) + SECOND - 1) / SECOND);
 }
 
-/* Nothing ends a pause but the thread's cancellation. */
+/* Ends by a signal or the thread's cancellation. */
 int pause(void)
 {
     monitor_enter();
-    enum wake wake = monitor_sleep(NULL, NEVER, true);
-    monitor_leave();
+    enum wake wake = monitor_sleep_lightly(NULL, NEVER, true);
+    monitor_finish();
     cancel_here(wake);
     errno = EINTR;
     return -1;
@@ -129,5 +134,6 @@ int sched_yield(void)
     monitor_enter();
     monitor_leave();
     monitor_breathe();
+    signal_point();
     return 0;
 }

@@ -7,6 +7,33 @@
 #define DTHREADS_PRELUDE_H
 #pragma GCC system_header
 
+/* Programs ask by these whether there is what POSIX has. */
+#define __unix__ 1
+#define __unix 1
+
+/* Numbers of 32 bits are ints, as on other machines of 32 bits: an int and a uint32_t may then be the same object. To this
+ * compiler they were longs, which have the same size; the C library's files know no difference. */
+#undef __INT32_TYPE__
+#undef __UINT32_TYPE__
+#undef __INT_LEAST32_TYPE__
+#undef __UINT_LEAST32_TYPE__
+#undef __INT32_MAX__
+#undef __UINT32_MAX__
+#undef __INT_LEAST32_MAX__
+#undef __UINT_LEAST32_MAX__
+#undef __INT32_C
+#undef __UINT32_C
+#define __INT32_TYPE__ int
+#define __UINT32_TYPE__ unsigned int
+#define __INT_LEAST32_TYPE__ int
+#define __UINT_LEAST32_TYPE__ unsigned int
+#define __INT32_MAX__ 0x7fffffff
+#define __UINT32_MAX__ 0xffffffffU
+#define __INT_LEAST32_MAX__ 0x7fffffff
+#define __UINT_LEAST32_MAX__ 0xffffffffU
+#define __INT32_C(number) number
+#define __UINT32_C(number) number ## U
+
 #ifdef __ASSEMBLER__
 
     .macro fence predecessor=iorw, successor=iorw
@@ -63,7 +90,7 @@ template <typename T> struct dthreads_plain { typedef T type; };
 template <typename T> struct dthreads_plain<const T> { typedef T type; };
 template <typename T> struct dthreads_plain<volatile T> { typedef T type; };
 template <typename T> struct dthreads_plain<const volatile T> { typedef T type; };
-#define DTHREADS_PLAIN(object) dthreads_plain<__typeof__(*(object))>::type
+#define DTHREADS_PLAIN(object) typename dthreads_plain<__typeof__(*(object))>::type
 #else
 #define DTHREADS_PLAIN(object) __typeof__((void)0, *(object))
 #endif

@@ -1,0 +1,37 @@
+/* Sets of signals. */
+#include "signals.h"
+
+int sigemptyset(sigset_t *set)
+{
+    *set = 0;
+    return 0;
+}
+
+int sigfillset(sigset_t *set)
+{
+    *set = ~UINT64_C(1);
+    return 0;
+}
+
+int sigaddset(sigset_t *set, int signal)
+{
+    if (!is_signal(signal))
+        return signal_result(EINVAL);
+    *set |= BIT(signal);
+    return 0;
+}
+
+int sigdelset(sigset_t *set, int signal)
+{
+    if (!is_signal(signal))
+        return signal_result(EINVAL);
+    *set &= ~BIT(signal);
+    return 0;
+}
+
+int sigismember(const sigset_t *set, int signal)
+{
+    if (!is_signal(signal))
+        return signal_result(EINVAL);
+    return *set >> signal & 1;
+}

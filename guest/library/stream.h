@@ -1,0 +1,40 @@
+/* Streams over descriptors: the three standard ones and those of fopen and its kin. */
+#ifndef STREAM_H
+#define STREAM_H
+
+#include <stdio.h>
+#include "monitor.h"
+
+struct stream {
+    FILE file;
+    int descriptor;
+    /* The buffer has text that is to be written, from its start up to `place`; else bytes that were read, from `place` up to
+     * `length`. */
+    bool is_writing;
+    /* One of _IOFBF, _IOLBF and _IONBF. */
+    uint8_t mode;
+    char *buffer;
+    uint32_t room, place, length;
+    /* Who is in a call on the stream, or has it by flockfile. */
+    struct dthreads_thread *owner;
+    uint32_t count;
+    struct dthreads_queue waiters;
+    struct stream *next;
+};
+
+/* The stream over a descriptor that a FILE is, or NULL for those of sprintf and the like. */
+struct stream *stream_of(FILE *file);
+/* Between these a thread has the stream and is in the monitor; calls may nest. */
+void stream_enter(struct stream *stream);
+void stream_leave(struct stream *stream);
+int stream_put(char character, FILE *file);
+int stream_get(FILE *file);
+int stream_flush(FILE *file);
+
+/* Of the streams of fopen and its kin, which are linked by need. */
+__attribute__((weak)) bool stream_write(struct stream *stream, const char *bytes, uint32_t length);
+/* Writes what is to be written, or moves the descriptor back to the first byte that wasn't read. */
+__attribute__((weak)) bool stream_settle(struct stream *stream);
+__attribute__((weak)) void stream_close(struct stream *stream);
+
+#endif

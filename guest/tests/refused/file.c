@@ -1,2 +1,0 @@
-#include <stdio.h>
-int main(void) { return fopen("name", "r") == NULL; }

@@ -1,0 +1,2 @@
+static volatile char bytes[80 << 20];
+int main(void) { return bytes[5]; }

@@ -1,0 +1,13 @@
+/* What a C++ program has beside link.ld: the tables by which exceptions find their way. */
+SECTIONS
+{
+    .eh_frame : ALIGN(4) {
+        __dthreads_frames = .;
+        KEEP(*(.eh_frame .eh_frame.*))
+        LONG(0)
+    } :constants
+    .gcc_except_table : {
+        *(.gcc_except_table .gcc_except_table.*)
+    } :constants
+}
+INSERT AFTER .rodata;

@@ -1,0 +1,144 @@
+"""The functions of C11 and POSIX that a guest program has: a table for docs/C-REFERENCE.md.
+
+Without a word it prints the table. `write` puts it into the page, between its marks; `check` compares it with the page, and links a
+program that names every function that the table has.
+
+guest/reference lists the functions of each standard. A function is there if the library or the C library has it, which nm tells, or
+if its header defines a macro of its name. guest/refused says why others aren't.
+"""
+import os
+import subprocess
+import tempfile
+
+from dt_commands.repository import TOP
+
+KIT = f"{TOP}/guest"
+PAGE = f"{TOP}/docs/C-REFERENCE.md"
+PICOLIBC = "/usr/lib/picolibc/riscv64-unknown-elf/lib/rv32im/ilp32"
+BEGIN, END = "<!-- The table of functions: tools/dt c-functions write -->", "<!-- The end of the table -->"
+STANDARDS = [("c11", "C11"), ("posix", "POSIX.1-2008, beyond C11")]
+
+
+def arguments(parser):
+    parser.add_argument("what", nargs="?", choices=["print", "write", "check"], default="print")
+
+
+def standard(name):
+    """Returns the headers of a standard, each with its functions, in the file's order."""
+    with open(f"{KIT}/reference/{name}", encoding="utf-8") as lines:
+        rows = [line.split() for line in lines if line.strip() and not line.startswith("#")]
+    return [(row[0], row[1:]) for row in rows]
+
+
+def reasons():
+    """Returns why a function isn't there, by its name."""
+    found = {}
+    with open(f"{KIT}/refused", encoding="utf-8") as lines:
+        for line in lines:
+            names, colon, reason = line.strip().partition(": ")
+            if colon and not line.startswith("#"):
+                found.update({name: reason for name in names.split()})
+    return found
+
+
+def symbols():
+    """Returns the names that the library and the C library define."""
+    folder = subprocess.run([f"{KIT}/dthreads-cc", "--library"], check=True, stdout=subprocess.PIPE, text=True).stdout.strip()
+    libraries = [f"{folder}/libdthreads.a", f"{PICOLIBC}/libc.a"]
+    listing = subprocess.run(["riscv64-unknown-elf-nm", "--defined-only", *libraries], stdout=subprocess.PIPE,
+                             stderr=subprocess.DEVNULL, text=True, check=True).stdout
+    return {words[2] for words in map(str.split, listing.splitlines()) if len(words) == 3 and words[1] in "TWDBRV"}
+
+
+def macros(header):
+    """Returns the macros of a header, or none where it isn't there."""
+    done = subprocess.run([f"{KIT}/dthreads-cc", "-D_GNU_SOURCE", "-E", "-dM", "-include", header, "-x", "c", "/dev/null"],
+                          stdout=subprocess.PIPE, stderr=subprocess.DEVNULL, text=True)
+    lines = done.stdout.splitlines() if done.returncode == 0 else []
+    return {line.split()[1].partition("(")[0] for line in lines if line.startswith("#define ")}
+
+
+def missing_by_reason(names, why):
+    """Returns text on functions that aren't there, those with one reason together."""
+    groups = {}
+    for name in names:
+        groups.setdefault(why.get(name, "not made"), []).append(name)
+    return "; ".join(", ".join(f"`{name}`" for name in group) + f": {reason}" for reason, group in groups.items())
+
+
+def rows(name, have, why):
+    """Returns the table's rows for one standard, and the functions that are there as symbols."""
+    lines, present = [], []
+    kept = set(why) & have
+    if kept:
+        raise SystemExit(f"guest/refused names functions that are there: {' '.join(sorted(kept))}")
+    for header, functions in standard(name):
+        absent = [function for function in functions if function not in have]
+        if absent:
+            of_header = macros(header)
+            absent = [function for function in absent if function not in of_header]
+        present += [function for function in functions if function in have]
+        if not absent:
+            text = "all"
+        elif len(absent) == len(functions):
+            found = {why.get(function, "not made") for function in absent}
+            text = "none: " + "; ".join(sorted(found))
+        else:
+            text = "all but " + missing_by_reason(absent, why)
+        lines.append(f"| `{header}` | {len(functions)} | {text} |")
+    return lines, present
+
+
+def table():
+    """Returns the text of the table and the functions that are there as symbols."""
+    have, why = symbols(), reasons()
+    text, present = [], []
+    for name, title in STANDARDS:
+        lines, here = rows(name, have, why)
+        text += [f"| {title} | Functions | There are |", "|---|---|---|", *lines, ""]
+        present += here
+    return "\n".join(text), present
+
+
+def parts(page):
+    """Returns the page before, between and after the marks."""
+    before, found, rest = page.partition(BEGIN)
+    between, also_found, after = rest.partition(END)
+    if not (found and also_found):
+        raise SystemExit(f"{PAGE}: the marks of the table are missing")
+    return before, between, after
+
+
+def links(names):
+    """Whether a program links that names all these functions."""
+    with tempfile.TemporaryDirectory() as room:
+        source = f"{room}/all.c"
+        with open(source, "w", encoding="utf-8") as file:
+            file.write("int main(void) { return 0; }\n")
+            file.write('__asm__(".section .rodata.all, \\"aR\\"\\n' + "".join(f".word {name}\\n" for name in names) + '");\n')
+        done = subprocess.run([f"{KIT}/dthreads-cc", "-o", f"{room}/all.elf", source, "-lm", "-Wl,--no-gc-sections"],
+                              stderr=subprocess.PIPE, text=True)
+    if done.returncode:
+        print(done.stderr)
+    return done.returncode == 0
+
+
+def run(options):
+    text, present = table()
+    if options.what == "print":
+        print(text)
+        return 0
+    with open(PAGE, encoding="utf-8") as file:
+        before, between, after = parts(file.read())
+    fresh = f"\n\n{text}\n"
+    if options.what == "write":
+        with open(PAGE, "w", encoding="utf-8") as file:
+            file.write(before + BEGIN + fresh + END + after)
+        return 0
+    if between != fresh:
+        print(f"{os.path.relpath(PAGE, TOP)}: the table of functions isn't that of the library: tools/dt c-functions write")
+        return 1
+    if not links(present):
+        return 1
+    print(f"{len(present)} functions link, and the table is true")
+    return 0
