@@ -1,8 +1,9 @@
 """Runs every test, and every program against its wanted output, unproved: minutes in place of the gate's hours.
 
 It proves nothing: `.ci/run` is the verdict. Tests and programs are run as `rt ci` runs them, a program with its files data/, args,
-stdin, stdout and status, but compiled with checks in place of proofs, which makes them up to a hundred times slower. The crates that
-took the longest when they were last run here come first.
+stdin, stdout and status, but compiled with checks in place of proofs, which makes them up to a hundred times slower. If its folder
+has a file args.unproved, a program is given these words in place of args. The crates that took the longest when they were last run
+here come first.
 """
 import os
 import re
@@ -111,7 +112,7 @@ def work(folder, seconds):
     if is_program(folder):
         begun = time.time()
         data = [it for name in files_below(f"{folder}/data") for it in ("--data", f"{name}=data/{name}")]
-        words = (text_of(f"{folder}/args") or b"").decode(errors="surrogateescape").splitlines()
+        words = (text_of(f"{folder}/args.unproved") or text_of(f"{folder}/args") or b"").decode(errors="surrogateescape").splitlines()
         _, wrote, said = tried(folder, [*limit, *data, "--", *words], text_of(f"{folder}/stdin") or b"")
         found.append(of_program(wrote, said, folder))
         found[-1].seconds = time.time() - begun

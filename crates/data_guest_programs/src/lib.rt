@@ -1,6 +1,6 @@
-//! Guest programs that proved tests name, as listings, and what their runs must give, worked out by hand. The listings were
-//! assembled by hand from the RISC-V Unprivileged ISA, document version 20191213. What whole runs of these and of further
-//! programs must give stands in the data of `test_guest_runs`, which compares its listings with these.
+//! Guest programs that proved tests name, as listings, and the writer of guest files. The listings were assembled by hand from the
+//! RISC-V Unprivileged ISA, document version 20191213. What whole runs of these and of further programs must give stands in the
+//! data of `test_guest_runs`, which compares its listings with these.
 #![tactic(auto)]
 
 mod elf_file;

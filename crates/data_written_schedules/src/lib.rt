@@ -1,4 +1,5 @@
-//! Schedules as texts, and what their replays must give, worked out by hand.
+//! Schedules that proved tests name, as texts, worked out by hand. What replays of these and of further schedules must give stands
+//! in the data of `test_guest_runs`, which compares its texts with these.
 #![tactic(auto)]
 
 mod race;

@@ -34,7 +34,7 @@ pub fn compare(alloc: Global, guest: &Guest, found: &mut Differences) -> Result<
 
 /// Compares the trace of a program's first run with the one that `data_guest_programs` keeps.
 fn compare_trace(guest: &Guest, trace: &str, found: &mut Differences) -> Result<()> {
-    let how = "of guest_programs";
+    let how = "of data_guest_programs";
     let wanted = guest.runs.first().map_or("", |run| run.trace.as_str());
     Ok(found.expect_text(trace, wanted, "trace", how)?)
 }
@@ -46,7 +46,7 @@ fn compare_kept(
     program: &Program,
     found: &mut Differences,
 ) -> Result<()> {
-    let how = "of guest_programs";
+    let how = "of data_guest_programs";
     let kept = program.listing_text(alloc)?;
     found.expect_text(kept.as_str(), guest.listing.as_str(), "listing", how)?;
     let is_file = program.file(alloc)? == guest.file(alloc)?;

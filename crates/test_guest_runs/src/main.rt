@@ -1,8 +1,9 @@
 //! Runs the guest programs of its data/ with 1, 2, 3, 4 and 64 workers and through the command line, and prints what they give.
 //!
-//! With no arguments it prints a line for each row: `NAME: ok`, or what differs. `test_guest_runs NAME..` does so for the rows of
-//! these names; after the word `brief` it makes runs that take long in one way alone. `test_guest_runs walk N [SEED]` walks N times through the short runs by events that are picked from the seed, and
-//! `test_guest_runs write FOLDER` writes the ELF files of the samples to a folder.
+//! It runs in the folder data/, whose file `list` names the programs, or in the one that has it. With no arguments it prints a line
+//! for each row: `NAME: ok`, or what differs. `test_guest_runs NAME..` does so for the rows whose names begin with these words; after
+//! the word `brief` it makes runs that take long once. `test_guest_runs walk N [SEED]` walks N times through the short runs by
+//! events that are picked from the seed, and `test_guest_runs write FOLDER` writes the ELF files of the samples to a folder.
 #![tactic(auto)]
 
 mod by_command;

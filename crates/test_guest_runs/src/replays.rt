@@ -46,7 +46,7 @@ pub fn compare(
     for schedule in &KEPT {
         if schedule.name == row.name.as_str() {
             let kept = schedule.whole_text(alloc)?;
-            found.expect(kept == row.text, "text", "of written_schedules")?;
+            found.expect(kept == row.text, "text", "of data_written_schedules")?;
         }
     }
     let trace = first_lines(alloc, run.trace.as_str(), turns)?;

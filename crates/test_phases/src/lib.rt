@@ -1,4 +1,4 @@
-//! Tests of phases on one and on many host threads, and of whole runs taken phase by phase.
+//! Tests of draws, of phases on one and on many host threads, and of turns beside running jobs.
 #![tactic(auto)]
 
 #[cfg(test)]

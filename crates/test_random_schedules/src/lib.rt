@@ -1,4 +1,4 @@
-//! Goes through guest programs by events that a seed picks; turns and end must be the run's.
+//! Walks through runs by events that a seed picks, which need not be enabled.
 //!
 //! [`Dice`] picks the events. [`walk_to_end`] makes them happen in a world until its run ends.
 #![tactic(auto)]
