@@ -2,7 +2,9 @@
 import functools
 import os
 
-from dt_mutants.functions import changed_functions
+from collections import Counter
+
+from dt_mutants.functions import changed_functions, functions_of
 
 # The folders of a crate that an edit may name, which are those that a check reads.
 PARTS = ("src/", "specs/", "proofs/")
@@ -33,10 +35,11 @@ def pairs_of(text):
 
 
 class Edit:
-    """One edit. `places` are the functions whose bodies alone it changes; None says that it changes something else too."""
+    """One edit. `places` are the functions whose bodies alone it changes; None says that it changes something else too.
+    `labels` returns how many functions of the crate have each label."""
 
-    def __init__(self, crate, file, folder):
-        self.crate, self.file, self.folder = crate, file, folder
+    def __init__(self, crate, file, folder, labels):
+        self.crate, self.file, self.folder, self.labels = crate, file, folder, labels
         self.name, ending = os.path.splitext(os.path.basename(file))
         self.pairs, self.changes, self.why = [], {}, None
         try:
@@ -57,6 +60,8 @@ class Edit:
             if not functions:
                 return None
             found += functions
+        for it in found:
+            it.is_unique = self.labels()[it.label] == 1
         return found
 
     def before(self, path):
@@ -94,4 +99,11 @@ def edits_of(crate, folder, kind="mutants"):
     """Returns the mutants of the crate in this folder, or its edits of another kind, by their names."""
     at = f"{folder}/{kind}"
     names = sorted(it for it in os.listdir(at) if not it.endswith(".md")) if os.path.isdir(at) else []
-    return [Edit(crate, f"{at}/{it}", folder) for it in names]
+    labels = functools.lru_cache(maxsize=None)(lambda: labels_of(folder))
+    return [Edit(crate, f"{at}/{it}", folder, labels) for it in names]
+
+
+def labels_of(folder):
+    """Returns how many functions of a crate have each label, which is the type's name and the function's."""
+    files = [f"{at}/{name}" for at, _, names in os.walk(f"{folder}/src") for name in names if name.endswith(".rt")]
+    return Counter(it.label for file in files for it in functions_of(os.path.relpath(file, folder), text_of(file)))

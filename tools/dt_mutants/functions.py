@@ -21,6 +21,8 @@ class Function:
         self.begin, self.end = begin, end
         self.first, self.last = text.count("\n", 0, start) + 1, text.count("\n", 0, end) + 1
         self.body = text[begin:end]
+        # whether no other function of the crate has its label, so that its name alone tells it
+        self.is_unique = False
 
     @property
     def key(self):

@@ -56,12 +56,10 @@ def module_of(file):
 
 
 def is_refused(function, found):
-    """Returns whether one of these is the function, refused by a goal of its own or in its own proof files."""
-    for it in found:
-        inside = any(file == function.file and function.first <= line <= function.last for file, line in it.notes)
-        if it.is_own and is_of(it.path, function) and (inside or not it.notes):
-            return True
-    return False
+    """Returns whether one of these is the function, refused by a goal of its own or in its own proof files. If the crate has another
+    function of its label, a note must be at its lines."""
+    is_inside = lambda it: any(file == function.file and function.first <= line <= function.last for file, line in it.notes)
+    return any(it.is_own and is_of(it.path, function) and (function.is_unique or is_inside(it)) for it in found)
 
 
 def has_verdict(said, status):

@@ -153,9 +153,17 @@ class Judging(WithCrate):
         text = "\n".join(it for it in text.split("\n") if "returns-then-number-eq15" not in it)
         self.assertEqual(self.refused(text), ["b", "c"])
 
-    def test_a_note_at_another_function_does_not_count(self):
-        text = said("four_functions").replace("src/call_kind.rt:93:5", "src/call_kind.rt:68:5")
+    def test_two_functions_of_one_label_are_told_by_their_lines(self):
+        os.makedirs(f"{self.room.name}/src")
+        with open(f"{self.room.name}/src/other.rt", "w", encoding="utf-8") as it:
+            it.write("impl CallKind {\n    fn name() -> u32 {\n        0\n    }\n}\n")
+        self.assertEqual(self.refused(said("four_functions")), ["a", "b", "c"])
+        text = said("four_functions").replace("src/call_kind.rt:93:5", "src/other.rt:2:5")
         self.assertEqual(self.refused(text), ["a", "b"])
+
+    def test_the_note_of_a_clause_that_a_trait_declares_elsewhere_counts(self):
+        text = said("four_functions").replace("src/call_kind.rt:93:5", "src/a_trait.rt:7:5")
+        self.assertEqual(self.refused(text), ["a", "b", "c"])
 
     def test_without_a_verdict_nothing_is_refused(self):
         text = said("four_functions")
