@@ -1,21 +1,13 @@
-"""How much work goes side by side, and in which order crates are taken."""
-import os
+"""How much work on crates goes side by side, and in which order crates are taken."""
 import queue
 import threading
 
-# The memory that a check of a crate is likely to take, in kB.
-EACH = 2_500_000
-
-
-def free_memory():
-    """Returns the free memory of the machine in kB."""
-    with open("/proc/meminfo", encoding="utf-8") as lines:
-        return next(int(it.split()[1]) for it in lines if it.startswith("MemAvailable:"))
+from dt_commands import lanes
 
 
 def count(wanted=None):
-    """Returns the number of lanes: the wanted one, or else one a processor, as many as free memory holds."""
-    return wanted or max(1, min(len(os.sched_getaffinity(0)), free_memory() // EACH))
+    """Returns the number of lanes: the wanted one, or else those that the machine has room for."""
+    return wanted or lanes.lanes_of_machine()
 
 
 def chains(costs, uses):
@@ -44,7 +36,7 @@ def minutes(seconds):
     return f"{int(seconds) // 60}:{int(seconds) % 60:02}"
 
 
-def in_lanes(order, uses, lanes, work, tell, still=None):
+def in_lanes(order, uses, lane_count, work, tell, still=None):
     """Works on crates side by side, each once those that it uses are done, and gives the first of `order` that are ready the idle lanes.
 
     `work(name, jobs)` is called in a thread. `tell(name, result)` is called here as each ends. If it gives true, nothing more
@@ -60,7 +52,7 @@ def in_lanes(order, uses, lanes, work, tell, still=None):
 
     while waiting or running:
         ready = [it for it in waiting if all(below in done for below in uses.get(it, ()) if below in order)]
-        for name, jobs in starts(ready, lanes - sum(running.values())):
+        for name, jobs in starts(ready, lane_count - sum(running.values())):
             waiting.remove(name)
             running[name] = jobs
             threading.Thread(target=go, args=(name, jobs), daemon=True).start()
