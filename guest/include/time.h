@@ -12,7 +12,6 @@ extern "C" {
 #define TIME_UTC 1
 int timespec_get(struct timespec *, int);
 #endif
-time_t timegm(struct tm *);
 
 #ifdef __cplusplus
 }

@@ -3,8 +3,9 @@
 #include <unistd.h>
 #include "console.h"
 
-/* Open descriptors at most. */
+/* Open descriptors at most, and bytes of arguments. */
 #define DESCRIPTORS 256
+#define ARGUMENTS 65536
 
 enum {
     PROCESS = 1,
@@ -62,6 +63,16 @@ long sysconf(int name)
         return PROCESSORS;
     case _SC_PHYS_PAGES:
         return DTHREADS_HEAP_PAGES;
+    case _SC_AVPHYS_PAGES:
+        return DTHREADS_HEAP_PAGES;
+    case _SC_CLK_TCK:
+        return CLOCKS_PER_SEC;
+    case _SC_VERSION:
+        return _POSIX_VERSION;
+    case _SC_ARG_MAX:
+        return ARGUMENTS;
+    case _SC_GETPW_R_SIZE_MAX:
+        return 64;
     case _SC_OPEN_MAX:
         return DESCRIPTORS;
     case _SC_THREAD_KEYS_MAX:
