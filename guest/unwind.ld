@@ -1,6 +1,4 @@
-/* What a C++ program has beside link.ld: the tables by which exceptions find their way. */
-SECTIONS
-{
+    /* What a C++ program has among the constants of link.ld: the tables by which exceptions find their way. */
     .eh_frame : ALIGN(4) {
         __dthreads_frames = .;
         KEEP(*(.eh_frame .eh_frame.*))
@@ -9,5 +7,4 @@ SECTIONS
     .gcc_except_table : {
         *(.gcc_except_table .gcc_except_table.*)
     } :constants
-}
-INSERT AFTER .rodata;
+

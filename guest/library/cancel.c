@@ -14,6 +14,7 @@ bool cancel_is_due(void)
 
 void cancel_point(void)
 {
+    signal_point();
     if (cancel_is_due())
         pthread_exit(PTHREAD_CANCELED);
 }

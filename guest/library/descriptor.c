@@ -16,7 +16,7 @@ static mode_t mask = 022;
 
 int files_finish(int code)
 {
-    monitor_leave();
+    monitor_finish();
     if (code >= 0)
         return code;
     if (code == -ECANCELED)

@@ -34,9 +34,11 @@ static int poll_until(struct pollfd *all, nfds_t count, uint64_t deadline)
         int ready = look(all, count);
         if (ready > 0 || deadline == 0)
             return ready;
-        enum wake wake = monitor_sleep(&pollers, deadline, true);
+        enum wake wake = monitor_sleep_lightly(&pollers, deadline, true);
         if (wake == CANCELLED)
             return -ECANCELED;
+        if (wake == INTERRUPTED)
+            return -EINTR;
         if (wake == TIMED_OUT)
             return look(all, count);
     }
