@@ -39,7 +39,10 @@ pub fn byte(text: &str) -> Result<u8> {
 pub fn bytes(alloc: Global, text: &str) -> Result<Vec<u8>> {
     let mut found = Vec::new(alloc);
     let mut rest = text;
-    while let Some((digits, others)) = rest.split_at_checked(2) {
+    for _ in 0..text.len() {
+        let Some((digits, others)) = rest.split_at_checked(2) else {
+            break;
+        };
         found.push(byte(digits)?)?;
         rest = others;
     }
