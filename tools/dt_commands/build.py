@@ -7,13 +7,15 @@ The crates with the longest chain of crates above them come first, and processor
 functions of the toolchain's command that are no published interface: if they are others, `rt all check` builds the same in an order
 of its own, and takes some minutes longer.
 """
+import contextlib
 import inspect
 import os
 import signal
 import sys
 import time
 
-from dt_commands import built_from, crate_lanes, release, toolchain
+from dt_commands import built_from, lanes, release, toolchain
+from dt_commands.progress import minutes
 from dt_commands.repository import TOP, below, crates
 
 COMMAND = f"{TOP}/crates/command"
@@ -25,7 +27,7 @@ SHOWN = 40
 
 
 def arguments(parser):
-    parser.add_argument("--lanes", type=int, metavar="N", help="how many crates at a time (default: one a processor, and 2.5 GB of memory each)")
+    parser.add_argument("--lanes", type=int, metavar="N", help=lanes.HELP)
     parser.add_argument("--start", action="store_true", help="then start the program in place of this command")
     parser.add_argument("--word", action="append", default=[], metavar="WORD", help="a word to start it with, behind a colon, as --word=:run")
 
@@ -55,7 +57,7 @@ class Progress:
         say(f"{len(self.done)} of {len(self.every)} are built, and at work are {', '.join(names)} ({self.so_far()} so far)")
 
     def so_far(self):
-        return crate_lanes.minutes(time.time() - self.begun)
+        return minutes(time.time() - self.begun)
 
 
 def cost(name):
@@ -72,7 +74,7 @@ def cost(name):
 def expected(names, lane_count):
     """Returns the seconds that these crates take on a fast machine: those of the longest chain, or of all by the lanes."""
     costs = {it: cost(it) for it in names}
-    chain = max(crate_lanes.chains(costs, crates()).values(), default=0)
+    chain = max(lanes.chains(costs, crates()).values(), default=0)
     return max(chain / SOONER, sum(costs.values()) / lane_count)
 
 
@@ -119,7 +121,7 @@ def in_our_order(libraries, progress):
     """Builds the libraries, those with the longest chain above them first. Returns whether all are built."""
     built, costs = libraries.built(), {it: cost(it) for it in below("command")}
     progress.begin(built)
-    behind = crate_lanes.chains(costs, crates())
+    behind = lanes.chains(costs, crates())
     left = sorted((it for it in libraries.crates if it not in built), key=lambda it: -behind[it])
 
     def tell(name, result):
@@ -133,7 +135,7 @@ def in_our_order(libraries, progress):
             progress.ended(name, seconds)
         return status
 
-    are_built = crate_lanes.in_lanes(left, crates(), progress.lanes, libraries.build, tell, progress.still)
+    are_built = lanes.crates_in_lanes(left, crates(), progress.lanes, libraries.build, tell, progress.still)
     libraries.unlock()
     return are_built
 
@@ -175,6 +177,18 @@ def program_built(progress):
     return True
 
 
+def named():
+    """Returns the program by a file of its own name, which the host shows, or by that of its crate if there can't be one."""
+    file = f"{COMMAND}/out/dthreads"
+    with contextlib.suppress(OSError):
+        if not (os.path.exists(file) and os.path.samefile(file, release.BUILT)):
+            with contextlib.suppress(FileNotFoundError):
+                os.remove(file)
+            os.link(release.BUILT, file)
+        return file
+    return release.BUILT
+
+
 def build(lane_count):
     """Builds the program, and returns the status."""
     if not toolchain.path():
@@ -186,7 +200,7 @@ def build(lane_count):
         say("`rt version` failed: see that the Rattle toolchain is whole")
         return 1
     os.makedirs(f"{COMMAND}/out", exist_ok=True)
-    progress = Progress(below("command"), crate_lanes.count(lane_count))
+    progress = Progress(below("command"), lanes.count(lane_count))
     if not libraries_built(progress) or not program_built(progress):
         return 1
     if built_from.listed() != text:
@@ -196,12 +210,21 @@ def build(lane_count):
     return 0
 
 
+def say_why():
+    """Says why the program is built that is to be started, if the release could have been started in its place."""
+    reason = release.why_another()
+    if reason:
+        say(f"{reason}. So the program is built first; the release itself can still be started as it is")
+
+
 def run(options):
+    if options.start:
+        say_why()
     status = build(options.lanes)
     if not status and options.start:
         for it in (signal.SIGPIPE, signal.SIGXFSZ):
             signal.signal(it, signal.SIG_DFL)
-        os.execv(release.BUILT, [release.BUILT, *(it[1:] for it in options.word)])
+        os.execv(named(), ["dthreads", *(it[1:] for it in options.word)])
     if not status:
         say(release.comparison()[1])
     return status

@@ -1,26 +1,22 @@
-"""The functions of C11 and POSIX that a guest program has: a table for docs/C-REFERENCE.md.
-
-Without a word it prints the table. `write` puts it into the page, between its marks; `check` compares it with the page, and links a
-program that names every function that the table has.
+"""The functions of C11 and POSIX that a guest program has: the table in docs/C-REFERENCE.md.
 
 guest/reference lists the functions of each standard. A function is there if the library or the C library has it, which nm tells, or
 if its header defines a macro of its name. guest/refused says why others aren't.
 """
 import os
+import re
 import subprocess
 import tempfile
 
+from dt_commands.progress import Progress
 from dt_commands.repository import TOP
 
 KIT = f"{TOP}/guest"
 PAGE = f"{TOP}/docs/C-REFERENCE.md"
 PICOLIBC = "/usr/lib/picolibc/riscv64-unknown-elf/lib/rv32im/ilp32"
-BEGIN, END = "<!-- The table of functions: tools/dt c-functions write -->", "<!-- The end of the table -->"
+# The table of the page, and the marks round it.
+TABLE = re.compile(r"(<!-- The table of functions: [^>]*-->)(.*)(?=<!-- The end of the table -->)", re.S)
 STANDARDS = [("c11", "C11"), ("posix", "POSIX.1-2008, beyond C11")]
-
-
-def arguments(parser):
-    parser.add_argument("what", nargs="?", choices=["print", "write", "check"], default="print")
 
 
 def standard(name):
@@ -100,15 +96,6 @@ def table():
     return "\n".join(text), present
 
 
-def parts(page):
-    """Returns the page before, between and after the marks."""
-    before, found, rest = page.partition(BEGIN)
-    between, also_found, after = rest.partition(END)
-    if not (found and also_found):
-        raise SystemExit(f"{PAGE}: the marks of the table are missing")
-    return before, between, after
-
-
 def links(names):
     """Whether a program links that names all these functions."""
     with tempfile.TemporaryDirectory() as room:
@@ -123,22 +110,33 @@ def links(names):
     return done.returncode == 0
 
 
-def run(options):
-    text, present = table()
-    if options.what == "print":
-        print(text)
-        return 0
+def compared():
+    """Returns the page, the place of its table, the text that the table must be, and the functions that are there as symbols."""
+    with Progress("tables", 1):
+        text, present = table()
     with open(PAGE, encoding="utf-8") as file:
-        before, between, after = parts(file.read())
-    fresh = f"\n\n{text}\n"
-    if options.what == "write":
-        with open(PAGE, "w", encoding="utf-8") as file:
-            file.write(before + BEGIN + fresh + END + after)
-        return 0
-    if between != fresh:
-        print(f"{os.path.relpath(PAGE, TOP)}: the table of functions isn't that of the library: tools/dt c-functions write")
+        page = file.read()
+    found = TABLE.search(page)
+    if not found:
+        raise SystemExit(f"{PAGE}: the marks of the table are missing")
+    return page, found, f"\n\n{text}\n", present
+
+
+def check(options):
+    """Compares the table of functions with the library, and links a program that names every function of the table."""
+    _, found, fresh, present = compared()
+    if found[2] != fresh:
+        print(f"{os.path.relpath(PAGE, TOP)}: the table of functions isn't that of the library: tools/dt write c-functions")
         return 1
     if not links(present):
         return 1
     print(f"{len(present)} functions link, and the table is true")
+    return 0
+
+
+def write(options):
+    """Writes the table of functions into docs/C-REFERENCE.md."""
+    page, found, fresh, _ = compared()
+    with open(PAGE, "w", encoding="utf-8") as file:
+        file.write(page[: found.start(2)] + fresh + page[found.end(2) :])
     return 0

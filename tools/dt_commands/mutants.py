@@ -19,8 +19,7 @@ import subprocess
 import sys
 import time
 
-from dt_commands import kit
-from dt_commands.lanes import in_lanes, lanes_of_machine
+from dt_commands import kit, lanes
 from dt_commands.repository import TOP
 from dt_mutants import lock, selftest
 from dt_mutants.edits import edits_of
@@ -32,7 +31,7 @@ def arguments(parser):
     parser.add_argument("crates", nargs="*", metavar="CRATE", help="the crates to try")
     parser.add_argument("--all", action="store_true", help="try every crate that has mutants")
     parser.add_argument("--gate", action="store_true", help="try what differs from mutants.lock, over what rt ci left, and write nothing")
-    parser.add_argument("--lanes", type=int, metavar="N", help="how many checks run side by side (processors, but one for 2.5 GB of free memory)")
+    parser.add_argument("--lanes", type=int, metavar="N", help=lanes.HELP)
     parser.add_argument("--self-test", action="store_true", help="try the tool itself, on a crate made for it: about a minute")
     parser.add_argument("--save", metavar="FOLDER", help="write what each check printed to files in this folder")
 
@@ -68,13 +67,13 @@ class Session:
         known = {}
         for name in names:
             self.prepare(kit.crate(name, known=known))
-        lanes = self.options.lanes or lanes_of_machine()
+        lane_count = lanes.count(self.options.lanes)
         edits, rounds = sum(len(it.edits) for it in self.trials.values()), sum(len(it.rounds) for it in self.trials.values())
-        self.progress.say(f"mutants: {edits} edits of {len(self.trials)} crates in {rounds} rounds, {lanes} at a time")
+        self.progress.say(f"mutants: {edits} edits of {len(self.trials)} crates in {rounds} rounds, {lane_count} at a time")
         # the largest first, so that no lane is left alone with one
         order = sorted(self.trials, key=lambda it: -len(self.trials[it].rounds) * self.trials[it].crate.count(rb"\n"))
-        in_lanes(lanes, [(it, self.trials[it].begin) for it in order], self.ended)
-        return self.summary(lanes)
+        lanes.tasks_in_lanes(lane_count, [(it, self.trials[it].begin) for it in order], self.ended)
+        return self.summary(lane_count)
 
     def prepare(self, crate):
         """Has the crate proved, unless kept work or what rt ci left serves, and plans its rounds."""
@@ -122,7 +121,7 @@ class Session:
         if not self.options.gate and self.lines != lock.read():
             lock.write(self.lines)
 
-    def summary(self, lanes):
+    def summary(self, lane_count):
         """Prints what failed, and a last line, and returns the status."""
         failures = [f"{name}: {why}" for name, why in self.unproved.items()]
         tried = refused = 0
@@ -136,7 +135,7 @@ class Session:
                 print(f"mutants: note: {it} is refused by no goal of the function that it changes: {trial.results[it][1]}")
         for it in failures:
             print(f"mutants: {it}")
-        how = f"{self.progress.done} checks, {self.progress.alone} of one edit, {self.progress.so_far()} on {lanes} lanes"
+        how = f"{self.progress.done} checks, {self.progress.alone} of one edit, {self.progress.so_far()} on {lane_count} lanes"
         print(f"mutants: {refused} of {tried} refused, {len(failures)} failed; {how}, {processor_seconds():,.0f} processor seconds", flush=True)
         return 1 if failures else 0
 

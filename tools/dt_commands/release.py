@@ -1,7 +1,7 @@
 """Makes the released program and the list of its sources anew, from the program that was built here.
 
 `./dthreads --build` or `.ci/run` has to come before it, over the same sources. The release is
-release/dthreads-x86_64-linux, the program without its symbols, and release/sources.sha256, the toolchain that built it and the
+release/x86_64-linux/dthreads, the program without its symbols, and release/sources.sha256, the toolchain that built it and the
 sha256 of each file that it is built from. `./dthreads` starts it if these are the files of the checkout.
 """
 import hashlib
@@ -11,7 +11,7 @@ import sys
 from dt_commands import built_from, executable, toolchain
 from dt_commands.repository import TOP
 
-FILE, RECORD = "release/dthreads-x86_64-linux", "release/sources.sha256"
+FILE, RECORD = "release/x86_64-linux/dthreads", "release/sources.sha256"
 BUILT = f"{TOP}/crates/command/out/command"
 
 
@@ -46,6 +46,18 @@ def is_built(top=TOP):
     return made > max(changed)
 
 
+def why_another(top=TOP, version=None):
+    """Returns why the release is not the program of these sources and this toolchain, or None if it is, or if there is none."""
+    recorded, version = built_from.read(f"{top}/{RECORD}"), version or toolchain.version()
+    if not recorded:
+        return None
+    if recorded[0] != version:
+        return f"{FILE} is of another toolchain: {recorded[0]}"
+    others = built_from.differences(recorded[1], built_from.listed(top))
+    more = f" and {len(others) - 3} more" if len(others) > 3 else ""
+    return f"{FILE} is of other sources: {', '.join(others[:3])}{more}" if others else None
+
+
 def comparison(top=TOP, version=None):
     """Returns whether the release and the program in out/ are at odds, and what is to be said of them."""
     file, recorded = f"{top}/{FILE}", built_from.read(f"{top}/{RECORD}")
@@ -53,13 +65,9 @@ def comparison(top=TOP, version=None):
         return False, f"there is no {FILE} to compare with"
     if not recorded or not os.access(file, os.X_OK):
         return True, f"of {FILE} and {RECORD} one is missing, or the program is not executable: `tools/dt release` makes both"
-    version, text = version or toolchain.version(), built_from.listed(top)
-    if recorded[0] != version:
-        return False, f"{FILE} is of another toolchain: {recorded[0]}"
-    others = built_from.differences(recorded[1], text)
-    if others:
-        more = f" and {len(others) - 3} more" if len(others) > 3 else ""
-        return False, f"{FILE} is of other sources: {', '.join(others[:3])}{more}. `tools/dt release` makes it anew"
+    reason = why_another(top, version)
+    if reason:
+        return False, f"{reason}. `tools/dt release` makes it anew"
     if not is_built(top):
         return True, f"{FILE} is of these sources, but no program built from them is here to compare it with"
     released, built = bytes_of(file), executable.stripped(bytes_of(f"{top}/crates/command/out/command"))
@@ -74,7 +82,7 @@ def make(top=TOP, version=None):
         say("no program built from these sources is here: run `./dthreads --build` or `.ci/run` first")
         return 1
     text, data = built_from.listed(top), executable.stripped(bytes_of(f"{top}/crates/command/out/command"))
-    os.makedirs(f"{top}/release", exist_ok=True)
+    os.makedirs(os.path.dirname(f"{top}/{FILE}"), exist_ok=True)
     part = f"{top}/{FILE}.part"
     with open(part, "wb") as it:
         it.write(data)

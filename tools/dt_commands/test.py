@@ -1,4 +1,4 @@
-"""Runs every test, and every program against its wanted output, unproved: minutes in place of the gate's hours.
+"""Runs every test of the crates, and every program against its wanted output, unproved: minutes in place of the gate's hours.
 
 It proves nothing: `.ci/run` is the verdict. Tests and programs are run as `rt ci` runs them, a program with its files data/, args,
 stdin, stdout and status, but compiled with checks in place of proofs, which makes them up to a hundred times slower. If its folder
@@ -10,8 +10,13 @@ import re
 import sys
 import time
 
-from dt_commands import crate_lanes, toolchain
+from dt_commands import lanes, toolchain
+from dt_commands.progress import minutes
 from dt_commands.repository import TOP, crates
+from dt_commands.texts import contents, first_difference
+
+# What is tested besides the crates, each by its own part of this command.
+PARTS = {"c-samples": "c_samples", "guest": "guest_tests", "manual": "manual_examples", "c-page": "c_page", "programs": "debian_programs"}
 
 TEST = re.compile(r"^\s*#\[test\]", re.M)
 VERDICT = re.compile(r"^test (\S+) \.\.\. (ok|FAILED)$")
@@ -22,15 +27,8 @@ SHOWN = 12
 
 def arguments(parser):
     parser.add_argument("crates", nargs="*", metavar="CRATE", help="the crates to test (default: all that have tests or are programs)")
-    parser.add_argument("--lanes", type=int, metavar="N", help="how many crates at a time (default: one a processor, and 2.5 GB of memory each)")
+    parser.add_argument("--lanes", type=int, metavar="N", help=lanes.HELP)
     parser.add_argument("--seconds", type=int, default=600, metavar="N", help="how long a test or a program may run (default: 600)")
-
-
-def text_of(file):
-    if not os.path.isfile(file):
-        return None
-    with open(file, "rb") as it:
-        return it.read()
 
 
 def files_below(folder):
@@ -43,7 +41,7 @@ def files_below(folder):
 
 def has_tests(folder):
     sources = (f"{folder}/src/{it}" for it in files_below(f"{folder}/src") if it.endswith(".rt"))
-    return any(TEST.search(text_of(it).decode(errors="replace")) for it in sources)
+    return any(TEST.search(contents(it).decode(errors="replace")) for it in sources)
 
 
 def is_program(folder):
@@ -73,17 +71,9 @@ def of_tests(said, status):
     return result
 
 
-def first_difference(wrote, wanted):
-    """Returns the line, from 1 on, in which two texts differ first, with what each has there."""
-    one, other = wrote.split(b"\n"), wanted.split(b"\n")
-    at = next((it for it, (a, b) in enumerate(zip(one, other)) if a != b), min(len(one), len(other)))
-    shown = [(it[at : at + 1] or [b"(its end)"])[0].decode(errors="replace")[:200] for it in (one, other)]
-    return f"line {at + 1} is {shown[0]!r} and not {shown[1]!r}"
-
-
 def of_program(wrote, said, folder):
     """Compares what a program wrote, and the status that `rt try` says it ended with, with what is wanted."""
-    wanted, status = text_of(f"{folder}/stdout") or b"", int(text_of(f"{folder}/status") or 0)
+    wanted, status = contents(f"{folder}/stdout") or b"", int(contents(f"{folder}/status") or 0)
     ended, why = ENDED.search(said), []
     if not ended:
         return Result("its program", failures=[("its program did not end", said.splitlines()[-SHOWN:])])
@@ -112,8 +102,8 @@ def work(folder, seconds):
     if is_program(folder):
         begun = time.time()
         data = [it for name in files_below(f"{folder}/data") for it in ("--data", f"{name}=data/{name}")]
-        words = (text_of(f"{folder}/args.unproved") or text_of(f"{folder}/args") or b"").decode(errors="surrogateescape").splitlines()
-        _, wrote, said = tried(folder, [*limit, *data, "--", *words], text_of(f"{folder}/stdin") or b"")
+        words = (contents(f"{folder}/args.unproved") or contents(f"{folder}/args") or b"").decode(errors="surrogateescape").splitlines()
+        _, wrote, said = tried(folder, [*limit, *data, "--", *words], contents(f"{folder}/stdin") or b"")
         found.append(of_program(wrote, said, folder))
         found[-1].seconds = time.time() - begun
     return found
@@ -121,7 +111,7 @@ def work(folder, seconds):
 
 def last_seconds(folder):
     """Returns how long the crate took when it was last tested here, or, of one that wasn't, the number of bytes of its sources."""
-    text = text_of(f"{folder}/out/test.seconds")
+    text = contents(f"{folder}/out/test.seconds")
     return (0, float(text)) if text else (1, sum(os.path.getsize(f"{folder}/src/{it}") for it in files_below(f"{folder}/src")))
 
 
@@ -154,7 +144,7 @@ def run(options):
         return 2
     toolchain.end_at_signals(lambda: print("interrupted", file=sys.stderr))
     order = sorted(options.crates or every, key=lambda it: last_seconds(f"{TOP}/crates/{it}"), reverse=True)
-    side_by_side, begun, totals = crate_lanes.count(options.lanes), time.time(), {"passed": 0, "failed": 0, "crates": 0}
+    side_by_side, begun, totals = lanes.count(options.lanes), time.time(), {"passed": 0, "failed": 0, "crates": 0}
     print(f"testing {len(order)} crates unproved, {side_by_side} at a time", flush=True)
 
     def tell(name, results):
@@ -168,10 +158,10 @@ def run(options):
         keep_seconds(f"{TOP}/crates/{name}", results)
 
     def still(names):
-        so_far = crate_lanes.minutes(time.time() - begun)
+        so_far = minutes(time.time() - begun)
         print(f"{totals['crates']} of {len(order)} crates are done, and at work are {', '.join(names)} ({so_far} so far)", flush=True)
 
-    crate_lanes.in_lanes(order, {}, side_by_side, lambda name, _: work(f"{TOP}/crates/{name}", options.seconds), tell, still)
-    print(f"nothing is proved by this; it took {crate_lanes.minutes(time.time() - begun)}")
+    lanes.crates_in_lanes(order, {}, side_by_side, lambda name, _: work(f"{TOP}/crates/{name}", options.seconds), tell, still)
+    print(f"nothing is proved by this; it took {minutes(time.time() - begun)}")
     print(f"{totals['passed']} passed, {totals['failed']} failed")
     return 1 if totals["failed"] else 0

@@ -1,4 +1,8 @@
-"""The Rattle toolchain: whether it is there, which it is, and how its commands are started so that none outlives this process."""
+"""The Rattle toolchain: whether it is there, which it is, and how its commands are started so that none outlives this process.
+
+The inner functions by which mutants are checked are in kit.py. That file is a part of each sum in mutants.lock, as it decides what a
+check is; this one is not.
+"""
 import importlib.machinery
 import importlib.util
 import os

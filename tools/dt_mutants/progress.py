@@ -3,10 +3,7 @@ import resource
 import threading
 import time
 
-
-def clock(seconds):
-    """Returns minutes and seconds, as 3:10."""
-    return f"{int(seconds) // 60}:{int(seconds) % 60:02}"
+from dt_commands.progress import minutes
 
 
 class Progress:
@@ -31,7 +28,7 @@ class Progress:
             print(f"{self.done} of {self.total} rounds: {crate}, {what}{more}, {took:.0f} s ({self.so_far()} so far)", flush=True)
 
     def so_far(self):
-        return clock(time.time() - self.started)
+        return minutes(time.time() - self.started)
 
 
 def processor_seconds():

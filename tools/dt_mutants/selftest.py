@@ -4,7 +4,7 @@ import subprocess
 import tempfile
 
 from dt_commands import kit
-from dt_commands.lanes import in_lanes
+from dt_commands.lanes import tasks_in_lanes
 from dt_mutants.edits import edits_of
 from dt_mutants.trials import BAD, MISSED, REFUSED, Trial
 
@@ -61,7 +61,7 @@ def run(progress):
         crate = kit.crate("small", top)
         trial = Trial(crate, edits_of("small", crate.folder), lambda it, *told: progress.ended("small", *told[:3], told[4]))
         progress.plan(len(trial.rounds))
-        in_lanes(2, [(None, trial.begin)], lambda _, steps: [(None, it) for it in steps])
+        tasks_in_lanes(2, [(None, trial.begin)], lambda _, steps: [(None, it) for it in steps])
         trial.end()
     found = {it.name: trial.results.get(it, ("not tried", ""))[0] for it in trial.edits}
     wrong = [it for it, (_, _, wanted) in EDITS.items() if found[it] != wanted]

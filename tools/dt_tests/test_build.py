@@ -10,7 +10,8 @@ import threading
 import time
 import unittest
 
-from dt_commands import build, built_from, crate_lanes, toolchain
+from dt_commands import build, built_from, lanes, toolchain
+from dt_commands.progress import minutes
 from dt_commands.repository import TOP
 
 # A chain a, b, c, and beside it two crates that need nothing and that c needs.
@@ -20,27 +21,27 @@ COSTS = {"a": 5, "x": 20, "y": 1, "b": 30, "c": 7}
 
 class Planning(unittest.TestCase):
     def test_a_chain_costs_what_its_crates_cost(self):
-        self.assertEqual(crate_lanes.chains(COSTS, USES), {"a": 42, "x": 27, "y": 8, "b": 37, "c": 7})
+        self.assertEqual(lanes.chains(COSTS, USES), {"a": 42, "x": 27, "y": 8, "b": 37, "c": 7})
 
     def test_the_first_ready_crates_get_what_would_idle(self):
-        self.assertEqual(crate_lanes.starts(["a", "x", "y"], 2), [("a", 1), ("x", 1)])
-        self.assertEqual(crate_lanes.starts(["a", "x", "y"], 4), [("a", 2), ("x", 1), ("y", 1)])
-        self.assertEqual(crate_lanes.starts(["a"], 3), [("a", 3)])
-        self.assertEqual(crate_lanes.starts(["a"], 16), [("a", 4)])
-        self.assertEqual(crate_lanes.starts([], 4), [])
-        self.assertEqual(crate_lanes.starts(["a"], 0), [])
+        self.assertEqual(lanes.starts(["a", "x", "y"], 2), [("a", 1), ("x", 1)])
+        self.assertEqual(lanes.starts(["a", "x", "y"], 4), [("a", 2), ("x", 1), ("y", 1)])
+        self.assertEqual(lanes.starts(["a"], 3), [("a", 3)])
+        self.assertEqual(lanes.starts(["a"], 16), [("a", 4)])
+        self.assertEqual(lanes.starts([], 4), [])
+        self.assertEqual(lanes.starts(["a"], 0), [])
 
     def test_there_is_a_lane_at_least(self):
-        self.assertGreaterEqual(crate_lanes.count(), 1)
-        self.assertEqual(crate_lanes.count(7), 7)
+        self.assertGreaterEqual(lanes.count(), 1)
+        self.assertEqual(lanes.count(7), 7)
 
     def test_a_time_is_minutes_and_seconds(self):
-        self.assertEqual(crate_lanes.minutes(190.9), "3:10")
+        self.assertEqual(minutes(190.9), "3:10")
 
 
 class Lanes(unittest.TestCase):
     def order(self):
-        behind = crate_lanes.chains(COSTS, USES)
+        behind = lanes.chains(COSTS, USES)
         return sorted(COSTS, key=lambda it: -behind[it])
 
     def test_a_crate_begins_once_those_that_it_uses_are_done(self):
@@ -55,7 +56,7 @@ class Lanes(unittest.TestCase):
             done.append(name)
             return status
 
-        self.assertTrue(crate_lanes.in_lanes(self.order(), USES, 2, work, tell))
+        self.assertTrue(lanes.crates_in_lanes(self.order(), USES, 2, work, tell))
         self.assertEqual(sorted(done), sorted(USES))
         for name, before in began:
             self.assertLessEqual(set(USES[name]), set(before))
@@ -71,12 +72,12 @@ class Lanes(unittest.TestCase):
             with lock:
                 at_work.remove(jobs)
 
-        crate_lanes.in_lanes(self.order(), USES, 3, work, lambda name, _: None)
+        lanes.crates_in_lanes(self.order(), USES, 3, work, lambda name, _: None)
         self.assertLessEqual(max(most), 3)
 
     def test_what_is_built_already_is_not_waited_for(self):
         began = []
-        self.assertTrue(crate_lanes.in_lanes(["b"], USES, 1, lambda name, jobs: began.append(name), lambda name, _: None))
+        self.assertTrue(lanes.crates_in_lanes(["b"], USES, 1, lambda name, jobs: began.append(name), lambda name, _: None))
         self.assertEqual(began, ["b"])
 
     def test_after_a_failure_nothing_more_begins(self):
@@ -86,13 +87,30 @@ class Lanes(unittest.TestCase):
             began.append(name)
             return 1
 
-        self.assertFalse(crate_lanes.in_lanes(self.order(), USES, 1, work, lambda name, status: status))
+        self.assertFalse(lanes.crates_in_lanes(self.order(), USES, 1, work, lambda name, status: status))
         self.assertEqual(began, ["a"])
 
     def test_an_error_of_the_work_comes_to_who_tells(self):
         seen = []
-        crate_lanes.in_lanes(["a"], {}, 1, lambda name, jobs: {}["none"], lambda name, result: seen.append(result))
+        lanes.crates_in_lanes(["a"], {}, 1, lambda name, jobs: {}["none"], lambda name, result: seen.append(result))
         self.assertIsInstance(seen[0], KeyError)
+
+    def test_a_crate_whose_dependencies_never_end_is_not_worked_on(self):
+        self.assertFalse(lanes.crates_in_lanes(["b", "a"], {"a": ["b"], "b": ["a"]}, 2, lambda name, jobs: 0, lambda name, _: None))
+
+    def test_tasks_that_a_task_asks_for_come_first(self):
+        seen, asked = [], {"one": [("more", lambda: "more")]}
+
+        def ended(owner, result):
+            seen.append(result)
+            return asked.pop(owner, [])
+
+        lanes.tasks_in_lanes(1, [("one", lambda: "one"), ("two", lambda: "two")], ended)
+        self.assertEqual(seen, ["one", "more", "two"])
+
+    def test_an_error_of_a_task_is_raised(self):
+        with self.assertRaises(KeyError):
+            lanes.tasks_in_lanes(2, [("one", lambda: {}["none"])], lambda owner, result: [])
 
 
 class Words(unittest.TestCase):

@@ -1,9 +1,9 @@
 """Tests of the check of layers, on small lists of crates."""
 import unittest
 
-from dt_commands import check_layers
+from dt_commands import layers
 
-HEADS = {name: f"# {name}: what it holds." for name in check_layers.SECTIONS}
+HEADS = {name: f"# {name}: what it holds." for name in layers.SECTIONS}
 
 
 def listed(**sections):
@@ -15,7 +15,7 @@ def listed(**sections):
 
 
 def found(folders, **sections):
-    return check_layers.complaints(listed(**sections), folders)
+    return layers.complaints(listed(**sections), folders)
 
 
 class Layers(unittest.TestCase):
@@ -36,7 +36,7 @@ class Layers(unittest.TestCase):
         self.assertEqual(["abi: it has no folder in crates/", "hart: it has no line in crates.txt"], found(["hart"], ground=["abi:"]))
 
     def test_the_sections_keep_their_order(self):
-        self.assertEqual(1, len(check_layers.complaints("# law: one.\n# ground: two.", [])))
+        self.assertEqual(1, len(layers.complaints("# law: one.\n# ground: two.", [])))
 
 
 if __name__ == "__main__":

@@ -1,7 +1,7 @@
 """The generated pages: the walk over definitions, and the order of the changes."""
 import unittest
 
-from dt_commands import conformance_page, crate_pages, definitions, page_links
+from dt_commands import changes, crate_pages, definitions, page_links
 
 
 class Definitions(unittest.TestCase):
@@ -28,8 +28,11 @@ class Tables(unittest.TestCase):
         self.assertEqual(crate_pages.value("abi", "Limits", "instructions"), "2^40")
 
     def test_each_change_is_named_once(self):
-        names = [it.name for it in conformance_page.changes()]
+        names = changes.names()
         self.assertEqual(len(names), len(set(names)))
+
+    def test_each_change_can_be_made(self):
+        self.assertEqual([it.name for it in changes.listed()], changes.names())
 
 
 class Links(unittest.TestCase):

@@ -20,7 +20,7 @@ alone:
 FILES = ("low/src/lib.rt", "low/specs/Lib.antt", "high/src/lib.rt", "high/proofs/one/Proof.antt", "command/src/main.rt", "tests/src/lib.rt")
 BUILT, RELEASED = "crates/command/out/command", release.FILE
 # All that ./dthreads needs of the machine if it has a release to start.
-NEEDED = "awk bash dirname find grep readlink sed sha256sum sh sort xargs".split()
+NEEDED = "awk bash cat dirname find grep ln readlink sed sha256sum sh sort xargs".split()
 # An ELF file with one program header, a segment of 8 bytes, and a section header behind it.
 ELF = bytearray(64 + 56 + 8 + 64)
 ELF[:6] = executable.MAGIC
@@ -157,6 +157,7 @@ class Releases(Tree):
         self.assertEqual(self.make(), 0)
         self.assertTrue(os.access(f"{self.top}/{RELEASED}", os.X_OK))
         self.assertEqual(self.compared(), (False, f"the program is {RELEASED}, byte for byte"))
+        self.assertIsNone(release.why_another(self.top, "kit 1"))
 
     def test_other_symbols_are_no_difference(self):
         self.build()
@@ -179,6 +180,7 @@ class Releases(Tree):
         is_at_odds, text = self.compared()
         self.assertFalse(is_at_odds)
         self.assertIn("other sources: crates/low/src/lib.rt", text)
+        self.assertIn("other sources", release.why_another(self.top, "kit 1"))
 
     def test_a_release_of_another_toolchain_is_told_and_not_refused(self):
         self.build()
@@ -263,6 +265,21 @@ class Choices(Tree):
         self.release()
         os.utime(f"{self.top}/crates/low/src/lib.rt")
         self.assertEqual(self.started("run"), f"{RELEASED} run")
+
+    def test_the_host_shows_the_name_dthreads(self):
+        shows = '#!/bin/sh\ncat /proc/$$/comm\n'
+        for make, file in ((self.release, RELEASED), (self.build, BUILT)):
+            make()
+            self.write(file, shows, 0o755)
+            os.utime(f"{self.top}/{file}", (1, 1))
+            self.assertEqual(self.started("run"), "dthreads")
+
+    def test_a_program_that_was_built_anew_is_started_under_its_name_too(self):
+        self.build()
+        self.started("run")
+        os.remove(f"{self.top}/{BUILT}")
+        self.build()
+        self.assertEqual(self.started("run", "x"), f"{BUILT} run x")
 
     def test_a_changed_source_is_built(self):
         self.build()

@@ -1,4 +1,4 @@
-// The guests whose times tools/measure-workers compares: THREADS threads that each do ROUNDS times what DOES says.
+// The guests whose times tools/dt measure workers compares: THREADS threads that each do ROUNDS times what DOES says.
 #include <dthreads.h>
 
 #define SYNC 1    // call sync

@@ -1,6 +1,6 @@
-"""Checks that no source file makes up an out-of-memory error.
+"""Out-of-memory errors that a source makes up.
 
-Prints each value that says out of memory although no allocator refused anything, each exception of its lists that matches no
+It prints each value that says out of memory although no allocator refused anything, each exception of its lists that matches no
 line, and ends with 1 if there is any. Files that only tests use (modules under `#[cfg(test)]`, and the fakes listed here) may make such values.
 """
 import os
@@ -31,10 +31,6 @@ BEYOND_ANY_HOST = {
     ("crates/token/src/serial.rt", "return Err(TurnFault::OutOfMemory);"),
     ("crates/sharing_report/src/sharing_recorder.rt", "return Err(TurnFault::OutOfMemory);"),
 }
-
-
-def arguments(parser):
-    pass
 
 
 def files_of(top):
@@ -73,7 +69,8 @@ def lines_found(top):
     return len(files), found
 
 
-def run(options):
+def check(options):
+    """Checks that no source file makes up an out-of-memory error."""
     count, found = lines_found(TOP)
     excepted = HANDED_ON | BEYOND_ANY_HOST
     matched = {(name, line) for name, _, _, line in found}

@@ -1,23 +1,23 @@
-#!/usr/bin/env python3
-"""Refuses each request for memory of some programs, one after another, and looks at what they answer.
+"""Refuses requests for memory of three programs.
 
-The program `alloc_failures` must print the same text whichever of its requests is refused; and with all refused from the first on
-that stands before its calls that take no memory, it must say of that request and of the last one that they were refused, and of these
-calls what it says else. The program `dthreads` runs, lists and records small guests, and replays schedules: each answer is the true one
-or out of memory (125), where standard output holds a prefix of the true output and no file was written after the first that lacks. The program
-`phase_failures` runs phases of these guests: each of its lines is the true one or says that memory was refused; and with all refused
-from the first on that stands before its draws, these are drawn as ever. It needs a C compiler and some minutes.
+`alloc_failures` must print the same text whichever of its requests is refused. With all refused from the first on that comes right before
+its calls that take no memory, it must say of that request and of the last one that they were refused, and of these calls what it says
+else. `dthreads` runs, lists and records small guests, and replays schedules: each answer is the true one or out of memory (125); then
+standard output has a prefix of the true output, and no file was written after the first that lacks. `phase_failures` runs phases of
+these guests: each of its lines is the true one or says out of memory, and its draws take no memory.
 
-    tools/refuse-each [WORD]       all of it, or the lines whose name holds WORD
-
-DTHREADS names a built program to run the guests with, or else it is built.
+It needs a C compiler. DTHREADS names a built program to run the guests with, or else it is built.
 """
+import itertools
 import os
 import subprocess
 import sys
 import tempfile
 
-TOP = os.path.dirname(os.path.dirname(os.path.abspath(__file__)))
+from dt_commands.progress import Progress
+from dt_commands.repository import TOP
+from dt_commands.texts import contents
+
 OUT_OF_MEMORY = (125, b"out of memory\n")
 
 # The guests with their input and what else their runs are given.
@@ -71,41 +71,37 @@ class Sweep:
             sys.exit(f"{self.words} with {settings}: a crash, signal {-ran.returncode}")
         with open(f"{self.room}/requests", encoding="ascii") as it:
             requests, refusals = (int(word) for word in it.read().split())
-        files = [contents(it) for it in self.records]
+        files = [contents(it) or b"" for it in self.records]
         return Answer(ran.returncode, ran.stdout, ran.stderr, files, requests, refusals)
 
-    def each(self, name, may_end):
-        """Refuses one request after another, until a run makes fewer. Returns the undisturbed answer."""
+    def in_turn(self):
+        """Refuses one request after another, until a run makes fewer. Yields the number of each, and the answer."""
+        for number in itertools.count(1):
+            answer = self.run(REFUSE=number)
+            if not answer.refusals:
+                return
+            yield number, answer
+
+    def each(self, name):
+        """Sees that each answer is the true one or out of memory."""
         wanted = self.run(REFUSE=0)
         refusals = ended = 0
-        while True:
-            answer = self.run(REFUSE=refusals + 1)
-            if not answer.refusals:
-                break
-            refusals += 1
-            ends = may_end and answer.is_out_of_memory(wanted)
+        for refusals, answer in self.in_turn():
+            ends = answer.is_out_of_memory(wanted)
             ended += ends
             if not ends and not answer.is_true(wanted):
                 sys.exit(f"{name}: another answer with request {refusals} refused: {answer.said}")
         if refusals < wanted.requests - self.spread():
             sys.exit(f"{name}: {refusals} requests were refused, and an undisturbed run makes {wanted.requests}")
         print(f"{name}: {refusals} requests refused in turn, {ended} times out of memory", flush=True)
-        return wanted
 
     def spread(self):
-        """By how many requests two runs can differ: host threads may be started or not."""
+        """Returns by how many requests two runs can differ: host threads may be started or not."""
         return 200 if self.words[1:2] == ["run"] and "1" not in self.words else 0
 
 
-def contents(file):
-    if not os.path.exists(file):
-        return b""
-    with open(file, "rb") as it:
-        return it.read()
-
-
 def calls(room, program):
-    """The calls that are made again where they are refused, and those that take no memory."""
+    """Tries the calls that are made again if they are refused, and those that take no memory."""
     sweep = Sweep(room, [program])
     wanted = sweep.run(REFUSE=0)
     if wanted.said[1] != contents(f"{TOP}/crates/test_alloc_failures/stdout"):
@@ -114,11 +110,7 @@ def calls(room, program):
     if marks != [b"a request before them: given", b"a request after them: given"]:
         sys.exit(f"alloc_failures: no two requests round the quiet calls: {marks}")
     refusals = 0
-    while True:
-        answer = sweep.run(REFUSE=refusals + 1)
-        if not answer.refusals:
-            break
-        refusals += 1
+    for refusals, answer in sweep.in_turn():
         text = answer.said[1].replace(b"them: refused", b"them: given")
         if (answer.said[0], text) != (0, wanted.said[1]):
             sys.exit(f"alloc_failures: another text with request {refusals} refused")
@@ -132,12 +124,12 @@ def calls(room, program):
 
 
 def is_line_of(line, wanted):
-    """Whether a line of a phase is the true one, or says that memory was refused."""
+    """Whether a line of a phase is the true one, or says out of memory."""
     return line in (wanted, wanted.rpartition(b": ")[0] + b": out of memory")
 
 
 def phases(room, program):
-    """Phases of the guests by one worker and by four, and the draws, which take no memory."""
+    """Tries phases of the guests by one worker and by four, and the draws, which take no memory."""
     sweep = Sweep(room, [program])
     wanted = sweep.run(REFUSE=0)
     lines = contents(f"{TOP}/crates/test_phase_failures/stdout").splitlines()
@@ -145,11 +137,7 @@ def phases(room, program):
         sys.exit("phase_failures: another text than its file stdout")
     refusals = short = 0
     before = None
-    while True:
-        answer = sweep.run(REFUSE=refusals + 1)
-        if not answer.refusals:
-            break
-        refusals += 1
+    for refusals, answer in sweep.in_turn():
         text = answer.said[1].replace(b"them: refused", b"them: given").splitlines()
         if b"a request before them: refused" in answer.said[1].splitlines():
             before = refusals
@@ -168,28 +156,25 @@ def phases(room, program):
     print(f"phase_failures: {refusals} requests refused in turn, {short} times out of memory, and all from {before} on at once", flush=True)
 
 
-def runs(room, program, word):
-    """The whole program on each guest."""
+def runs(room, program):
+    """Yields the sweeps of the whole program on each guest, each with its name."""
     for guest, given, more in GUESTS:
         file = f"{TOP}/samples/{guest}.elf"
-        lines = [(f"disasm {guest}", ["disasm", file], [])]
+        yield f"disasm {guest}", Sweep(room, [program, "disasm", file], given)
         for workers in "124":
-            words = ["run", file, "--workers", workers, *more]
+            words = [program, "run", file, "--workers", workers, *more]
             recorded = [*words, *(it for name in RECORDS for it in (f"--{name}", f"{room}/{name}"))]
-            lines += [(f"run {guest}, {workers} workers", words, []), (f"run {guest}, {workers} workers, recorded", recorded, RECORDS)]
-        for name, words, records in lines:
-            if word in name:
-                Sweep(room, [program, *words], given, records).each(name, True)
+            yield f"run {guest}, {workers} workers", Sweep(room, words, given)
+            yield f"run {guest}, {workers} workers, recorded", Sweep(room, recorded, given, RECORDS)
 
 
-def replays(room, program, word):
-    """The whole program on each schedule."""
+def replays(room, program):
+    """Yields the sweeps of the whole program on each schedule, each with its name."""
     for schedule, numbers in SCHEDULES:
         files = [f"{TOP}/samples/race.elf", f"{TOP}/samples/race-{schedule}.schedule"]
         for workers in numbers:
-            name = f"replay race, {schedule}, {workers} workers"
-            if word in name:
-                Sweep(room, [program, "replay", *files, "--workers", workers]).each(name, True)
+            words = [program, "replay", *files, "--workers", workers]
+            yield f"replay race, {schedule}, {workers} workers", Sweep(room, words)
 
 
 def library(room):
@@ -213,18 +198,21 @@ def dthreads():
     return f"{TOP}/crates/command/out/command"
 
 
-def main(words):
-    word = words[0] if words else ""
-    with tempfile.TemporaryDirectory(prefix="refuse-each-") as room:
+def arguments(parser):
+    parser.add_argument("word", nargs="?", default="", metavar="WORD", help="the lines whose names have this word (default: all)")
+
+
+def sweep(options):
+    """Refuses each request for memory of some programs, one after another, and looks at what they answer."""
+    with tempfile.TemporaryDirectory(prefix="sweep-memory-") as room, Progress("lines") as progress:
         library(room)
-        if word in "test_alloc_failures":
-            calls(room, built("test_alloc_failures"))
-        if word in "test_phase_failures":
-            phases(room, built("test_phase_failures"))
+        for name, does in (("test_alloc_failures", calls), ("test_phase_failures", phases)):
+            if options.word in name:
+                progress.at = name
+                does(room, built(name))
         program = dthreads()
-        runs(room, program, word)
-        replays(room, program, word)
-
-
-if __name__ == "__main__":
-    main(sys.argv[1:])
+        chosen = [it for it in [*runs(room, program), *replays(room, program)] if options.word in it[0]]
+        progress.total = len(chosen)
+        for name, one in progress.each(chosen, lambda it: it[0]):
+            one.each(name)
+    return 0

@@ -1,20 +1,16 @@
-"""Writes the generated parts of the pages, or compares them.
+"""The generated parts of the pages.
 
 Generated are docs/CONFORMANCE.md as a whole, from tools/changes; the table of crates in docs/ARCHITECTURE.md, from crates.txt and the
-first sentence of each crate root; the limits in docs/GUEST.md, from the definitions; and the list of the definitions that the
-headline needs in docs/LAW.md, from the contracts of run, run_into, run_recorded and perform. With --check nothing is written: each part
-that differs is named, and the status is 1. In any case each line of a block marked `antt` must be in the sources, so that no page quotes
-what isn't there, and each link must lead to a file and a heading.
+first sentence of each crate root; the limits in docs/GUEST.md, from the definitions; the list of the definitions that the headline
+needs in docs/LAW.md, from the contracts of run, run_into, run_recorded and perform; and man/dthreads.1, from docs/CLI.md. Besides,
+each line of a block marked `antt` must be in the sources, so that no page quotes what isn't there, and each link must lead to a file
+and a heading.
 """
 import os
 import re
 
-from . import conformance_page, crate_pages, definitions, page_links
+from . import conformance_page, crate_pages, definitions, man_page, page_links
 from .repository import TOP
-
-
-def arguments(parser):
-    parser.add_argument("--check", action="store_true", help="compare the pages in place of writing them")
 
 
 def read(page):
@@ -39,6 +35,7 @@ def pages():
         "docs/ARCHITECTURE.md": with_part("docs/ARCHITECTURE.md", "crates", crate_pages.table()),
         "docs/GUEST.md": with_part("docs/GUEST.md", "limits", crate_pages.limits()),
         "docs/LAW.md": with_part("docs/LAW.md", "definitions", definitions.listed()),
+        man_page.FILE: man_page.page(),
     }
 
 
@@ -55,21 +52,37 @@ def misquoted():
     return found
 
 
-def run(options):
-    differ = []
-    for page, text in pages().items():
-        old = read(page) if os.path.exists(f"{TOP}/{page}") else ""
-        if old == text:
-            continue
-        differ.append(page)
-        if not options.check:
-            with open(f"{TOP}/{page}", "w", encoding="utf-8") as it:
-                it.write(text)
+def differing():
+    """Returns the pages whose generated parts differ from what they must be, with what they must be."""
+    return {page: text for page, text in pages().items() if not os.path.exists(f"{TOP}/{page}") or read(page) != text}
+
+
+def told_wrong():
+    """Prints each wrong quotation and each broken link, and returns how many there are."""
     wrong = [f"{it}: no source has this line" for it in misquoted()] + page_links.broken()
     for line in wrong:
         print(line)
+    return len(wrong)
+
+
+def check(options):
+    """Compares the generated parts of the pages, their quotations and their links."""
+    differ, wrong = differing(), told_wrong()
     for page in differ:
-        print(f"{page}: " + ("differs from what tools/dt write-pages makes" if options.check else "written"))
+        print(f"{page}: differs from what tools/dt write pages makes")
     if not differ and not wrong:
         print("the generated pages are as they must be")
-    return 1 if wrong or (differ and options.check) else 0
+    return 1 if differ or wrong else 0
+
+
+def write(options):
+    """Writes the generated parts of the pages."""
+    differ = differing()
+    for page, text in differ.items():
+        with open(f"{TOP}/{page}", "w", encoding="utf-8") as it:
+            it.write(text)
+        print(f"{page}: written")
+    wrong = told_wrong()
+    if not differ and not wrong:
+        print("the generated pages are as they must be")
+    return 1 if wrong else 0

@@ -1,4 +1,4 @@
-"""Checks that crates.txt shows the layers: sections in their order, each crate on earlier lines alone.
+"""The layers of crates.txt.
 
 A comment line `# NAME: ..` begins the section of that name. Prints each line that breaks a rule, and ends with 1 if there is any:
 - the sections come in the order listed here, and each crate is in one of them;
@@ -17,10 +17,6 @@ PRODUCT = ["ground", "machine", "memory", "calls", "law", "hands", "schedules", 
 # The sections beside the product, with the prefix of their crates.
 BESIDE = {"data": "data_", "tests": "test_", "tools": "tool_"}
 SECTIONS = [*PRODUCT, *BESIDE]
-
-
-def arguments(parser):
-    pass
 
 
 def rows_of(text):
@@ -64,7 +60,8 @@ def complaints(text, folders):
     return found
 
 
-def run(options):
+def check(options):
+    """Checks that crates.txt shows the layers: sections in their order, each crate on earlier lines alone."""
     with open(f"{TOP}/crates.txt", encoding="utf-8") as it:
         text = it.read()
     found = complaints(text, sorted(os.listdir(f"{TOP}/crates")))

@@ -1,4 +1,4 @@
-"""Builds programs of Debian by guest/dthreads-cc and compares what they print with what they print on this host.
+"""Programs of Debian: their sources, how each is built, and on what it is tried.
 
 By hand, and only with a network: it fetches the sources of zstd, xz, pigz, plzip, pbzip2, bzip2, lz4, SQLite and Lua by `apt-get
 source`, with lists of its own (no root, no change to the host's lists). It builds each one natively and by dthreads-cc, runs both on
@@ -97,7 +97,7 @@ def arguments(parser):
 
 
 def say(text):
-    print("test-programs: " + text, file=sys.stderr, flush=True)
+    print("programs: " + text, file=sys.stderr, flush=True)
 
 
 class Failure(Exception):
@@ -237,7 +237,7 @@ def compare(program, native, guest, room):
     return [is_same, len(digests) == 1 and "" not in digests, f"{numbers[0]:,}", f"{numbers[1]:,}"]
 
 
-def test(program, archives, room):
+def row_of(program, archives, room):
     """A row of the table, and whether all of it is well."""
     if program.is_cxx and not glob.glob(f"{os.environ.get('DTHREADS_LIBSTDCXX', kit('out'))}/libstdcxx/lib/libstdc++.a"):
         raise Failure("needs guest/build-libstdcxx")
@@ -253,7 +253,8 @@ def line(cells):
     return "| " + " | ".join(cells) + " |"
 
 
-def run(options):
+def test(options):
+    """Builds programs of Debian for the guest machine, and compares what they print with what they print on this host."""
     chosen = [one for one in PROGRAMS if not options.names or one.name in options.names]
     failed = 0
     with tempfile.TemporaryDirectory() as room:
@@ -261,7 +262,7 @@ def run(options):
         rows = []
         for program in chosen:
             try:
-                row, is_well = test(program, archives, room)
+                row, is_well = row_of(program, archives, room)
                 failed += not is_well
             except Failure as failure:
                 row, failed = [program.name, str(failure), "", "", "", "", ""], failed + 1

@@ -1,12 +1,6 @@
-#!/usr/bin/env python3
-"""stress-workers [SECONDS [SEED]]: runs random guest programs with 1, 2, 3, 4, 8 and 64 workers, for 60 seconds where none are
-given, and compares outputs, statuses, lines on standard error, traces and reports. DTHREADS names the program to run them with,
-or else ./dthreads. A program whose runs differ is kept, and its seed named."""
-import os, pathlib, random, struct, subprocess, sys, tempfile, time
+"""Random guest programs: threads that compute, meet and trap. Each is fixed by the numbers that it is picked by."""
+import struct
 
-TOP = pathlib.Path(__file__).resolve().parent.parent
-PROGRAM = os.environ.get("DTHREADS", str(TOP / "dthreads"))
-WORKERS = [1, 2, 3, 4, 8, 64]
 CODE, DATA, ROOM = 0x10000, 0x20000, 0x10000
 EXIT, THREAD_EXIT, CREATE, JOIN, LOCK, UNLOCK, WAIT, SIGNAL, BROADCAST, BARRIER, WRITE, READ, MEMORY, SYNC, RELEASE = range(1, 16)
 ZERO, T0, T1, T2, S0, S1, A0, A1, A2, A7, S2, S3 = 0, 5, 6, 7, 8, 9, 10, 11, 12, 17, 18, 19
@@ -25,7 +19,7 @@ def store(base, value, offset, funct):
 
 
 def branch_back(a, words):
-    """Back by so many words where a register isn't 0."""
+    """Goes back by so many words if a register isn't 0."""
     offset = -4 * words & 0x1FFF
     return (offset >> 12) << 31 | (offset >> 5 & 0x3F) << 25 | a << 15 | 1 << 12 | (offset >> 1 & 0xF) << 8 | (offset >> 11 & 1) << 7 | 0x63
 
@@ -138,53 +132,3 @@ def guest(random):
     header = bytes.fromhex("7f454c46010101000000000000000000") + struct.pack("<HHIIIIIHHHHHH", 2, 243, 1, CODE, 52, 0, 0, 52, 32, 2, 0, 0, 0)
     rows = struct.pack("<8I", 1, 116, CODE, CODE, len(code), len(code), 5, 0) + struct.pack("<8I", 1, 116, DATA, DATA, 0, ROOM, 6, 0)
     return header + rows + code
-
-
-def outcome(room, file, workers, limits):
-    """All that a run gives."""
-    trace, report = room / "trace", room / "report"
-    words = [PROGRAM, "run", str(file), "--workers", str(workers), "--trace", str(trace), "--report", str(report)] + limits
-    done = subprocess.run(words, input=b"some input to be read by several threads", capture_output=True, timeout=600)
-    texts = [path.read_bytes() if path.exists() else None for path in (trace, report)]
-    for path in (trace, report):
-        path.unlink(missing_ok=True)
-    return done.returncode, done.stdout, done.stderr, texts
-
-
-def tries(seed, room):
-    """Whether all runs of a seed's program are one. Also how its first run ended, and how many turns that took."""
-    source = random.Random(seed)
-    file = room / f"seed-{seed}.elf"
-    file.write_bytes(guest(source))
-    limits = ["--bound", str(source.choice([3_000_000, 20_000_000]))]
-    if source.random() < 0.3:
-        limits += ["--quantum", str(source.choice([1000, 65536, 65537, 100_000]))]
-    wanted = outcome(room, file, WORKERS[0], limits)
-    for workers in WORKERS[1:]:
-        if outcome(room, file, workers, limits) != wanted:
-            kept = pathlib.Path(tempfile.gettempdir()) / file.name
-            kept.write_bytes(file.read_bytes())
-            print(f"seed {seed} {' '.join(limits)}: {workers} workers give another run than one; {kept}")
-            return False, wanted
-    file.unlink()
-    return True, wanted
-
-
-def main():
-    seconds = float(sys.argv[1]) if len(sys.argv) > 1 else 60
-    seed = int(sys.argv[2]) if len(sys.argv) > 2 else int(time.time())
-    ends, failed, turns, until = {}, 0, 0, time.time() + seconds
-    count = 0
-    with tempfile.TemporaryDirectory() as room:
-        while time.time() < until:
-            same, (status, _, _, texts) = tries(seed + count, pathlib.Path(room))
-            failed += not same
-            kind = status if status in (120, 121, 122, 123, 124, 125, 126) else "exit"
-            ends[kind] = ends.get(kind, 0) + 1
-            turns += (texts[0] or b"").count(b"\n")
-            count += 1
-    print(f"{count} programs from seed {seed}, {turns} turns, each with {', '.join(map(str, WORKERS))} workers: {failed} differ; ends: {ends}")
-    sys.exit(1 if failed else 0)
-
-
-main()

@@ -1,0 +1,138 @@
+"""The copy of the repository in which changes are tried: without proofs, and with a switch that says which change is on.
+
+Each replaced place asks the switch. A change of a test gets a test of its own, which puts it on and then does what its row's test does;
+the program reads which change is on.
+"""
+import os
+import re
+import shutil
+import subprocess
+
+from dt_commands.changes import PROGRAM, read
+from dt_commands.repository import TOP
+
+SWITCH = "tried_change"
+
+SOURCE = """//! Which change is tried.
+#![tactic(auto)]
+
+unsafe extern "C" {
+    safe fn tried_change_is(number: u32) -> bool;
+    safe fn tried_change_set(number: u32);
+}
+
+/// Whether this change is tried.
+pub fn is(number: u32) -> bool {
+    tried_change_is(number)
+}
+
+/// Tries a change from here on.
+pub fn set(number: u32) {
+    tried_change_set(number);
+}
+"""
+
+# What the program of the copy does first: the number of the change is its standard input.
+SET_BY_INPUT = f"""    for line in rt.lines(rt.alloc()) {{
+        {SWITCH}::set(decimal(line?.as_str())? as u32);
+    }}
+"""
+
+SOURCE_IN_C = """#include <stdbool.h>
+#include <stdint.h>
+static uint32_t tried;
+bool tried_change_is(uint32_t number) { return tried == number; }
+void tried_change_set(uint32_t number) { tried = number; }
+"""
+
+
+def write(file, text):
+    os.makedirs(os.path.dirname(file), exist_ok=True)
+    with open(file, "w", encoding="utf-8") as it:
+        it.write(text)
+
+
+def guarded(number, is_statement, old, new):
+    """Returns the text of a place that is the new one where this change is tried."""
+    head = re.fullmatch(r"(if|while) (.*) \{", old, re.S)
+    if head:
+        condition = re.fullmatch(r"(if|while) (.*) \{", new, re.S)[2]
+        return f"{head[1]} (if {SWITCH}::is({number}) {{ {condition} }} else {{ {head[2]} }}) {{"
+    arm = re.fullmatch(r"(.*?) => (.*),", old, re.S)
+    if arm and new.startswith(arm[1] + " => "):
+        body = new[len(arm[1]) + 4:].rstrip(",")
+        return f"{arm[1]} => (if {SWITCH}::is({number}) {{ {body} }} else {{ {arm[2]} }}),"
+    field = re.fullmatch(r"(\w+): (.*),", old, re.S)
+    if field and new.startswith(field[1] + ": "):
+        body = new[len(field[1]) + 2:].rstrip(",")
+        return f"{field[1]}: (if {SWITCH}::is({number}) {{ {body} }} else {{ {field[2]} }}),"
+    bound = re.fullmatch(r"let (mut \w+|\w+|\([\w, ]+\)) = (.*);", old, re.S)
+    if bound:
+        other = re.fullmatch(r"let (mut \w+|\w+|\([\w, ]+\)) = (.*);", new, re.S)
+        same = f"let {bound[1]} = {bound[2]}; {bound_names(bound[1])}"
+        changed = f"let {other[1]} = {other[2]}; {bound_names(bound[1])}"
+        return f"let {bound[1]} = if {SWITCH}::is({number}) {{ {changed} }} else {{ {same} }};"
+    if is_statement:
+        return f"if {SWITCH}::is({number}) {{ {new} }} else {{ {old} }}"
+    if old.endswith(",") and new.endswith(","):
+        return f"(if {SWITCH}::is({number}) {{ {new[:-1]} }} else {{ {old[:-1]} }}),"
+    return f"(if {SWITCH}::is({number}) {{ {new} }} else {{ {old} }})"
+
+
+def bound_names(pattern):
+    return pattern[4:] if pattern.startswith("mut ") else pattern
+
+
+def with_guards(text, places):
+    """Returns the text of a source with the places of some changes guarded; one place may lie in another."""
+    places = sorted(places, key=lambda it: (it[0], -it[1]))
+    made, end = "", 0
+    while places:
+        start, stop, number, new = places.pop(0)
+        inner = [it for it in places if it[0] < stop]
+        places = [it for it in places if it[0] >= stop]
+        if any(it[1] > stop for it in inner):
+            raise SystemExit(f"change {number} and another one share a part of a place")
+        shifted = [(it[0] - start, it[1] - start, *it[2:]) for it in inner]
+        old = with_guards(text[start:stop], shifted)
+        made += text[end:start] + guarded(number, text[start:stop].endswith(";"), old, new)
+        end = stop
+    return made + text[end:]
+
+
+def function_of(text, name):
+    """Returns the parameters, the result and the body of a test."""
+    found = re.search(rf"#\[test\]\nfn {name}(\(rt: HostRuntime\)[^{{]*)\{{\n(.*?)\n\}}\n", text, re.S)
+    if not found:
+        raise SystemExit(f"no test {name}")
+    return found[1], found[2]
+
+
+def copy(found, folder):
+    """Makes the copy: sources without proofs, the switch, guarded places, and a test for each change."""
+    shutil.copytree(f"{TOP}/crates", f"{folder}/crates", ignore=shutil.ignore_patterns("out", "must-fail", "mutants"))
+    shutil.copy(f"{TOP}/HANDLES", folder)
+    subprocess.run(["git", "init", "-q", folder], check=True)
+    listed = re.sub(r"^(\w+:)", rf"\1 {SWITCH}", read(f"{TOP}/crates.txt"), flags=re.M)
+    write(f"{folder}/crates.txt", f"{SWITCH}:\n{listed}")
+    write(f"{folder}/crates/{SWITCH}/src/lib.rt", SOURCE)
+    write(f"{folder}/crates/{SWITCH}/c/{SWITCH}.c", SOURCE_IN_C)
+    places, tests = {}, {}
+    for number, change in enumerate(found, 1):
+        for file, old, new in change.edits:
+            if file.endswith(".rt"):
+                start = read(f"{TOP}/{file}").index(old)
+                places.setdefault(file, []).append((start, start + len(old), number, new))
+        if change.program_row():
+            continue
+        file, test = change.test()
+        head, body = function_of(read(f"{TOP}/{file}"), test)
+        tests.setdefault(file, []).append(
+            f"\n#[test]\nfn change_{number}{head}{{\n    {SWITCH}::set({number});\n{body}\n}}\n"
+        )
+    for file, those in places.items():
+        write(f"{folder}/{file}", with_guards(read(f"{TOP}/{file}"), those))
+    for file, those in tests.items():
+        write(f"{folder}/{file}", read(f"{folder}/{file}") + "".join(those))
+    main, head = f"{folder}/crates/{PROGRAM}/src/main.rt", "fn main(rt: HostRuntime) -> Result<()> {\n"
+    write(main, read(main).replace(head, head + SET_BY_INPUT))

@@ -1,0 +1,81 @@
+"""The changes of tools/changes: each states one sentence of the guest machine wrongly, in a definition and in the code alike.
+
+A file tools/changes/NAME.change has lines `part:` and `sentence:`, a line `row:` with the test that must fail (`MODULE::TEST` of
+test_conformance, or `test_guest_runs::ROW`, one row of that program or all that begin with these words), mostly one `case:` with what the
+failed row's message says, and edits as those of must-fail have them: lines `file:`, `old:` and `new:`. The old text is once in the file.
+In a source it is an expression, whole statements, an arm of a match, or the head of an `if` or a `while`.
+"""
+import os
+
+from dt_commands.repository import TOP
+
+FOLDER = f"{TOP}/tools/changes"
+PARTS = ["Harts", "Traps", "Memory", "Bound and quantum", "Files", "Calls", "Phases and turns", "Texts"]
+ROWS = "test_conformance"
+PROGRAM = "test_guest_runs"
+
+
+def read(file):
+    with open(file, encoding="utf-8") as it:
+        return it.read()
+
+
+class Change:
+    """One file of tools/changes."""
+
+    def __init__(self, name):
+        self.name, self.part, self.sentence, self.row, self.case, self.edits = name, "", "", "", "", []
+        given = {"file": None, "old": None}
+        for line in read(f"{FOLDER}/{name}.change").splitlines():
+            key, found, text = line.partition(": ")
+            if not found:
+                raise SystemExit(f"{name}: no line of a change: {line}")
+            if key in ("part", "sentence", "row", "case"):
+                setattr(self, key, text)
+            elif key in given:
+                given[key] = text
+            elif key == "new":
+                self.edits.append((given["file"], given["old"], text))
+        if self.part not in PARTS or not self.sentence or not self.row or not self.edits:
+            raise SystemExit(f"{name}: a part, a sentence, a row or an edit lacks")
+
+    def program_row(self):
+        """Returns the name of the row if it is one of the program, else an empty text."""
+        module, _, row = self.row.partition("::")
+        return row if module == PROGRAM else ""
+
+    def test(self):
+        """Returns the source file of the row's test, and the test's name."""
+        module, test = self.row.rsplit("::", 1)
+        return f"crates/{ROWS}/src/{module.replace('::', '/')}.rt", test
+
+    def apply(self, folder):
+        """Makes the change in a copy of the repository."""
+        for file, old, new in self.edits:
+            text = read(f"{folder}/{file}").replace(old, new)
+            with open(f"{folder}/{file}", "w", encoding="utf-8") as it:
+                it.write(text)
+
+
+def names():
+    """Returns the names of all changes, in the order of tools/changes/order, which must name each of them once."""
+    ordered = read(f"{FOLDER}/order").split()
+    files = [it[: -len(".change")] for it in os.listdir(FOLDER) if it.endswith(".change")]
+    wrong = set(files) ^ set(ordered) | {it for it in ordered if ordered.count(it) > 1}
+    if wrong:
+        raise SystemExit(f"tools/changes/order must name each change once: {', '.join(sorted(wrong))}")
+    return ordered
+
+
+def listed(chosen=()):
+    """Returns the changes of these names, or all, each with edits that can be made."""
+    unknown = [it for it in chosen if it not in names()]
+    if unknown:
+        raise SystemExit(f"no such change: {unknown[0]}")
+    found = [Change(it) for it in chosen or names()]
+    for change in found:
+        for file, old, _ in change.edits:
+            count = read(f"{TOP}/{file}").count(old)
+            if count != 1:
+                raise SystemExit(f"{change.name}: the old text is {count} times in {file}: {old}")
+    return found

@@ -1,0 +1,84 @@
+"""Runs of guest programs: which program runs them, with which workers, and how the runs of one guest are compared."""
+import os
+import subprocess
+import sys
+from collections import namedtuple
+
+from dt_commands.repository import TOP
+from dt_commands.texts import contents, first_difference
+
+KIT = f"{TOP}/guest"
+WORKERS = (1, 2, 4, 64)
+# What a run gave: its status, standard output, standard error, and trace, or None if it left none.
+Run = namedtuple("Run", "status output errors trace")
+
+
+def program():
+    """Returns the program that runs the guests: the one that DTHREADS names, or else ./dthreads."""
+    return os.path.realpath(os.environ.get("DTHREADS") or f"{TOP}/dthreads")
+
+
+def compiled(words, out, folder=None):
+    """Builds a guest program by the kit, from a folder. Returns what the compiler said if it is not built, else None."""
+    how = {"cwd": folder, "stdout": subprocess.PIPE, "stderr": subprocess.STDOUT, "errors": "replace"}
+    ran = subprocess.run([f"{KIT}/dthreads-cc", *words, "-o", out], **how)
+    return ran.stdout if ran.returncode else None
+
+
+class Tally:
+    """Counts what was tried and what failed; each failure is told at once, on standard error."""
+
+    def __init__(self):
+        self.tried, self.failed = 0, 0
+
+    def fail(self, text):
+        self.failed += 1
+        print(text, file=sys.stderr, flush=True)
+
+    def status(self, what, well):
+        """Prints how it ended: `what` were tried, and what is so if none failed. Returns the status."""
+        if self.failed:
+            print(f"{self.failed} failures in {self.tried} {what}", file=sys.stderr)
+            return 1
+        print(f"{self.tried} {what}{well}")
+        return 0
+
+
+class Guest:
+    """A command that runs a guest: its words before the options that each run has and behind them, and its input. If it is
+    merged, what it writes on standard error is a part of its output."""
+
+    def __init__(self, before, after=(), given=None, is_merged=False, environment=None):
+        self.before, self.after, self.given, self.is_merged = before, after, given or os.devnull, is_merged
+        self.environment = {**os.environ, **(environment or {})}
+
+    def run(self, workers, room):
+        trace = f"{room}/trace"
+        if os.path.exists(trace):
+            os.remove(trace)
+        words = [*self.before, "--workers", str(workers), "--trace", trace, *self.after]
+        errors = subprocess.STDOUT if self.is_merged else subprocess.PIPE
+        with open(self.given, "rb") as it:
+            ran = subprocess.run(words, stdin=it, stdout=subprocess.PIPE, stderr=errors, env=self.environment)
+        return Run(ran.returncode, ran.stdout, ran.stderr or b"", contents(trace))
+
+
+def agree(tally, name, guest, room, output, status=None, workers=WORKERS, also=None):
+    """Runs a guest with each number of workers: output and status must be the wanted ones, and all traces one. `also(run)` yields what
+    else is wrong with a run."""
+    first = None
+    for count in workers:
+        run = guest.run(count, room)
+        first = first or run
+        for it in [*faults(run, first, output, status), *(also(run) if also else ())]:
+            tally.fail(f"{name} with {count} workers: {it}")
+
+
+def faults(run, first, output, status):
+    """Yields in what a run differs from the wanted output and status, and from the first run."""
+    if status is not None and run.status != status:
+        yield f"status {run.status}, wanted {status}: {run.errors[:200].decode(errors='replace')}"
+    if run.output != output:
+        yield first_difference(run.output, output)
+    if run.trace is None or run.trace != first.trace:
+        yield "another trace"

@@ -1,0 +1,102 @@
+"""The tests of the C library: the programs of guest/tests.
+
+A word `--argument=TEXT` of a line of guest/tests/list is one of dthreads-cc, all others are of `run`. A program marked `--c++` is left
+out if guest/build-libstdcxx was not done. The programs of guest/tests/refused must not build. DTHREADS names the program to run the
+others with, or else ./dthreads.
+"""
+import glob
+import os
+import tempfile
+
+from dt_commands import guest_runs
+from dt_commands.progress import Progress
+from dt_commands.texts import contents, rows_of
+
+FOLDER = f"{guest_runs.KIT}/tests"
+# Options that dthreads-cc refuses, in one line.
+REFUSED = ["-march=rv32imac", "-mabi=ilp32f", "-shared", "-flto"]
+# The test of dthreads-exec, which is on no list.
+EXEC = "exec"
+
+
+def arguments(parser):
+    parser.add_argument("names", nargs="*", metavar="NAME", help="the programs (default: all, and what must not build)")
+
+
+def source_of(name):
+    """Returns the source of a program, from the folder of the tests: its asserts print that name."""
+    return next(it for it in (f"{name}.c", f"{name}.cc") if os.path.exists(f"{FOLDER}/{it}"))
+
+
+def has_cxx():
+    folder = os.environ.get("DTHREADS_LIBSTDCXX") or f"{guest_runs.KIT}/out"
+    return os.path.exists(f"{folder}/libstdcxx/lib/libstdc++.a")
+
+
+def test_program(tally, room, name, status, *words):
+    """Builds and runs a program of the list."""
+    if "--c++" in words and not has_cxx():
+        print(f"{name}: left out, guest/build-libstdcxx wasn't done")
+        return
+    of_compiler = [it for it in words if it.startswith("--argument=")]
+    of_run = [part for it in words if it not in of_compiler and it != "--c++" for part in it.split("=", 1)]
+    elf, given = f"{room}/{name}.elf", f"{FOLDER}/{name}.in"
+    said = guest_runs.compiled(["-O2", *of_compiler, source_of(name)], elf, FOLDER)
+    if said is not None:
+        tally.fail(f"{said}{name}: doesn't build")
+        return
+    guest = guest_runs.Guest([guest_runs.program(), "run", elf], of_run, given if os.path.exists(given) else None)
+    guest_runs.agree(tally, name, guest, room, contents(f"{FOLDER}/{name}.out"), int(status))
+
+
+def test_exec(tally, room):
+    """Tries what guest/dthreads-exec brings to a program and takes from it."""
+    elf, two = f"{room}/exec.elf", f"{room}/two"
+    said = guest_runs.compiled(["-O2", "-D_GNU_SOURCE", source_of(EXEC)], elf, FOLDER)
+    if said is not None:
+        tally.fail(f"{said}exec: doesn't build")
+        return
+    words = ["--env", "NAME=value", "--env", "OTHER=", "--file", f"/data/in/one.txt={FOLDER}/exec.file", "--out", f"two.txt={two}"]
+    words += ["--seed", "5", "--", "-a", "b c", "", "--fail"]
+
+    def also(run):
+        if run.errors != contents(f"{FOLDER}/exec.err"):
+            yield f"another text on standard error: {run.errors[:200].decode(errors='replace')}"
+        if contents(two) != contents(f"{FOLDER}/exec.wanted"):
+            yield "the file isn't the wanted one"
+        if os.path.exists(two):
+            os.remove(two)
+
+    command = [f"{guest_runs.KIT}/dthreads-exec", elf]
+    guest = guest_runs.Guest(command, words, f"{FOLDER}/exec.in", environment={"DTHREADS": guest_runs.program()})
+    guest_runs.agree(tally, EXEC, guest, room, contents(f"{FOLDER}/exec.out"), 7, also=also)
+
+
+def test_refused(tally, room, *words):
+    """Tries what must not build, which dthreads-cc says in one line."""
+    what, said = " ".join(words), guest_runs.compiled(["-O2", *words], f"{room}/refused.elf", FOLDER)
+    if said is None:
+        tally.fail(f"{what} builds")
+    elif len(said.splitlines()) != 1 or not said.startswith("dthreads-cc: "):
+        tally.fail(f"{what}: {said[:300]}")
+
+
+def chosen(names):
+    """Returns the rows of the list that are tried; the test of dthreads-exec is a row of its name alone."""
+    rows = [*rows_of(f"{FOLDER}/list"), [EXEC]]
+    return [it for it in rows if not names or it[0] in names]
+
+
+def test(options):
+    """Builds the programs of guest/tests, and runs each with 1, 2, 4 and 64 workers: wanted output and status, and one trace."""
+    tally, rows = guest_runs.Tally(), chosen(options.names)
+    tally.tried = len(rows)
+    with tempfile.TemporaryDirectory() as room, Progress("programs", len(rows)) as progress:
+        for row in progress.each(rows, lambda it: it[0]):
+            test_exec(tally, room) if row == [EXEC] else test_program(tally, room, *row)
+        if not options.names:
+            for source in sorted(glob.glob(f"{FOLDER}/refused/*.c")):
+                test_refused(tally, room, os.path.relpath(source, FOLDER))
+            for option in REFUSED:
+                test_refused(tally, room, option, "words.c")
+    return tally.status("programs", ", each with 1, 2, 4 and 64 workers: the wanted output and one trace")

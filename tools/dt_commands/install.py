@@ -1,0 +1,108 @@
+"""Installs the program, the kit for programs in C, the samples and the pages below a prefix.
+
+Below PREFIX, bin/ has dthreads, and dthreads-cc, dthreads-c++ and dthreads-exec as links to the kit; share/dthreads/ has the kit (guest/)
+and the samples, share/doc/dthreads the pages, and share/man/man1 the manual page. All of it works without the checkout, from any folder,
+and may be moved as a whole. What an earlier call left below share/dthreads and share/doc/dthreads is replaced.
+
+The program is the one built here from the sources as they are, or the release if it is theirs; else build it first. If the compiler of
+guest programs is there, the C library is built, since a user may not write below PREFIX.
+"""
+import os
+import shutil
+import subprocess
+import sys
+
+from dt_commands import built_from, executable, release
+from dt_commands.progress import Progress
+from dt_commands.repository import TOP
+
+# The folders below the prefix.
+BIN, SHARE, DOC, MAN = "bin", "share/dthreads", "share/doc/dthreads", "share/man/man1"
+# What of guest/ isn't the kit: its tests, the lists that a page is made from, and what was built.
+NOT_KIT = ("tests", "reference", "out")
+COMMANDS = ("dthreads-cc", "dthreads-c++", "dthreads-exec")
+# C++'s library, if guest/build-libstdcxx was done.
+LIBSTDCXX = "guest/out/libstdcxx"
+PAGES = ("README.md", "LICENSE-APACHE", "LICENSE-MIT")
+
+
+def arguments(parser):
+    parser.add_argument("prefix", metavar="PREFIX", help="the folder, such as /usr/local or ~/.local")
+
+
+def say(text):
+    print(f"install: {text}", file=sys.stderr, flush=True)
+
+
+def program():
+    """Returns the bytes of the program, or None if there is none of the sources as they are."""
+    if release.is_built():
+        return executable.stripped(release.bytes_of(release.BUILT))
+    recorded = built_from.read(f"{TOP}/{release.RECORD}")
+    if recorded and recorded[1] == built_from.listed() and os.path.isfile(f"{TOP}/{release.FILE}"):
+        return release.bytes_of(f"{TOP}/{release.FILE}")
+    return None
+
+
+def put(data, file):
+    """Writes an executable file in one step, so that a run of the old one goes on."""
+    with open(f"{file}.new", "wb") as it:
+        it.write(data)
+    os.chmod(f"{file}.new", 0o755)
+    os.replace(f"{file}.new", file)
+
+
+def link(target, file):
+    """Makes a link to a file, by a path that holds wherever the prefix is."""
+    if os.path.lexists(file):
+        os.remove(file)
+    os.symlink(os.path.relpath(target, os.path.dirname(file)), file)
+
+
+def copy_folder(source, target, without=()):
+    if os.path.isdir(target):
+        shutil.rmtree(target)
+    ignored = lambda folder, names: [it for it in names if folder == source and it in without]
+    shutil.copytree(source, target, ignore=ignored)
+
+
+def install_kit(prefix):
+    """Installs the kit, with the samples beside it, and the commands that a user calls."""
+    copy_folder(f"{TOP}/guest", f"{prefix}/{SHARE}/guest", NOT_KIT)
+    copy_folder(f"{TOP}/samples", f"{prefix}/{SHARE}/samples")
+    if os.path.isdir(f"{TOP}/{LIBSTDCXX}"):
+        shutil.copytree(f"{TOP}/{LIBSTDCXX}", f"{prefix}/{SHARE}/{LIBSTDCXX}")
+    for name in COMMANDS:
+        link(f"{prefix}/{SHARE}/guest/{name}", f"{prefix}/{BIN}/{name}")
+    # (the kit looks for the program beside its folder)
+    link(f"{prefix}/{BIN}/dthreads", f"{prefix}/{SHARE}/dthreads")
+
+
+def install_pages(prefix):
+    copy_folder(f"{TOP}/docs", f"{prefix}/{DOC}/docs")
+    for it in PAGES:
+        shutil.copyfile(f"{TOP}/{it}", f"{prefix}/{DOC}/{it}")
+    shutil.copyfile(f"{TOP}/man/dthreads.1", f"{prefix}/{MAN}/dthreads.1")
+
+
+def build_library(prefix):
+    """Builds the C library of the installed kit, if its compiler is there."""
+    with Progress("libraries built", 1):
+        ran = subprocess.run([f"{prefix}/{BIN}/dthreads-cc", "--library"], stdout=subprocess.PIPE, stderr=subprocess.PIPE, text=True)
+    if ran.returncode:
+        say(f"the C library is not built: {ran.stderr.strip()}")
+
+
+def run(options):
+    prefix, data = os.path.abspath(os.path.expanduser(options.prefix)), program()
+    if data is None:
+        say("there is no program of these sources: `./dthreads --build` builds it")
+        return 1
+    for it in (BIN, SHARE, DOC, MAN):
+        os.makedirs(f"{prefix}/{it}", exist_ok=True)
+    put(data, f"{prefix}/{BIN}/dthreads")
+    install_kit(prefix)
+    install_pages(prefix)
+    build_library(prefix)
+    print(f"installed below {prefix}: {BIN}/dthreads, {', '.join(COMMANDS)}, {SHARE}, {DOC}, {MAN}/dthreads.1")
+    return 0

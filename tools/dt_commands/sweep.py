@@ -1,0 +1,20 @@
+"""Tries many cases of one kind, by hand and for minutes: refused memory, changed definitions, random programs, random schedules.
+
+Without a part it does all four, each as if it were called without further words.
+"""
+import argparse
+
+from dt_commands import sweep_changes, sweep_memory, sweep_schedules, sweep_workers
+
+PARTS = {"memory": "sweep_memory", "changes": "sweep_changes", "workers": "sweep_workers", "schedules": "sweep_schedules"}
+
+
+def run(options):
+    return max(it.sweep(defaults(it)) for it in (sweep_memory, sweep_changes, sweep_workers, sweep_schedules))
+
+
+def defaults(part):
+    """Returns the options of a part that is called without words."""
+    parser = argparse.ArgumentParser()
+    part.arguments(parser)
+    return parser.parse_args([])

@@ -1,0 +1,127 @@
+"""Tries the changes of tools/changes.
+
+A change states one sentence of the guest machine wrongly, in definition and code alike, so proofs pass: a row of test_conformance or of
+test_guest_runs has to refuse it. All changes are built at once, into a copy without proofs. Its tests are run with each change of a test,
+and its program once for each change of a row of the program, on these rows alone. Nothing is proved. It needs a C compiler.
+"""
+import os
+import re
+import subprocess
+import tempfile
+
+from dt_commands import changes
+from dt_commands.changed_copy import copy, write
+from dt_commands.changes import PROGRAM, ROWS
+from dt_commands.progress import Progress
+
+
+def rt_try(crate, words, seconds):
+    """Runs `rt try` in a folder of the copy, and returns what it printed."""
+    ran = subprocess.run(
+        ["rt", "try", "--seconds", str(seconds), *words], cwd=crate, env={**os.environ, "RT_ALLOW_C": "1"},
+        stdout=subprocess.PIPE, stderr=subprocess.STDOUT, encoding="utf-8", errors="replace",
+    )
+    return ran.stdout
+
+
+def attempt_tests(folder, seconds):
+    """Runs the tests of the copy, and returns of each how it ended and what it said, and all that was printed."""
+    said = rt_try(f"{folder}/crates/{ROWS}", ["--test"], seconds)
+    if "test result:" not in said:
+        raise SystemExit(f"the copy was not built or not run:\n{said}")
+    return {it[0]: it[1:] for it in re.findall(r"^test (\S+) \.\.\. (\S+)(.*?)(?=^test )", said, re.M | re.S)}, said
+
+
+def write_cases(cases, numbered):
+    """Writes the cases of the program: one for each change, by its number, on its row, and case 0 with no change on all these rows."""
+    for number, rows in [(0, sorted(set(numbered.values()))), *((it, [row]) for it, row in numbered.items())]:
+        write(f"{cases}/change_{number}", f"{number}\n")
+        write(f"{cases}/change_{number}.args", "\n".join(["brief", *rows]) + "\n")
+
+
+def cases_in(said):
+    """Returns of each case that the program ran, by its number, how it ended and what its rows said."""
+    ended = {}
+    for number, text in re.findall(r"^== change_(\d+)\b[^\n]*\n(.*?)(?=^== |\Z)", said, re.M | re.S):
+        lines = [it for it in text.splitlines() if ": " in it and not it.startswith(("checked:", "interpreter:", "races:", "run="))]
+        differ = [it for it in lines if not it.endswith(": ok")]
+        ended[int(number)] = ("FAILED" if differ else "ok" if lines else "not run", "\n".join(differ))
+    for number, how in re.findall(r"^case=change_(\d+) run=(\S+)", said, re.M):
+        if how != "ended":
+            ended[int(number)] = ("FAILED", f"{ended.get(int(number), ('', ''))[1]}\nrun={how}")
+    return ended
+
+
+def attempt_rows(found, folder, seconds):
+    """Runs the program of the copy for each change of its rows, and for none on all these rows. Returns of each, by its number, how it
+    ended and what its rows said, and all that was printed.
+    """
+    numbered = {number: it.program_row() for number, it in enumerate(found, 1) if it.program_row()}
+    if not numbered:
+        return {}, ""
+    crate, cases = f"{folder}/crates/{PROGRAM}", f"{folder}/cases"
+    write_cases(cases, numbered)
+    words = [it for name in sorted(os.listdir(f"{crate}/data")) for it in ("--data", f"{name}=data/{name}")]
+    said = rt_try(crate, ["--cases", cases, *words], seconds)
+    ended = cases_in(said)
+    if 0 not in ended:
+        raise SystemExit(f"the copy was not built or not run:\n{said}")
+    return ended, said
+
+
+def attempt(found, seconds):
+    """Returns of each change, and of each test and row with none, how it ended and what it said."""
+    with tempfile.TemporaryDirectory(prefix="sweep-changes-") as folder, Progress("crates with rows", 2) as progress:
+        copy(found, folder)
+        progress.at = ROWS
+        tests, said = attempt_tests(folder, seconds) if any(not it.program_row() for it in found) else ({}, "")
+        progress.done, progress.at = 1, PROGRAM
+        rows, said_too = attempt_rows(found, folder, seconds)
+    ended = {number: rows[number] for number in rows}
+    for number, change in enumerate(found, 1):
+        if not change.program_row():
+            module = change.row.rsplit("::", 1)[0]
+            ended[number] = tests.get(f"{module}::change_{number}", ("not run", ""))
+    broken = [it for it, (how, _) in tests.items() if "::change_" not in it and how != "ok"]
+    if rows and rows[0][0] != "ok":
+        broken.append(f"{PROGRAM}: {rows[0][1]}")
+    return said + said_too, ended, broken
+
+
+def tried(found, options):
+    """Tries the changes, prints each that survives, and returns the status."""
+    said, ended, broken = attempt(found, options.seconds)
+    for test in broken:
+        print(f"fails with no change: {test}")
+    survived = []
+    for number, change in enumerate(found, 1):
+        how, message = ended.get(number, ("not run", ""))
+        if how != "FAILED":
+            survived.append(change)
+            print(f"survives: {change.name} ({change.row}): {change.sentence}")
+        elif change.case not in message:
+            survived.append(change)
+            print(f"refused by another row: {change.name} ({change.row}, {change.case}): {message.strip()}")
+    if options.show:
+        print(said)
+    print(f"{len(found)} changes tried, {len(survived)} survive")
+    return 1 if broken or survived else 0
+
+
+def arguments(parser):
+    parser.add_argument("names", nargs="*", metavar="NAME", help="the changes to try (default: all)")
+    parser.add_argument("--seconds", type=int, default=900, metavar="N", help="how long a test or a program may run (default: 900)")
+    parser.add_argument("--show", action="store_true", help="print all that the tests and the program said")
+    parser.add_argument("--apply", metavar="FOLDER", help="make the named changes in this copy of the repository, and try nothing")
+
+
+def sweep(options):
+    """Tries changes of definitions and code: each must be refused by the row that it names. Prints each that survives."""
+    found = changes.listed(options.names)
+    if not options.apply:
+        return tried(found, options)
+    if not options.names:
+        raise SystemExit("tools/dt sweep changes --apply FOLDER: name the changes to make")
+    for change in found:
+        change.apply(options.apply)
+    return 0

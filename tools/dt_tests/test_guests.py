@@ -1,0 +1,166 @@
+"""Tests of the commands that build, run and measure guests: what they read and compare. No guest is run."""
+import argparse
+import contextlib
+import hashlib
+import io
+import os
+import random
+import tempfile
+import unittest
+from unittest import mock
+
+from dt_commands import c_page, c_samples, guest_runs, guest_tests, manual_examples, measure_c_samples, random_guests, samples
+from dt_commands import sweep_schedules, texts
+from dt_commands.progress import Progress
+
+PAGE = """.SS Program source
+.EX
+#include <old.h>
+.EE
+.SS Program source
+.\\" a remark
+.EX
+not a program
+.EE
+.EX
+#include <stdio.h>
+.in +4n
+    printf("\\en\\-\\(aq\\(aq");
+.EE
+.EX
+#include <later.h>
+.EE
+""".splitlines(True)
+
+
+class Texts(unittest.TestCase):
+    def test_the_first_other_line_is_told(self):
+        self.assertEqual(texts.first_difference(b"a\nb\n", b"a\nc\n"), "line 2 is 'b' and not 'c'")
+        self.assertEqual(texts.first_difference(b"a", b"a\n"), "line 2 is '(its end)' and not ''")
+
+    def test_a_list_has_rows_of_words(self):
+        with tempfile.TemporaryDirectory() as room:
+            with open(f"{room}/list", "w", encoding="utf-8") as it:
+                it.write("# a remark\n\none  two\nthree\n")
+            self.assertEqual(texts.rows_of(f"{room}/list"), [["one", "two"], ["three"]])
+
+    def test_progress_says_how_far_it_is(self):
+        progress = Progress("guests", 3)
+        seen = [progress.line() for _ in progress.each(["a", "b"])]
+        self.assertEqual(seen, ["0 of 3 guests, at work on a (0:00 so far)", "1 of 3 guests, at work on b (0:00 so far)"])
+
+
+class Runs(unittest.TestCase):
+    def faults(self, run, first=None, output=b"out", status=0):
+        return list(guest_runs.faults(run, first or run, output, status))
+
+    def test_a_run_is_well_if_output_status_and_trace_are_the_wanted_ones(self):
+        self.assertEqual(self.faults(guest_runs.Run(0, b"out", b"", b"trace")), [])
+
+    def test_each_difference_is_told(self):
+        well, other = guest_runs.Run(0, b"out", b"", b"trace"), guest_runs.Run(1, b"no", b"why", b"t")
+        self.assertEqual(self.faults(other, well), ["status 1, wanted 0: why", "line 1 is 'no' and not 'out'", "another trace"])
+        self.assertEqual(self.faults(other, other, b"no", None), [])
+
+    def test_a_run_without_a_trace_is_a_fault(self):
+        self.assertEqual(self.faults(guest_runs.Run(0, b"out", b"", None)), ["another trace"])
+
+    def test_a_failure_makes_the_status(self):
+        with contextlib.redirect_stderr(io.StringIO()) as said, contextlib.redirect_stdout(io.StringIO()) as printed:
+            tally = guest_runs.Tally()
+            tally.tried = 2
+            self.assertEqual(tally.status("guests", ": all well"), 0)
+            tally.fail("one is wrong")
+            self.assertEqual(tally.status("guests", ": all well"), 1)
+        self.assertEqual((printed.getvalue(), said.getvalue()), ("2 guests: all well\n", "one is wrong\n1 failures in 2 guests\n"))
+
+    def test_each_worker_count_is_a_run_of_a_command(self):
+        with tempfile.TemporaryDirectory() as room:
+            script = f"{room}/guest"
+            with open(script, "w", encoding="utf-8") as it:
+                it.write('#!/bin/sh\necho "$@"; echo trace > "$4"; [ "$2" != 64 ]\n')
+            os.chmod(script, 0o755)
+            tally = guest_runs.Tally()
+            guest = guest_runs.Guest([script], ["more"])
+            with contextlib.redirect_stderr(io.StringIO()) as said:
+                guest_runs.agree(tally, "guest", guest, room, f"--workers 1 --trace {room}/trace more\n".encode(), 0, (1, 64))
+        self.assertEqual(tally.failed, 2)
+        self.assertIn("guest with 64 workers: status 1, wanted 0", said.getvalue())
+
+
+class Lists(unittest.TestCase):
+    def test_the_samples_in_c_have_their_files(self):
+        for it in c_samples.samples():
+            with self.subTest(it.name):
+                self.assertTrue(all(map(os.path.exists, [it.program, it.output, it.given or it.output, f"{c_samples.FOLDER}/{it.name}.c"])))
+
+    def test_the_tests_of_the_library_have_their_files(self):
+        for name, *_ in guest_tests.chosen([]):
+            with self.subTest(name):
+                self.assertTrue(guest_tests.source_of(name))
+                self.assertTrue(os.path.exists(f"{guest_tests.FOLDER}/{name}.out"))
+
+
+class Pages(unittest.TestCase):
+    def test_the_commands_of_a_page_and_what_is_below_them(self):
+        page = "$ not here\n```\nnot this\n$ one\nsaid\n```\n```\nno command\n```\n```\n$ two\n```\n"
+        self.assertEqual(c_page.shown_in(page), ["$ one", "said", "$ two"])
+
+    def test_the_first_whole_program_of_the_last_heading_is_the_example(self):
+        self.assertEqual(manual_examples.program_in(PAGE), "#include <stdio.h>\n    printf(\"\\n-''\");\n")
+
+
+# A command rt, and the program that it would build: each notes how it was called.
+NOTES = '#!/bin/sh\necho "$(basename "$0") $*" >> "$NOTES"\n'
+
+
+class Programs(unittest.TestCase):
+    """What the commands ask of the program test_guest_runs, in a crate's folder of its own."""
+
+    def setUp(self):
+        room = tempfile.TemporaryDirectory()
+        self.addCleanup(room.cleanup)
+        self.room, self.notes = room.name, f"{room.name}/notes"
+        os.mkdir(f"{self.room}/out")
+        for file in ("rt", "out/test_guest_runs"):
+            with open(f"{self.room}/{file}", "w", encoding="utf-8") as it:
+                it.write(NOTES)
+            os.chmod(f"{self.room}/{file}", 0o755)
+        how = {"PATH": f"{self.room}:{os.environ['PATH']}", "NOTES": self.notes}
+        crates = [mock.patch.object(it, "CRATE", self.room) for it in (sweep_schedules, samples)]
+        for patch in (mock.patch.dict(os.environ, how), *crates):
+            patch.start()
+            self.addCleanup(patch.stop)
+
+    def asked(self):
+        with open(self.notes, encoding="utf-8") as it:
+            return it.read().splitlines()
+
+    def test_schedules_are_walked_by_the_built_program(self):
+        options = argparse.Namespace(count=7, seed=3)
+        self.assertEqual(sweep_schedules.sweep(options), 0)
+        self.assertEqual(self.asked(), ["rt run -- comparison", "test_guest_runs walk 7 3"])
+
+    def test_samples_are_made_before_they_are_copied(self):
+        samples.make()
+        self.assertEqual(self.asked(), ["rt run -- write data"])
+
+
+class Measures(unittest.TestCase):
+    def test_the_longest_path_of_a_trace(self):
+        lines = ["1 0 create 0 0 0 -> 0 changed=0 ran=5", "2 0 join 0 0 0 -> wait changed=0 ran=7", "2 1 exit 0 0 0 -> end changed=0 ran=30",
+                 "2 1 exit 0 0 0 -> end changed=0 ran=4"]
+        with tempfile.NamedTemporaryFile("w", suffix=".trace") as it:
+            it.write("".join(f"{line}\n" for line in lines))
+            it.flush()
+            found = measure_c_samples.Trace(it.name)
+        self.assertEqual((found.turns, found.phases, found.instructions, found.path), (4, "2", 46, 39))
+
+    def test_a_seed_fixes_its_program(self):
+        of_seed = lambda seed: hashlib.sha256(random_guests.guest(random.Random(seed))).hexdigest()
+        self.assertEqual(of_seed(7), of_seed(7))
+        self.assertNotEqual(of_seed(7), of_seed(8))
+
+
+if __name__ == "__main__":
+    unittest.main()
