@@ -55,6 +55,15 @@ impl SharedState {
         }
     }
 
+    /// The same state. The memory's pages are shared, all else is copied.
+    pub fn try_clone(&self) -> Result<Self, AllocError>
+        ensures state { IfOk result (λ copy. state_of copy ≡ state_of self.now) }
+        ensures input { IfOk result (λ copy. input_of copy ≡ input_of self.now) }
+    {
+        let inner = self.inner.try_clone()?;
+        Ok(SharedState { inner })
+    }
+
     /// The shared memory.
     pub fn memory(&self) -> &Snapshot
         ensures { cells_of result.now ≡ (state_of self.now).memory }
@@ -67,6 +76,13 @@ impl SharedState {
         ensures { result.now ≡ (state_of self.now).threads }
     {
         &self.inner.threads
+    }
+
+    /// The mutexes, condition variables and barriers.
+    pub fn objects(&self) -> &Objects
+        ensures { result.now ≡ (state_of self.now).objects }
+    {
+        &self.inner.objects
     }
 
     /// Whether a thread holds any mutex.

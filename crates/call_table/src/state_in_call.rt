@@ -56,6 +56,27 @@ impl StateInCall {
     ghost use Rattle.call_table.specs.State.{row_of};
     ghost use Rattle.call_table.specs.StateInCall.{state_in, came_to};
 
+    /// The same state. The memory's pages are shared, all else is copied.
+    pub(crate) fn try_clone(&self) -> Result<Self, AllocError>
+        ensures state { IfOk result (λ copy. state_in copy ≡ state_in self.now) }
+        ensures threads { IfOk result (λ copy. copy.threads ≡ self.now.threads) }
+        ensures objects { IfOk result (λ copy. copy.objects ≡ self.now.objects) }
+        ensures input { IfOk result (λ copy. copy.input.items ≡ self.now.input.items) }
+    {
+        let alloc = self.memory.allocator();
+        let mut threads = Threads::new();
+        threads.copy_from(&self.threads);
+        Ok(StateInCall {
+            memory: self.memory.try_clone()?,
+            threads,
+            objects: self.objects.copied(),
+            heap_pages: self.heap_pages,
+            input: Vec::from_slice(alloc, self.input.as_slice())?,
+            taken: self.taken,
+            output: Vec::from_slice(alloc, self.output.as_slice())?,
+        })
+    }
+
     /// Carries out the call that the hart of a ready thread makes, and answers what it came to. Nothing changes
     /// when memory runs out.
     #[tactic(auto, unfolding(crate::specs::StateInCall::state_in))]

@@ -2,9 +2,9 @@
 ghost use Rattle.std.specs.Prelude.{◌≡◌, OnOk, IfErr};
 ghost use Rattle.std.specs.String.{string_bytes};
 ghost use Rattle.command_requests.specs.Status.{failure_status};
-ghost use Rattle.command_disasm.specs.Listings.{IsUnlisted, Lists, Prints};
+ghost use Rattle.command_disasm.specs.Listings.{IsListed, IsUnlisted, Lists};
 
-use command_requests::{Failure, Place, fail, print};
+use command_requests::{Failure, Target, fail, print};
 use disassembler::listing;
 use elf32_reader::{ElfFault, FILE_LIMIT, read};
 use output_files::Files;
@@ -18,13 +18,13 @@ pub fn disasm<'a, F: Files, W: Write>(
     files: &F,
     stdout: &mut W,
 ) -> Result<(), Failure<'a>>
-    ensures printed { OnOk result (Prints (F.content files.now file.now) (W.contents stdout.old) (W.contents stdout.new)) }
+    ensures printed { OnOk result (IsListed (F.content files.now file.now) (W.contents stdout.old) (W.contents stdout.new)) }
     ensures failed { IfErr result (IsUnlisted file.now (F.content files.now file.now)) }
 {
     let text = listed(alloc, file, files)?;
     match print(text.as_bytes(), stdout) {
         Ok(()) => Ok(()),
-        Err(_) => Err(Failure::CannotWrite(Place::StandardOutput)),
+        Err(_) => Err(Failure::CannotWrite(Target::StandardOutput)),
     }
 }
 
@@ -34,7 +34,7 @@ fn listed<'a, F: Files>(alloc: Global, file: &'a str, files: &F) -> Result<Strin
 {
     let elf = match files.read(alloc, file, FILE_LIMIT) {
         Ok(elf) => elf,
-        Err(fault) => return Err(Failure::of_read(Place::Path(file), fault)),
+        Err(fault) => return Err(Failure::of_read(Target::Path(file), fault)),
     };
     let image = match read(alloc, elf.as_slice()) {
         Ok(image) => image,

@@ -6,5 +6,5 @@ mod performing;
 mod replaying;
 
 pub use command_outputs::conclude;
-pub use command_requests::{Failure, Place, arguments_of};
+pub use command_requests::{Failure, Target, arguments_of};
 pub use performing::perform;

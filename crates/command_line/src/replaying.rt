@@ -6,7 +6,7 @@ ghost use Rattle.token.specs.RunInTurn.{point_of};
 ghost use Rattle.command_line.specs.Replays.{AreGiven, AreOf, IsUngiven, IsUnopened, Replays};
 
 use command_replay::{Opened, ReplayFailure, go_through, read_events};
-use command_requests::{Failure, Place};
+use command_requests::{Failure, Target};
 use command_run::open_bytes;
 use elf32_reader::FILE_LIMIT;
 use output_files::{Files, read_upto};
@@ -73,11 +73,11 @@ fn read_given<'a, F: Files, R: Read>(
 {
     let elf = match files.read(alloc, file, FILE_LIMIT) {
         Ok(elf) => elf,
-        Err(fault) => return Err(Failure::of_read(Place::Path(file), fault)),
+        Err(fault) => return Err(Failure::of_read(Target::Path(file), fault)),
     };
     let input = match read_upto(alloc, stdin, MAX_INPUT) {
         Ok(input) => input,
-        Err(fault) => return Err(Failure::of_read(Place::StandardInput, fault)),
+        Err(fault) => return Err(Failure::of_read(Target::StandardInput, fault)),
     };
     if input.len() > MAX_INPUT {
         return Err(Failure::InputTooLarge);

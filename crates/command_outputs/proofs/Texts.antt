@@ -19,7 +19,7 @@ use Rattle.tracer.specs.Recording.{Traces}
 use Rattle.tracer.specs.TraceText.{text_of as trace_text_of}
 use Rattle.tracer.specs.declared.trace_recorder.TraceRecorder.{TraceRecorder}
 use Rattle.command_requests.specs.Destination.{IsApart, IsFiled, KeepsButFileOf, KeepsButPartFor, Prints}
-use Rattle.command_outputs.specs.Records.{AreOut, AreOutLast, AreTextsOf, AreUnwritten, AreUnwrittenLast, IsReportOf, IsUnwrittenTo, KeepsButMade, Texts}
+use Rattle.command_outputs.specs.Records.{AreOut, AreOutLast, AreTextsOf, AreUnwritten, AreUnwrittenLast, IsReportOf, IsUnwrittenTo, KeepsButMade, KeepsUnlessPrinted, Texts}
 use Rattle.command_requests.specs.declared.destination.Destination.{Destination}
 use Rattle.command_requests.specs.declared.destination.Destination.TheVariants.{StandardOutput, File}
 use Rattle.command_requests.specs.declared.failure.Failure.{Failure}
@@ -135,19 +135,21 @@ module _ {X E : Type 0} (bytes : X → List ℕ) (tells : Type 0) (records : Rec
   -- the report is where it is to be, and the digest isn't
   pub made_left : {T : Type 0} (first : Result X E) (result : Result T Failure) → is_some sharing ≡ is_some records.report
       → IsOk first → IfOk first (λ text. MakesReport sharing (bytes text)) → IfOk first (λ text. IsFiled records.report (bytes text) now)
-      → KeepsButFileOf records.digest now new → IfErr result (IsUnwrittenTo records.digest)
-      → IfErr result (λ failure. (changes : List Change) → IfSome sharing (λ sharing. Shares sharing changes) → AreInOrder changes → AreUnwrittenLast records changes new failure)
-  made_left (Err refused) result same made makes filed kept failed = cc
-  made_left (Ok text) (Ok value) same made makes filed kept failed = tt
-  made_left (Ok text) (Err failure) same made makes filed kept failed =
-      λ changes shares order. inr (
-        failed,
-        λ is. (
-          bytes text,
-          report_is records.report sharing (bytes text) changes same makes shares order is,
-          λ apart. still_filed records.report records.digest (bytes text) now new kept filed apart,
-        ),
-      )
+      → IfOk first (λ text. Prints tells records.report (bytes text) old mid) → KeepsButFileOf records.digest now new
+      → IfErr result (IsUnwrittenTo records.digest) → IfErr result (λ _. KeepsUnlessPrinted records.digest mid last)
+      → IfErr result (λ failure. (changes : List Change) → IfSome sharing (λ sharing. Shares sharing changes) → AreInOrder changes
+      → AreUnwrittenLast tells records changes new old last failure)
+  made_left (Err refused) result same made makes filed prints others failed kept = cc
+  made_left (Ok text) (Ok value) same made makes filed prints others failed kept = tt
+  made_left (Ok text) (Err failure) same made makes filed prints others failed kept =
+      λ changes shares order. inr (record {
+        report = bytes text;
+        is_report = λ is. report_is records.report sharing (bytes text) changes same makes shares order is;
+        filed = λ apart. still_filed records.report records.digest (bytes text) now new others filed apart;
+        between = mid;
+        printed_before = prints;
+        digest = record { why = failed; kept = kept };
+      })
 
 -- all texts are where they are to be
 pub all_out : (tells : Type 0) (records : Records) (turns : List Turn) (changes : List Change) (ends : RunOutcome) (output : List ℕ) (memory : Memory) (texts : Texts)
@@ -168,9 +170,15 @@ all_out tells records turns changes ends output memory texts now new old mid las
 )
 
 -- the trace is where it is to be, and not each other text
-pub trace_out : (records : Records) (turns : List Turn) (changes : List Change) (old now new : Content) (failure : Failure) → IsFiled records.trace (trace_text_of turns) now
-    → KeepsButMade records now new → AreUnwrittenLast records changes new failure → AreUnwritten records turns changes old new failure
-trace_out records turns changes old now new failure filed kept left = inr (left, λ report digest. still_there records.trace records _ now new kept filed report digest)
+pub trace_out : (tells : Type 0) (records : Records) (turns : List Turn) (changes : List Change) (failure : Failure) (old now new : Content) (out mid out' : Option (List ℕ))
+    → IsFiled records.trace (trace_text_of turns) now → Prints tells records.trace (trace_text_of turns) out mid → KeepsButMade records now new
+    → AreUnwrittenLast tells records changes new mid out' failure → AreUnwritten tells records turns changes old new out out' failure
+trace_out tells records turns changes failure old now new out mid out' filed prints kept left = inr (record {
+  filed = λ report digest. still_there records.trace records _ now new kept filed report digest;
+  between = mid;
+  printed_before = prints;
+  others = left;
+})
 
 took : (new : Option (List ℕ)) (text : List ℕ) → Appends (Some []) new text → new ≡ Some text
 took None text sent = absurd sent

@@ -1,5 +1,5 @@
 -- What becomes of the texts that a run leaves beside its outcome.
-use Rattle.std.specs.Prelude.{◌≡◌, ◌⊎◌, ℕ, Option, List, [], ◌++◌, IsNone, IsSome}
+use Rattle.std.specs.Prelude.{◌≡◌, ◌≢◌, ◌⊎◌, ℕ, Option, Some, List, [], ◌++◌, IsNone, IsSome}
 use Rattle.std.specs.Io.KnownBytes.{Appends}
 use Rattle.output_files.specs.Content.{Content}
 use Rattle.guest_memory.specs.Memory.{Memory}
@@ -11,8 +11,9 @@ use Rattle.token.specs.Change.{Change}
 use Rattle.token.specs.declared.outcome.RunOutcome.{RunOutcome}
 use Rattle.token.specs.declared.turn.Turn.{Turn}
 use Rattle.tracer.specs.TraceText.{text_of as trace_text_of}
-use Rattle.command_requests.specs.Destination.{Carries, CanPrint, IsApart, IsFileOf, IsFiled, IsPartFor, IsPlaceOf, printed_to}
+use Rattle.command_requests.specs.Destination.{Carries, CanPrint, IsApart, IsFileOf, IsFiled, IsPartFor, IsTargetOf, Prints, printed_to}
 use Rattle.command_requests.specs.declared.destination.Destination.{Destination}
+use Rattle.command_requests.specs.declared.destination.Destination.TheVariants.{StandardOutput}
 use Rattle.command_requests.specs.declared.failure.Failure.{Failure}
 use Rattle.command_requests.specs.declared.failure.Failure.TheVariants.{NotText, OneFile, OutsideRange, ElfRefused, InputTooLarge, CannotRead, CannotWrite, OutOfMemory}
 use Rattle.command_outputs.specs.declared.made_outputs.MadeOutputs.{MadeOutputs}
@@ -25,9 +26,9 @@ NamesNone records = IsNone records.trace × IsNone records.report × IsNone reco
 
 -- why a text didn't get to its destination
 abbrev pub IsUnwrittenTo : Option Destination → Failure → Type 0
-IsUnwrittenTo destination (CannotWrite place) = IsPlaceOf destination place
+IsUnwrittenTo destination (CannotWrite target) = IsTargetOf destination target
 IsUnwrittenTo destination OutOfMemory = Unit {0}
-IsUnwrittenTo destination (CannotRead place) = ⊥
+IsUnwrittenTo destination (CannotRead target) = ⊥
 IsUnwrittenTo destination OutsideRange = ⊥
 IsUnwrittenTo destination InputTooLarge = ⊥
 IsUnwrittenTo destination (ElfRefused fault) = ⊥
@@ -113,16 +114,44 @@ pub record AreOut (tells : Type 0) (records : Records) (texts : Texts) (content 
   pub filed : AreFiled records texts content
   pub printed_after : CanPrintAll tells records → Appends old new (printed records texts)
 
--- Why not each text that is made at the end is: the report didn't get to its destination; or it did, and the digest didn't.
-abbrev pub AreUnwrittenLast : Records → List Change → Content → Failure → Type 0
-AreUnwrittenLast records changes new failure =
-    IsUnwrittenTo records.report failure
-    ⊎ (IsUnwrittenTo records.digest failure × (IsSome records.report → (text : List ℕ) × IsReportOf changes text × HasReport records text new))
+-- standard output is as it was, unless a text was to be printed there
+abbrev pub KeepsUnlessPrinted : Option Destination → (old new : Option (List ℕ)) → Type 0
+KeepsUnlessPrinted destination old new = destination ≢ Some StandardOutput → new ≡ old
 
--- Why not each text is: the trace didn't get to its destination, and the files but its own and the parts are as they were; or the
--- trace did, and not each of the others.
-abbrev pub AreUnwritten : Records → List Turn → List Change → Content → Content → Failure → Type 0
-AreUnwritten records turns changes old new failure =
-    (IsUnwrittenTo records.trace failure
-    × ((path : List ℕ) → ¬ IsFileOf records.trace path → ¬ IsPartFor records.trace path → ¬ IsPartFor records.report path → ¬ IsPartFor records.digest path → new path ≡ old path))
-    ⊎ (AreUnwrittenLast records changes new failure × HasTrace records (trace_text_of turns) new)
+-- A text didn't get to its destination, and printed nothing if it wasn't to be printed.
+pub record Misses (destination : Option Destination) (old new : Option (List ℕ)) (failure : Failure) : Type 0 where
+  pub why : IsUnwrittenTo destination failure
+  pub kept : KeepsUnlessPrinted destination old new
+
+-- The report is where it is to be, and then the digest didn't get to its destination.
+pub record DigestMisses (tells : Type 0) (records : Records) (changes : List Change) (content : Content) (old new : Option (List ℕ)) (failure : Failure) : Type 0 where
+  pub report : List ℕ
+  pub is_report : IsSome records.report → IsReportOf changes report
+  pub filed : HasReport records report content
+  pub between : Option (List ℕ)
+  pub printed_before : Prints tells records.report report old between
+  pub digest : Misses records.digest between new failure
+
+-- Why not each text that is made at the end is where it is to be: the report isn't, or the digest isn't.
+abbrev pub AreUnwrittenLast : Type 0 → Records → List Change → Content → (old new : Option (List ℕ)) → Failure → Type 0
+AreUnwrittenLast tells records changes content old new failure =
+    Misses records.report old new failure ⊎ DigestMisses tells records changes content old new failure
+
+-- The trace didn't get to its destination, and the files but its own and the parts are as they were.
+pub record TraceMisses (records : Records) (files files' : Content) (old new : Option (List ℕ)) (failure : Failure) : Type 0 where
+  pub trace : Misses records.trace old new failure
+  pub others :
+      (path : List ℕ) → ¬ IsFileOf records.trace path → ¬ IsPartFor records.trace path → ¬ IsPartFor records.report path → ¬ IsPartFor records.digest path
+      → files' path ≡ files path
+
+-- The trace is where it is to be, and then not each of the other texts got to its destination.
+pub record OthersMiss (tells : Type 0) (records : Records) (turns : List Turn) (changes : List Change) (content : Content) (old new : Option (List ℕ)) (failure : Failure) : Type 0 where
+  pub filed : HasTrace records (trace_text_of turns) content
+  pub between : Option (List ℕ)
+  pub printed_before : Prints tells records.trace (trace_text_of turns) old between
+  pub others : AreUnwrittenLast tells records changes content between new failure
+
+-- Why not each text is where it is to be: the trace isn't, or not each of the others is.
+abbrev pub AreUnwritten : Type 0 → Records → List Turn → List Change → (files files' : Content) → (old new : Option (List ℕ)) → Failure → Type 0
+AreUnwritten tells records turns changes files files' old new failure =
+    TraceMisses records files files' old new failure ⊎ OthersMiss tells records turns changes files' old new failure

@@ -4,7 +4,7 @@ ghost use Rattle.command_requests.specs.Destination.{Carries, IsPartFor, KeepsBu
 ghost use Rattle.command_outputs.specs.Records.{AreBegun, AreBegunLast, IsUnwritten, IsUnwrittenTo, KeepsButParts, NamesNone};
 
 use crate::made_outputs::MadeOutputs;
-use command_requests::{Destination, Failure, Place, Records};
+use command_requests::{Destination, Failure, Records, Target};
 use output_files::Files;
 use std::alloc::Global;
 
@@ -92,11 +92,11 @@ fn begin_output<'a, F: Files>(
         None => Ok(None),
         Some(Destination::StandardOutput) => match files.begin_aside() {
             Ok(output) => Ok(Some(output)),
-            Err(fault) => Err(Failure::of_write(Place::StandardOutput, fault)),
+            Err(fault) => Err(Failure::of_write(Target::StandardOutput, fault)),
         },
         Some(Destination::File(path)) => match files.begin(alloc, path) {
             Ok(output) => Ok(Some(output)),
-            Err(fault) => Err(Failure::of_write(Place::Path(path), fault)),
+            Err(fault) => Err(Failure::of_write(Target::Path(path), fault)),
         },
     }
 }

@@ -12,14 +12,14 @@ ghost use Rattle.tracer.specs.Recording.{Traces};
 ghost use Rattle.tracer.specs.TraceText.{text_of as trace_text_of};
 ghost use Rattle.command_requests.specs.Destination.{Carries, IsFiled, KeepsButFileOf, Prints};
 ghost use Rattle.command_outputs.specs.Recorders.{AreFor, AreTold};
-ghost use Rattle.command_outputs.specs.Records.{AreBegunLast, AreOut, AreOutLast, AreTextsOf, AreUnwritten, AreUnwrittenLast, IsReportOf, IsUnwrittenTo, KeepsButMade, NamesNone, Texts};
+ghost use Rattle.command_outputs.specs.Records.{AreBegunLast, AreOut, AreOutLast, AreTextsOf, AreUnwritten, AreUnwrittenLast, IsReportOf, IsUnwrittenTo, KeepsButMade, KeepsUnlessPrinted, NamesNone, Texts};
 
 use crate::ended::Ended;
 use crate::made_outputs::MadeOutputs;
 use crate::outputs::{abandon_made, abandon_output};
 use crate::text_recorders::TextRecorders;
 use crate::trace_failure::failure_of_turn;
-use command_requests::{Destination, Failure, Place, Records};
+use command_requests::{Destination, Failure, Records, Target};
 use output_files::Files;
 use run_digest::DigestRecorder;
 use sharing_report::{SharingRecorder, report_text};
@@ -44,7 +44,8 @@ pub fn write_records<'a, F: Files, W: Write>(
         × AreOut (Tells F.Output.contents) records.now texts (F.content files.new) (W.contents writer.old) (W.contents writer.new)) }
     ensures unnamed { NamesNone records.now → files.new ≡ files.old }
     ensures failed { IfErr result (λ failure. (turns : List TurnRecord) (changes : List Change) → AreTold F.Output.contents recorders turns changes → AreInOrder changes
-        → AreUnwritten records.now turns changes (F.content files.old) (F.content files.new) failure) }
+        → AreUnwritten (Tells F.Output.contents) records.now turns changes (F.content files.old) (F.content files.new)
+        (W.contents writer.old) (W.contents writer.new) failure) }
 {
     let TextRecorders {
         trace,
@@ -80,7 +81,7 @@ fn write_made<'a, F: Files, W: Write>(
     ensures others { KeepsButMade records.now (F.content files.old) (F.content files.new) }
     ensures unnamed { NamesNone records.now → files.new ≡ files.old }
     ensures failed { IfErr result (λ failure. (changes : List Change) → IfSome sharing (λ sharing. Shares sharing changes) → AreInOrder changes
-        → AreUnwrittenLast records.now changes (F.content files.new) failure) }
+        → AreUnwrittenLast (Tells F.Output.contents) records.now changes (F.content files.new) (W.contents writer.old) (W.contents writer.new) failure) }
 {
     let text = report_of(alloc, &sharing);
     match write_text(records.report, made.report, text, files, writer) {
@@ -135,6 +136,7 @@ fn write_trace<'a, F: Files, W: Write>(
     ensures others { KeepsButFileOf destination.entry (F.content files.old) (F.content files.new) }
     ensures unnamed { IsNone destination.entry → files.new ≡ files.old }
     ensures failed { IfErr result (IsUnwrittenTo destination.entry) }
+    ensures kept { IfErr result (λ _. KeepsUnlessPrinted destination.entry (W.contents writer.old) (W.contents writer.new)) }
 {
     let Some(recorder) = recorder else {
         return Ok(());
@@ -152,7 +154,7 @@ fn write_trace<'a, F: Files, W: Write>(
         ),
         Err(fault) => {
             abandon_output(Some(destination), Some(recorder.into_writer()), files);
-            Err(failure_of_turn(destination.place(), fault))
+            Err(failure_of_turn(destination.target(), fault))
         }
     }
 }
@@ -172,6 +174,7 @@ fn write_text<'a, F: Files, W: Write>(
     ensures others { KeepsButFileOf destination.entry (F.content files.old) (F.content files.new) }
     ensures unnamed { IsNone destination.entry → files.new ≡ files.old }
     ensures failed { IfErr result (IsUnwrittenTo destination.entry) }
+    ensures kept { IfErr result (λ _. KeepsUnlessPrinted destination.entry (W.contents writer.old) (W.contents writer.new)) }
 {
     let text = match text {
         Ok(text) => text,
@@ -202,6 +205,7 @@ fn put<'a, F: Files, W: Write>(
     ensures printed { OnOk result (Prints (Tells F.Output.contents) (Some destination.entry) (string_bytes text.now) (W.contents writer.old) (W.contents writer.new)) }
     ensures others { KeepsButFileOf (Some destination.entry) (F.content files.old) (F.content files.new) }
     ensures failed { IfErr result (IsUnwrittenTo (Some destination.entry)) }
+    ensures kept { IfErr result (λ _. KeepsUnlessPrinted (Some destination.entry) (W.contents writer.old) (W.contents writer.new)) }
 {
     let mut output = output;
     match write_whole(destination, &mut output, text.as_bytes()) {
@@ -225,7 +229,7 @@ fn write_whole<'a, O: Write>(
 {
     match output.write_all(text) {
         Ok(()) => Ok(()),
-        Err(_) => Err(Failure::CannotWrite(destination.place())),
+        Err(_) => Err(Failure::CannotWrite(destination.target())),
     }
 }
 
@@ -242,6 +246,7 @@ pub fn publish<'a, F: Files, W: Write>(
     ensures others { KeepsButFileOf destination.entry (F.content files.old) (F.content files.new) }
     ensures unnamed { IsNone destination.entry → files.new ≡ files.old }
     ensures failed { IfErr result (IsUnwrittenTo destination.entry) }
+    ensures kept { IfErr result (λ _. KeepsUnlessPrinted destination.entry (W.contents writer.old) (W.contents writer.new)) }
 {
     let Some(output) = output else {
         return Ok(());
@@ -250,11 +255,11 @@ pub fn publish<'a, F: Files, W: Write>(
         None => Ok(()),
         Some(Destination::StandardOutput) => match files.copy(output, writer) {
             Ok(()) => Ok(()),
-            Err(fault) => Err(Failure::of_write(Place::StandardOutput, fault)),
+            Err(fault) => Err(Failure::of_write(Target::StandardOutput, fault)),
         },
         Some(Destination::File(path)) => match files.finish(path, output) {
             Ok(()) => Ok(()),
-            Err(fault) => Err(Failure::of_write(Place::Path(path), fault)),
+            Err(fault) => Err(Failure::of_write(Target::Path(path), fault)),
         },
     }
 }

@@ -14,7 +14,7 @@ use Rattle.token.specs.declared.outcome.RunOutcome.{RunOutcome}
 use Rattle.tracer.specs.TraceText.{text_of}
 use Rattle.command_requests.specs.declared.failure.Failure.{Failure}
 use Rattle.command_requests.specs.declared.failure.Failure.TheVariants.{CannotWrite, OutOfMemory}
-use Rattle.command_requests.specs.declared.place.Place.TheVariants.{StandardOutput}
+use Rattle.command_requests.specs.declared.target.Target.TheVariants.{StandardOutput}
 use Rattle.command_replay.specs.Status.{failure_at}
 use Rattle.command_replay.specs.declared.replay_failure.ReplayFailure.{ReplayFailure}
 use Rattle.command_replay.specs.declared.replay_failure.ReplayFailure.TheVariants.{Plain}

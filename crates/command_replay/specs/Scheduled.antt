@@ -21,5 +21,5 @@ pub record AreScheduled (content : Option (List ℕ)) (events : List Event) : Ty
 abbrev pub IsUnscheduled : List ℕ → Option (List ℕ) → ReplayFailure → Type 0
 IsUnscheduled path content failure =
     (failure ≡ Plain OutOfMemory)
-    ⊎ (((place : _) × (failure ≡ Plain (CannotRead place)) × IsAt path place)
+    ⊎ (((target : _) × (failure ≡ Plain (CannotRead target)) × IsAt path target)
     ⊎ ((text : List ℕ) × (line : ℕ) × (failure ≡ NotAnEvent line) × AreRead schedule_limit content text × IsFirstBadLine text line))

@@ -1,7 +1,7 @@
 //! Replays of written schedules, of runs that were opened.
 ghost use Rattle.std.specs.Prelude.{◌≡◌, ℕ, ◌<◌, ◌≤◌, List, IfErr, IfOk, OnOk};
 ghost use Rattle.std.specs.Io.KnownBytes.{Appends};
-ghost use Rattle.schedule_core.specs.Stage.{point_at};
+ghost use Rattle.schedule_core.specs.Scene.{point_at};
 ghost use Rattle.token.specs.RunInTurn.{point_of};
 ghost use Rattle.command_replay.specs.Replayed.{IsCut, IsPrinted, IsReplayed, IsUnprinted};
 ghost use Rattle.command_replay.specs.Scheduled.{AreScheduled, IsUnscheduled};
@@ -10,7 +10,7 @@ ghost use Rattle.command_replay.specs.Status.{replay_status};
 use crate::opened::Opened;
 use crate::replay_failure::ReplayFailure;
 use command_outputs::conclude;
-use command_requests::{Failure, Place, print};
+use command_requests::{Failure, Target, print};
 use output_files::Files;
 use schedule::Event;
 use schedule_core::World;
@@ -37,8 +37,8 @@ pub fn read_events<'a, F: Files>(
 {
     let text = match files.read(alloc, path, SCHEDULE_LIMIT) {
         Ok(text) if text.len() <= SCHEDULE_LIMIT => text,
-        Ok(_) => return Err(Failure::CannotRead(Place::Path(path)).into()),
-        Err(fault) => return Err(Failure::of_read(Place::Path(path), fault).into()),
+        Ok(_) => return Err(Failure::CannotRead(Target::Path(path)).into()),
+        Err(fault) => return Err(Failure::of_read(Target::Path(path), fault).into()),
     };
     match parse(alloc, text.as_slice()) {
         Ok(events) => Ok(events),
@@ -82,7 +82,7 @@ fn print_trace<'a, W: Write>(
     let text = trace_text(alloc, world.turns())?;
     match print(text.as_bytes(), stdout) {
         Ok(()) => Ok(()),
-        Err(_) => Err(Failure::CannotWrite(Place::StandardOutput)),
+        Err(_) => Err(Failure::CannotWrite(Target::StandardOutput)),
     }
 }
 

@@ -7,22 +7,22 @@ use Rattle.output_files.specs.Content.{Content, Has, Holds}
 use Rattle.output_files.specs.Names.{part_of}
 use Rattle.command_requests.specs.declared.destination.Destination.{Destination}
 use Rattle.command_requests.specs.declared.destination.Destination.TheVariants.{StandardOutput, File}
-use Rattle.command_requests.specs.declared.place.Place.{Place}
-use Rattle.command_requests.specs.declared.place.Place.TheVariants as place
+use Rattle.command_requests.specs.declared.target.Target.{Target}
+use Rattle.command_requests.specs.declared.target.Target.TheVariants as target
 
 -- the destination that an argument names: standard output is -
 abbrev pub destination_of : Bor (List ℕ) → Destination
 destination_of argument = if pointwise nat_eq argument.now (codes "-") then StandardOutput else File argument
 
 -- what a text for a destination is written to
-abbrev pub place_of : Destination → Place
-place_of StandardOutput = place.StandardOutput
-place_of (File path) = place.Path path
+abbrev pub target_of : Destination → Target
+target_of StandardOutput = target.StandardOutput
+target_of (File path) = target.Path path
 
--- a place is that of a destination, where there is one
-abbrev pub IsPlaceOf : Option Destination → Place → Type 0
-IsPlaceOf None place = ⊥
-IsPlaceOf (Some destination) place = place ≡ place_of destination
+-- a target is that of a destination, where there is one
+abbrev pub IsTargetOf : Option Destination → Target → Type 0
+IsTargetOf None target = ⊥
+IsTargetOf (Some destination) target = target ≡ target_of destination
 
 -- the output that was begun for a destination was given these bytes
 abbrev pub Carries : {O : Type 0} → (O → Option (List ℕ)) → Option Destination → Option O → List ℕ → Type 0

@@ -2,3 +2,4 @@ pub mod Destination
 pub mod Names
 pub mod Reading
 pub mod Status
+pub mod Unasked

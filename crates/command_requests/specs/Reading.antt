@@ -2,11 +2,11 @@
 use Rattle.std.specs.Prelude.{◌≡◌, ◌⊎◌, ℕ, ◌+◌, Option, List, IfSome, take}
 use Rattle.command_requests.specs.declared.failure.Failure.{Failure}
 use Rattle.command_requests.specs.declared.failure.Failure.TheVariants.{NotText, OneFile, OutsideRange, ElfRefused, InputTooLarge, CannotRead, CannotWrite, OutOfMemory}
-use Rattle.command_requests.specs.declared.place.Place.{Place}
-use Rattle.command_requests.specs.declared.place.Place.TheVariants.{Path, StandardInput, StandardOutput}
+use Rattle.command_requests.specs.declared.target.Target.{Target}
+use Rattle.command_requests.specs.declared.target.Target.TheVariants.{Path, StandardInput, StandardOutput}
 
--- whether a place is the file at a path
-abbrev pub IsAt : List ℕ → Place → Type 0
+-- whether a target is the file at a path
+abbrev pub IsAt : List ℕ → Target → Type 0
 IsAt path (Path other) = other.now ≡ path
 IsAt path StandardInput = ⊥
 IsAt path StandardOutput = ⊥
@@ -17,11 +17,11 @@ AreRead limit known bytes = IfSome known (λ all. bytes ≡ take (limit + 1) all
 
 -- the bytes of a file or of the input could not be read
 abbrev pub IsUnread : List ℕ → Failure → Type 0
-IsUnread path (CannotRead place) = IsAt path place ⊎ (place ≡ StandardInput)
+IsUnread path (CannotRead target) = IsAt path target ⊎ (target ≡ StandardInput)
 IsUnread path OutOfMemory = Unit {0}
 IsUnread path OutsideRange = ⊥
 IsUnread path InputTooLarge = ⊥
 IsUnread path (ElfRefused fault) = ⊥
 IsUnread path NotText = ⊥
 IsUnread path (OneFile one other) = ⊥
-IsUnread path (CannotWrite place) = ⊥
+IsUnread path (CannotWrite target) = ⊥

@@ -1,4 +1,7 @@
 //! What the arguments of a command line ask for, or the line and the status if they ask for nothing.
+ghost use Rattle.std.specs.Prelude.{◌≡◌, IfErr, IfOk};
+ghost use Rattle.command_requests.specs.Unasked.{IsUnaskedStatus, KeepsUnlessHelp};
+
 use crate::command_line::parse;
 use crate::refusing::refuse;
 use crate::request::Request;
@@ -6,14 +9,18 @@ use std::alloc::Global;
 use std::convert::AsStr;
 use std::io::Write;
 
-/// What the arguments of a command line ask for, the program's name being the first. Where they ask for nothing, it tells why and
-/// answers the status that the program ends with.
+/// What the arguments of a command line ask for, the program's name being the first. If they make no request, it prints
+/// help, or says on `stderr` why, and answers the status that the program ends with.
 pub fn asked<'a, S: AsStr, W: Write, E: Write>(
     alloc: Global,
     arguments: &'a [S],
     stdout: &mut W,
     stderr: &mut E,
-) -> Result<Request<'a>, u8> {
+) -> Result<Request<'a>, u8>
+    ensures asked { IfOk result (λ _. stdout.new ≡ stdout.old) }
+    ensures status { IfErr result IsUnaskedStatus }
+    ensures output { IfErr result (λ status. KeepsUnlessHelp status (W.contents stdout.old) (W.contents stdout.new)) }
+{
     match parse(alloc, arguments) {
         Ok(request) => Ok(request),
         Err(error) => Err(refuse(&error, stdout, stderr)),

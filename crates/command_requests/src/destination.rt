@@ -1,5 +1,5 @@
 //! Where a text goes: standard output, or a file.
-use crate::place::Place;
+use crate::target::Target;
 
 /// Where a text goes that a run leaves beside its outcome.
 #[derive(Clone, Copy)]
@@ -12,7 +12,7 @@ pub enum Destination<'a> {
 
 impl<'a> Destination<'a> {
     ghost use Rattle.std.specs.Prelude.{◌≡◌};
-    ghost use Rattle.command_requests.specs.Destination.{destination_of, place_of};
+    ghost use Rattle.command_requests.specs.Destination.{destination_of, target_of};
 
     /// The destination that an argument names: standard output is `-`.
     pub fn named(argument: &'a str) -> Self
@@ -25,12 +25,12 @@ impl<'a> Destination<'a> {
     }
 
     /// What a text for it is written to.
-    pub fn place(self) -> Place<'a>
-        ensures { result ≡ place_of self.entry }
+    pub fn target(self) -> Target<'a>
+        ensures { result ≡ target_of self.entry }
     {
         match self {
-            Destination::StandardOutput => Place::StandardOutput,
-            Destination::File(path) => Place::Path(path),
+            Destination::StandardOutput => Target::StandardOutput,
+            Destination::File(path) => Target::Path(path),
         }
     }
 }

@@ -1,7 +1,7 @@
 //! The failures of a command: the line on standard error, and the status.
 ghost use Rattle.std.specs.Prelude.{◌≡◌};
 
-use crate::place::Place;
+use crate::target::Target;
 use elf32_reader::ElfFault;
 use output_files::{FileName, ReadFault, WriteFault};
 use std::alloc::AllocError;
@@ -26,32 +26,32 @@ pub enum Failure<'a> {
     #[error("input too large")]
     InputTooLarge,
     #[error("cannot read {0}")]
-    CannotRead(Place<'a>),
+    CannotRead(Target<'a>),
     #[error("cannot write {0}")]
-    CannotWrite(Place<'a>),
+    CannotWrite(Target<'a>),
     #[error("out of memory")]
     OutOfMemory,
 }
 
 impl<'a> Failure<'a> {
-    /// The failure that a fault of a read from this place is.
-    pub fn of_read(place: Place<'a>, fault: ReadFault) -> Self
-        ensures failed { fault ≡ ReadFault.ReadFailed → result ≡ Failure.CannotRead place.entry }
+    /// The failure that a fault of a read from this target is.
+    pub fn of_read(target: Target<'a>, fault: ReadFault) -> Self
+        ensures failed { fault ≡ ReadFault.ReadFailed → result ≡ Failure.CannotRead target.entry }
         ensures memory { fault ≡ ReadFault.OutOfMemory → result ≡ Failure.OutOfMemory }
     {
         match fault {
-            ReadFault::ReadFailed => Failure::CannotRead(place),
+            ReadFault::ReadFailed => Failure::CannotRead(target),
             ReadFault::OutOfMemory => Failure::OutOfMemory,
         }
     }
 
-    /// The failure that a fault of a write to this place is.
-    pub fn of_write(place: Place<'a>, fault: WriteFault) -> Self
-        ensures failed { fault ≡ WriteFault.WriteFailed → result ≡ Failure.CannotWrite place.entry }
+    /// The failure that a fault of a write to this target is.
+    pub fn of_write(target: Target<'a>, fault: WriteFault) -> Self
+        ensures failed { fault ≡ WriteFault.WriteFailed → result ≡ Failure.CannotWrite target.entry }
         ensures memory { fault ≡ WriteFault.OutOfMemory → result ≡ Failure.OutOfMemory }
     {
         match fault {
-            WriteFault::WriteFailed => Failure::CannotWrite(place),
+            WriteFault::WriteFailed => Failure::CannotWrite(target),
             WriteFault::OutOfMemory => Failure::OutOfMemory,
         }
     }

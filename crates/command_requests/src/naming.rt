@@ -5,8 +5,8 @@ ghost use Rattle.command_requests.specs.Names.{counts, names_in, names_of, IsUnl
 
 use crate::destination::Destination;
 use crate::failure::Failure;
-use crate::place::Place;
 use crate::records::Records;
+use crate::target::Target;
 use output_files::{FileName, Files};
 use std::alloc::{AllocError, Global};
 
@@ -117,6 +117,6 @@ fn is_one_file<'a, F: Files>(
 {
     match files.is_one_file(alloc, name, other) {
         Ok(is_one) => Ok(is_one),
-        Err(fault) => Err(Failure::of_write(Place::Path(name.path()), fault)),
+        Err(fault) => Err(Failure::of_write(Target::Path(name.path()), fault)),
     }
 }

@@ -1,10 +1,11 @@
 //! What is told of arguments that make no request.
 ghost use Rattle.std.specs.Prelude.{◌≡◌, ◌≢◌, ◌⊎◌};
 ghost use Rattle.clap.specs.Values.{kind_of};
+ghost use Rattle.command_requests.specs.Unasked.{IsUnaskedStatus, KeepsUnlessHelp};
 
 use crate::failing::fail;
 use crate::failure::Failure;
-use crate::place::Place;
+use crate::target::Target;
 use clap::Error;
 use clap::error::ErrorKind;
 use std::io;
@@ -19,6 +20,8 @@ pub(crate) fn refuse<W: Write, E: Write>(error: &Error, stdout: &mut W, stderr: 
     ensures help { (kind_of error.now ≡ ErrorKind.DisplayHelp) → (result ≡ 0) ⊎ (result ≡ 124) }
     ensures wrong { kind_of error.now ≢ ErrorKind.OutOfMemory → kind_of error.now ≢ ErrorKind.DisplayHelp
         → kind_of error.now ≢ ErrorKind.DisplayVersion → result ≡ WRONG_ARGUMENTS }
+    ensures status { IsUnaskedStatus result }
+    ensures output { KeepsUnlessHelp result (W.contents stdout.old) (W.contents stdout.new) }
 {
     if error.kind() == ErrorKind::OutOfMemory {
         return fail(Failure::OutOfMemory, stderr);
@@ -29,7 +32,7 @@ pub(crate) fn refuse<W: Write, E: Write>(error: &Error, stdout: &mut W, stderr: 
     }
     match write_help(error, stdout) {
         Ok(()) => 0,
-        Err(_) => fail(Failure::CannotWrite(Place::StandardOutput), stderr),
+        Err(_) => fail(Failure::CannotWrite(Target::StandardOutput), stderr),
     }
 }
 

@@ -28,7 +28,7 @@ use Rattle.token.specs.declared.turn.Turn.{Turn}
 use Rattle.command_run.specs.Failure.{failure_of_run}
 use Rattle.command_outputs.specs.Records.{AreOut, AreTextsOf, AreUnwritten, IsUnwritten, KeepsButParts, Texts}
 use Rattle.command_outputs.specs.Recorders.{AreFor, AreSame}
-use Rattle.command_run.specs.Serves.{AreRun, ComesTo, Concludes, IsAnswerOf, IsBegun, IsOpenedFrom, IsStopped, RunsInto}
+use Rattle.command_run.specs.Serves.{AreRun, ComesTo, Concludes, IsBegun, IsOpenedFrom, IsStopped, LeavesTexts, RunsInto}
 use Rattle.command_requests.specs.declared.destination.Destination.{Destination}
 use Rattle.command_requests.specs.declared.failure.Failure.{Failure}
 use Rattle.command_requests.specs.declared.records.Records.{Records}
@@ -84,9 +84,9 @@ module _ {R : Type 0} (told : Recording R) (tells : Type 0) (records : Records) 
   abbrev history : History
   history = ends.some.0
 
-  answer_of : (texts : Texts) → AreTextsOf records (turns_of history) (changes_of history) end.outcome end.output.items (cells_of end.memory) texts
-      → IsAnswerOf setup history records end.outcome end.output.items texts
-  answer_of texts are = record {
+  leaves_texts : (texts : Texts) → AreTextsOf records (turns_of history) (changes_of history) end.outcome end.output.items (cells_of end.memory) texts
+      → LeavesTexts setup history records end.outcome end.output.items texts
+  leaves_texts texts are = record {
     ends_so = ends.some.2.ends;
     output_is = ends.some.2.output;
     texts_are =
@@ -97,11 +97,11 @@ module _ {R : Type 0} (told : Recording R) (tells : Type 0) (records : Records) 
   comes_to : Determinism → (texts : Texts) → AreTextsOf records (turns_of history) (changes_of history) end.outcome end.output.items (cells_of end.memory) texts
       → ComesTo setup records end.outcome end.output.items texts
   comes_to one texts are = record {
-    some = (history, ends.some.1, answer_of texts are);
+    some = (history, ends.some.1, leaves_texts texts are);
     every = λ other complete.
-        subst (λ (it : History). IsAnswerOf setup it records end.outcome end.output.items texts)
+        subst (λ (it : History). LeavesTexts setup it records end.outcome end.output.items texts)
         (one.answer setup history other end.outcome end.outcome ends.some.1.legal complete.legal ends.some.2.ends (ends.every other complete).ends).0
-        (answer_of texts are);
+        (leaves_texts texts are);
   }
 
   -- the run came to its end, and its texts are where they are to be
@@ -118,23 +118,27 @@ module _ {R : Type 0} (told : Recording R) (tells : Type 0) (records : Records) 
         λ can. Appends-trans out mid out' _ _ sent (made.2.printed_after can),
       )
 
-  unwritten_since : (turns : List Turn) (changes : List Change) (failure : Failure) → KeepsButParts records files now → AreUnwritten records turns changes now new failure
-      → AreUnwritten records turns changes files new failure
-  unwritten_since turns changes failure kept (inl left) = inl (left.0, λ path file trace report digest. left.1 path file trace report digest ∙ kept path trace report digest)
+  unwritten_since : (turns : List Turn) (changes : List Change) (failure : Failure) → KeepsButParts records files now
+      → AreUnwritten tells records turns changes now new mid out' failure → AreUnwritten tells records turns changes files new mid out' failure
+  unwritten_since turns changes failure kept (inl left) =
+      inl (record { trace = left.trace; others = λ path file trace report digest. left.others path file trace report digest ∙ kept path trace report digest })
   unwritten_since turns changes failure kept (inr left) = inr left
 
   -- the run came to its end, and one of its texts isn't where it is to be
-  pub concludes_left_out : (failure : Failure) (answer : Result RunOutcome Failure) → KeepsButParts records files now
-      → ((turns : List Turn) (changes : List Change) → told recorders turns changes → AreInOrder changes → AreUnwritten records turns changes now new failure)
+  pub concludes_left_out : (failure : Failure) (answer : Result RunOutcome Failure) → KeepsButParts records files now → Appends out mid end.output.items
+      → ((turns : List Turn) (changes : List Change) → told recorders turns changes → AreInOrder changes → AreUnwritten tells records turns changes now new mid out' failure)
       → IsErrAnd answer (λ given. given ≡ failure) → Concludes tells records files new out out' setup answer
-  concludes_left_out failure answer kept left given =
+  concludes_left_out failure answer kept sent left given =
       handed_on (λ (given : Result RunOutcome Failure). Concludes tells records files new out out' setup given) failure answer
-      (inr (
-        history,
-        ends.some.1,
-        unwritten_since (turns_of history) (changes_of history) failure kept
-            (left (turns_of history) (changes_of history) ends.some.2.recorded (in_order setup history ends.some.1.legal)),
-      ))
+      (inr (record {
+        history = history;
+        complete = ends.some.1;
+        between = mid;
+        put_out = subst (λ (output : List ℕ). Appends out mid output) (sym ends.some.2.output) sent;
+        unwritten =
+            unwritten_since (turns_of history) (changes_of history) failure kept
+            (left (turns_of history) (changes_of history) ends.some.2.recorded (in_order setup history ends.some.1.legal));
+      }))
       given
 
 -- the parts alone change twice

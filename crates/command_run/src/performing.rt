@@ -7,7 +7,7 @@ ghost use Rattle.command_outputs.specs.Records.{NamesNone};
 ghost use Rattle.token.specs.RunInTurn.{point_of};
 ghost use Rattle.command_run.specs.Serves.{Concludes, RunsInto};
 
-use crate::running::{Ran, open_file, run_start};
+use crate::running::{RunAttempt, open_file, run_start};
 use command_outputs::{Ended, Outputs, TextRecorders, abandon, begin, write_records};
 use command_requests::{Failure, Records, named_twice};
 use output_files::Files;
@@ -62,7 +62,7 @@ fn run_opened_file<'a, H: Threads + Wait + Sync, F: Files, W: Write>(
     one_history();
     let Outputs { trace, made } = begin(alloc, records, files)?;
     let recorders = TextRecorders::new(alloc, records, trace);
-    let Ran { result, recorders } = run_start(
+    let RunAttempt { result, recorders } = run_start(
         rt,
         alloc,
         start,

@@ -2,7 +2,7 @@
 ghost use Rattle.std.specs.Prelude.{◌≡◌};
 ghost use Rattle.command_run.specs.Failure as spec;
 
-use command_requests::{Destination, Failure, Place};
+use command_requests::{Destination, Failure, Target};
 use elf32_reader::ElfFault;
 use runtime::RunFault;
 
@@ -11,7 +11,7 @@ pub(crate) fn failure_of_run<'a>(fault: RunFault, trace: Option<Destination<'a>>
     ensures { result ≡ spec.failure_of_run trace.entry fault }
 {
     match trace {
-        Some(trace) if fault == RunFault::RecordFailed => Failure::CannotWrite(trace.place()),
+        Some(trace) if fault == RunFault::RecordFailed => Failure::CannotWrite(trace.target()),
         _ => failure_of(fault),
     }
 }
@@ -26,7 +26,7 @@ pub(crate) fn failure_of<'a>(fault: RunFault) -> Failure<'a>
         RunFault::BadConfig => Failure::OutsideRange,
         RunFault::InputTooLarge => Failure::InputTooLarge,
         RunFault::WriteFailed | RunFault::RecordFailed => {
-            Failure::CannotWrite(Place::StandardOutput)
+            Failure::CannotWrite(Target::StandardOutput)
         }
     }
 }

@@ -12,7 +12,7 @@ ghost use Rattle.command_run.specs.Serves.{AreRun, IsOpenedFrom, IsRefused, IsSt
 
 use crate::run_failure::{failure_of, failure_of_run};
 use command_outputs::TextRecorders;
-use command_requests::{Destination, Failure, Place};
+use command_requests::{Destination, Failure, Target};
 use elf32_reader::FILE_LIMIT;
 use output_files::{Files, read_upto};
 use runtime::{
@@ -25,9 +25,9 @@ use std::sync::Wait;
 use std::thread::Threads;
 use token::{IsWanted, Wanted};
 
-/// How a run ended, or why it didn't, and what recorded its texts.
+/// A run that was attempted: how it ended, or why it didn't, and what recorded its texts.
 #[derive(Drop)]
-pub struct Ran<'a, O> {
+pub struct RunAttempt<'a, O> {
     /// How it ended, and what it left.
     pub result: Result<RunEnd, Failure<'a>>,
     /// The recorders, which were told of each turn.
@@ -49,11 +49,11 @@ pub fn open_file<'a, F: Files, R: Read>(
 {
     let elf = match files.read(alloc, file, FILE_LIMIT) {
         Ok(elf) => elf,
-        Err(fault) => return Err(Failure::of_read(Place::Path(file), fault)),
+        Err(fault) => return Err(Failure::of_read(Target::Path(file), fault)),
     };
     let input = match read_upto(alloc, stdin, MAX_INPUT) {
         Ok(input) => input,
-        Err(fault) => return Err(Failure::of_read(Place::StandardInput, fault)),
+        Err(fault) => return Err(Failure::of_read(Target::StandardInput, fault)),
     };
     open_bytes(alloc, elf.as_slice(), input.as_slice(), config)
 }
@@ -85,7 +85,7 @@ pub fn run_start<'a, H: Threads + Wait + Sync, O: Write, W: Write>(
     trace: Option<Destination<'a>>,
     recorders: TextRecorders<O>,
     stdout: &mut WriteSink<W>,
-) -> Ran<'a, O>
+) -> RunAttempt<'a, O>
     requires output { (point_of start).state.output ≡ [] }
     requires failures { stdout.old.failures < 2 ^ 64 - 1 }
     requires none { AreTold O.contents recorders [] [] }
@@ -101,11 +101,11 @@ pub fn run_start<'a, H: Threads + Wait + Sync, O: Write, W: Write>(
     let result = match result {
         Ok(end) => match stdout.finish() {
             Ok(()) => Ok(end),
-            Err(_) => Err(Failure::CannotWrite(Place::StandardOutput)),
+            Err(_) => Err(Failure::CannotWrite(Target::StandardOutput)),
         },
         Err(fault) => Err(failure_of_run(fault, trace)),
     };
-    Ran {
+    RunAttempt {
         result,
         recorders: recorder,
     }

@@ -120,6 +120,34 @@ impl Objects {
         }
     }
 
+    /// A copy of them.
+    #[tactic(auto, unfolding(crate::specs::Sound::AreApart))]
+    pub fn copied(&self) -> Self
+        ensures { result ≡ self.now }
+    {
+        let mut waiters = ArrayVec::new();
+        let added = waiters.try_extend_from_slice(self.waiters.as_slice());
+        added.unwrap();
+        Objects {
+            holders: self.holders,
+            waiters,
+        }
+    }
+
+    /// The holder of each mutex, by its number, `None` if it is free.
+    pub fn holders(&self) -> &[Option<u8>]
+        ensures { result.now ≡ self.now.holders }
+    {
+        &self.holders
+    }
+
+    /// Who waits at a condition variable or a barrier, in the order in which they came.
+    pub fn waiters(&self) -> &[Waiter]
+        ensures { result.now ≡ self.now.waiters }
+    {
+        self.waiters.as_slice()
+    }
+
     /// Whether a thread holds any mutex.
     #[tactic(auto, unfolding(crate::specs::Objects::holds))]
     pub fn holds(&self, thread: u32) -> bool

@@ -16,7 +16,7 @@ use Rattle.phase_jobs.specs.declared.progress.Progress.TheVariants as progress
 use Rattle.phase_jobs.specs.declared.stage.Stage.{Stage}
 use Rattle.phase_jobs.specs.declared.stage.Stage.TheVariants.{GoesOn, Over}
 use Rattle.phase_jobs.proofs.Runs.{looks_again}
-use Rattle.parallel_phase.specs.Work.{Works}
+use Rattle.parallel_phase.specs.Work.{OnlyDraws, Works}
 use Rattle.parallel_phase.proofs.Works.{works}
 
 -- a further slice, after what the seat had looked at
@@ -36,6 +36,11 @@ pub works_over : (jobs : List Job) (memory : Memory) (number : ℕ) (old mid new
     → length mid.log.drawn ≤ length jobs → IsOverAt jobs memory number mid new drawn → Works jobs memory old new drawn
 works_over jobs memory number old mid new drawn drew room over =
     works jobs memory old mid over.looked new drawn (subst (λ (n : ℕ). mid ≡ record old { log = with_drawn old.log n }) (sym over.number_is) drew) over.looks over.noted over.outcome room
+
+-- a seat drew a job, and memory was refused for it
+pub only_draws : (jobs : List Job) (number : ℕ) (old mid new : SeatState) → mid ≡ record old { log = with_drawn old.log number } → number < length jobs → Looks mid new
+    → OnlyDraws jobs old new
+only_draws jobs number old mid new drew inside looks = record { number = number; inside = inside; looks = subst (λ (s : SeatState). Looks s new) drew looks }
 
 -- a job that goes on, by a further slice
 pub progress_more : (memory : Memory) (job : Job) (old : UnderwayState) (p : Progress) → IsProgress memory job 0 (progress.GoesOn old) → IsProgress (cells_of old.base) old.job old.done p → IsProgress memory job 0 p

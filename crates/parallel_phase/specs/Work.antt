@@ -3,11 +3,11 @@ use Rattle.std.specs.Prelude.{◌≡◌, ℕ, ◌<◌, ◌≤◌, Bool, true, fa
 use Rattle.guest_memory.specs.Memory.{Memory}
 use Rattle.paged_memory.specs.Snapshot.{cells_of}
 use Rattle.claim_table.specs.declared.log.Log.{Log}
-use Rattle.claim_table.specs.Logs.{times}
+use Rattle.claim_table.specs.Logs.{times, with_drawn}
 use Rattle.claim_table.specs.Seat.{SeatState}
 use Rattle.phase_jobs.specs.Job.{IsRanOf}
 use Rattle.phase_jobs.specs.Outcome.{IsOutcome, ends}
-use Rattle.phase_jobs.specs.SharedJobs.{PhaseState, SawBelow}
+use Rattle.phase_jobs.specs.SharedJobs.{Looks, PhaseState, SawBelow}
 use Rattle.phase_jobs.specs.declared.job.Job.{Job}
 use Rattle.phase_jobs.specs.declared.drawn.Drawn.{Drawn}
 use Rattle.phase_jobs.specs.declared.outcome.Outcome.{Outcome}
@@ -23,6 +23,12 @@ pub record Works (jobs : List Job) (memory : Memory) (old new : SeatState) (draw
   pub seen : (number : ℕ) → 0 < times number old.log.seen → 0 < times number new.log.seen
   pub outcome : IsOutcome jobs memory new.log drawn.number drawn.outcome
   pub room : length new.log.drawn ≤ length jobs
+
+-- a seat drew one of these jobs, and then did nothing but look
+pub record OnlyDraws (jobs : List Job) (old new : SeatState) : Type 0 where
+  pub number : ℕ
+  pub inside : number < length jobs
+  pub looks : Looks (record old { log = with_drawn old.log number }) new
 
 -- what became of a drawn job fits what the seat did: a job that was run has this number, and a skip is above a number seen
 abbrev pub FitsNumber : Log → ℕ → Outcome → Type 0

@@ -7,7 +7,7 @@ ghost use Rattle.claim_table.specs.Logs.{most_jobs, most_seats, new_log, times, 
 ghost use Rattle.claim_table.specs.Seat.{drew};
 ghost use Rattle.phase_jobs.specs.SharedJobs.{Looks};
 ghost use Rattle.phase_jobs.specs.Stage.{IsOverAt};
-ghost use Rattle.parallel_phase.specs.Work.{Works, AreOver, IsUnbegun, IsWorkOf};
+ghost use Rattle.parallel_phase.specs.Work.{Works, OnlyDraws, AreOver, IsUnbegun, IsWorkOf};
 
 use crate::work_done::WorkDone;
 use claim_table::DrawSeat;
@@ -94,14 +94,18 @@ impl Phase {
         self.shared.draw(seat)
     }
 
-    /// Draws a job and runs it, unless a lower one ends the run. None where no job is left, now and whenever this
-    /// seat draws again. Where memory is refused, the number that it drew stays drawn.
+    /// Draws a job and runs it, unless a lower one ends the run. The answer is None if no job is left, and then this
+    /// seat draws none later either.
+    ///
+    /// # Errors
+    ///
+    /// Out of memory. The number that the seat drew stays drawn, and no job was noted.
     pub fn one<G: Gate>(&self, seat: &mut DrawSeat, gate: &G) -> Result<Option<Drawn>, AllocError>
         requires { seat.old.row ≡ self.now.row }
         ensures none { IfOk result (λ found. IfNone found (seat.new ≡ record seat.old { log = with_end seat.old.log })) }
         ensures some { IfOk result (λ found. IfSome found (Works self.now.jobs (cells_of self.now.base) seat.old seat.new)) }
         ensures going { IfOk result (λ found. OnSome found (seat.old.log.ended ≡ 0)) }
-        ensures refused { OnErr result ((seat.new.row ≡ seat.old.row) × (seat.new.number ≡ seat.old.number)) }
+        ensures refused { OnErr result (OnlyDraws self.now.jobs seat.old seat.new) }
     {
         let Some(number) = self.draw(seat) else {
             return Ok(None);

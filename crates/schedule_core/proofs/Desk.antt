@@ -22,7 +22,7 @@ use Rattle.token.specs.Point.{IsEndOf}
 use Rattle.token.specs.declared.segment_end.SegmentEnd.{SegmentEnd}
 use Rattle.schedule_core.specs.Jobs.{Start, verdict_by, verdicts_of, work_at}
 use Rattle.schedule_core.specs.Running.{advance_of, memory_of, verdict_of}
-use Rattle.schedule_core.specs.Stage.{IsDesk, IsHeld, IsSeat, counts_by, fate_of, one_if_ended, task_of, worker_of}
+use Rattle.schedule_core.specs.Scene.{IsDesk, IsHeld, IsSeat, counts_by, fate_of, one_if_ended, task_of, worker_of}
 use Rattle.schedule_core.specs.declared.running.Running.{Running}
 use Rattle.schedule_core.specs.declared.seat.Held.{Held}
 use Rattle.schedule_core.specs.declared.seat.Seat.{Seat}

@@ -32,12 +32,12 @@ use Rattle.token.specs.RunInTurn.{point_of}
 use Rattle.token.specs.declared.run_in_turn.RunInTurn.{RunInTurn}
 use Rattle.token.specs.declared.segment_end.SegmentEnd.{SegmentEnd}
 use Rattle.schedule_core.specs.Jobs.{Start, start_of, work_of, work_at, job_of, jobs_of}
-use Rattle.schedule_core.specs.Stage.{IsSeat, counts_by, counts_of, fate_of, keeper_advance, point_at, tally_of, worker_of}
+use Rattle.schedule_core.specs.Scene.{IsSeat, counts_by, counts_of, fate_of, keeper_advance, point_at, tally_of, worker_of}
 use Rattle.schedule_core.specs.Tally.{Happens, Tally, counts_after, is_posted}
-use Rattle.schedule_core.specs.declared.stage.Stage.{Stage}
+use Rattle.schedule_core.specs.declared.scene.Scene.{Scene}
 use Rattle.schedule_core.specs.declared.seat.Seat.TheVariants.{Idle}
 use Rattle.schedule_core.specs.declared.slot.Slot.TheVariants.{Open, Posted, Skipped}
-use Rattle.schedule_core.specs.Stage.{IsDesk, IsKeeper}
+use Rattle.schedule_core.specs.Scene.{IsDesk, IsKeeper}
 use Rattle.schedule_core.specs.declared.running.Running.{Running}
 use Rattle.schedule_core.specs.declared.seat.Seat.{Seat}
 use Rattle.schedule_core.specs.declared.slot.Slot.{Slot}
@@ -185,7 +185,7 @@ same_tally : (turns other : ℕ) (counts others : Counts) (keeper another : Adva
     → (let tally : Tally = record { turns = turns; counts = counts; keeper = keeper } in tally) ≡ record { turns = other; counts = others; keeper = another }
 same_tally turns other counts others keeper another one two three = λ i. record { turns = one i; counts = two i; keeper = three i }
 
-pub turn_done : (old new : Stage) (serial : RunInTurn) (phase : ℕ) (end : Option SegmentEnd) → IsNeededAt (point_at old) end
+pub turn_done : (old new : Scene) (serial : RunInTurn) (phase : ℕ) (end : Option SegmentEnd) → IsNeededAt (point_at old) end
     → point_of serial ≡ moved (point_at old) (step_at (point_at old) end) → IsLonger (point_at old) (point_of serial) → phase ≡ (point_at old).phase
     → new.serial ≡ serial → new.keeper ≡ None
     → counts_of new ≡ (if (point_of serial).phase == phase then counts_of old else opened (length (jobs_of (start_of (point_of serial)))) (length old.seats.items))

@@ -2,5 +2,5 @@ pub mod Faults
 pub mod Histories
 pub mod Jobs
 pub mod Running
-pub mod Stage
+pub mod Scene
 pub mod Tally

@@ -1,13 +1,13 @@
-//! Applies an event to the world's stage. A refused event changes nothing.
+//! Applies an event to the world's scene. A refused event changes nothing.
 use crate::event_fault::EventFault;
-use crate::stage::Stage;
+use crate::scene::Scene;
 use schedule::Event;
 
-impl Stage {
+impl Scene {
     ghost use Rattle.std.specs.Prelude.{◌≡◌, None, Some, length, OnOk, OnErr};
     ghost use Rattle.schedule.specs.Phase.{worker_of as worker_in};
     ghost use Rattle.schedule_core.specs.Faults.{IsAnswerTo};
-    ghost use Rattle.schedule_core.specs.Stage.{IsSound, Same, point_at, tally_of};
+    ghost use Rattle.schedule_core.specs.Scene.{IsSound, Same, point_at, tally_of};
     ghost use Rattle.schedule_core.specs.Tally.{Happens, refusal_of};
 
     /// Makes an event happen.

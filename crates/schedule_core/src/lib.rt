@@ -5,9 +5,9 @@ mod applying;
 pub mod event_fault;
 mod refused_event;
 mod running;
+mod scene;
 mod seat;
 mod slot;
-mod stage;
 mod turns;
 pub mod world;
 

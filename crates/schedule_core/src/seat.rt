@@ -16,7 +16,7 @@ impl Held {
     ghost use Rattle.std.specs.Prelude.{◌≡◌};
     ghost use Rattle.schedule.specs.Phase.{is_enabled_with};
     ghost use Rattle.schedule_core.specs.Running.{IsRunning, verdict_of};
-    ghost use Rattle.schedule_core.specs.Stage.{task_of};
+    ghost use Rattle.schedule_core.specs.Scene.{task_of};
 
     /// Whether an event of the worker is enabled, where `least` is the least job that was made known to have
     /// ended the run.

@@ -5,13 +5,13 @@ ghost use Rattle.token.specs.RunInTurn.{point_of};
 
 use crate::event_fault::EventFault;
 use crate::running::Running;
+use crate::scene::Scene;
 use crate::seat::Seat;
 use crate::slot::Slot;
-use crate::stage::Stage;
 use std::alloc::AllocError;
 use token::{Kept, Need, RunOutcome, Serial, TurnFault, Work};
 
-impl Stage {
+impl Scene {
     ghost use Rattle.std.specs.Prelude.{◌≡◌, ◌≤◌, ◌==◌, if◌then◌else◌, true, false, is_some, length, slice_get, vec_len, None, Some, IfSome, OnOk, OnErr};
     ghost use Rattle.std.specs.Vec.{vec_capacity};
     ghost use Rattle.schedule.specs.Phase.{advanced, begun, opened};
@@ -20,7 +20,7 @@ impl Stage {
     ghost use Rattle.token.specs.declared.need.Need.TheVariants as need;
     ghost use Rattle.schedule_core.specs.Faults.{IsAnswerTo};
     ghost use Rattle.schedule_core.specs.Jobs.{job_of, jobs_of, verdict_by};
-    ghost use Rattle.schedule_core.specs.Stage.{IsDesk, IsSound, Same, counts_of, keeper_advance, point_at, start_in, tally_of};
+    ghost use Rattle.schedule_core.specs.Scene.{IsDesk, IsSound, Same, counts_of, keeper_advance, point_at, start_in, tally_of};
     ghost use Rattle.schedule_core.specs.Tally.{Happens, is_posted, is_posted_at, is_turn_enabled, refusal_if, refusal_of};
 
     /// The keeper's segment goes on by an instruction, or stops.

@@ -1,8 +1,8 @@
 //! A run driven by written events, and what it lends amid them.
 use crate::event_fault::EventFault;
 use crate::refused_event::RefusedEvent;
+use crate::scene::Scene;
 use crate::seat::Seat;
-use crate::stage::Stage;
 use crate::turns::{add_idle, outcome_of};
 use elf32_reader::Image;
 use hart::Hart;
@@ -18,23 +18,23 @@ use twins::View;
 /// when their results are there. Whatever the events are, its turns are those of the one legal history.
 #[derive(Drop)]
 pub struct World {
-    stage: Stage,
+    scene: Scene,
 }
 
 impl Model for World {
     ghost use Rattle.std.specs.Coded.{codes};
     ghost use Rattle.commit.specs.contracts.patch.Patch as patch;
-    ghost use Rattle.schedule_core.specs.declared.stage.Stage.{Stage as Stored};
+    ghost use Rattle.schedule_core.specs.declared.scene.Scene.{Scene as Stored};
 
     ghost Value = { Stored };
 
     ghost coded = { Prim.hlevel (codes, patch.the_row.coded) };
 
-    ghost use Rattle.schedule_core.specs.Stage.{IsSound};
+    ghost use Rattle.schedule_core.specs.Scene.{IsSound};
 
-    ghost view = { λ w. w.stage };
+    ghost view = { λ w. w.scene };
 
-    ghost invariant = { λ w. IsSound w.stage };
+    ghost invariant = { λ w. IsSound w.scene };
 }
 
 impl World {
@@ -48,7 +48,7 @@ impl World {
     ghost use Rattle.schedule_core.specs.Faults.{IsAnswerTo};
     ghost use Rattle.schedule_core.specs.Histories.{IsTheHistory, IsOutcome};
     ghost use Rattle.schedule_core.specs.Jobs.{jobs_of};
-    ghost use Rattle.schedule_core.specs.Stage.{Same, counts_of, point_at, private_of, start_in, tally_of};
+    ghost use Rattle.schedule_core.specs.Scene.{Same, counts_of, point_at, private_of, start_in, tally_of};
     ghost use Rattle.schedule_core.specs.Tally.{HappenInTurn, Happens, IsRefusedAt, refusal_of};
 
     /// A run of a program with this input, in which each thread may execute `bound` instructions and a segment
@@ -91,7 +91,7 @@ impl World {
         add_idle(&mut seats, workers as usize);
         let mut slots = Vec::new(alloc);
         slots.reserve(CAPACITY)?;
-        let mut stage = Stage {
+        let mut scene = Scene {
             serial,
             drawn: 0,
             least: 0,
@@ -100,8 +100,8 @@ impl World {
             keeper: None,
             outcome,
         };
-        stage.open_phase();
-        Ok(World { stage })
+        scene.open_phase();
+        Ok(World { scene })
     }
 
     /// Makes an event happen. The run's end is looked at first, then whether the worker is there, then whether
@@ -111,7 +111,7 @@ impl World {
         ensures happens { OnOk result (Happens (point_at self.old) (tally_of self.old) event (point_at self.new) (tally_of self.new)) }
         ensures unchanged { OnErr result (Same self.old self.new) }
     {
-        self.stage.apply(event)
+        self.scene.apply(event)
     }
 
     /// Makes events happen in turn, up to the first that is refused. Those before it have happened.
@@ -137,7 +137,7 @@ impl World {
         ensures { (history : History) × IsTheHistory (point_at self.now) history × (turns_of history ≡ result.now) }
     {
         one_history();
-        self.stage.serial.turns()
+        self.scene.serial.turns()
     }
 
     /// How the run ended, none while a turn may follow.
@@ -146,7 +146,7 @@ impl World {
         ensures outcome { IsOutcome (point_at self.now) result }
     {
         one_history();
-        match self.stage.serial.need() {
+        match self.scene.serial.need() {
             Need::Ended(outcome) => Some(outcome),
             _ => None,
         }
@@ -158,7 +158,7 @@ impl World {
         ensures history { (history : History) × IsTheHistory (point_at self.now) history }
     {
         let _turns = self.turns();
-        self.stage.serial.now()
+        self.scene.serial.now()
     }
 
     /// The hart and the memory of a worker's job, none where it has no job: they are as many times the next
@@ -167,7 +167,7 @@ impl World {
     pub fn private(&self, worker: u32) -> Option<(&Hart, &View)>
         ensures { option_map (λ lent. (lent.0.now, views.cells_of lent.1.now)) result ≡ private_of (start_in self.now) (slice_get (counts_of self.now).workers worker) }
     {
-        match self.stage.seats.get(worker as usize) {
+        match self.scene.seats.get(worker as usize) {
             Some(Seat::Working(held)) => Some((&held.running.hart, &held.running.view)),
             _ => None,
         }

@@ -2,7 +2,7 @@
 
 use crate::fakes::{FailingReader, FailingWriter, MemoryFiles, REFUSED};
 use crate::performed::Performed;
-use command_line::{Failure, Place, conclude, perform};
+use command_line::{Failure, Target, conclude, perform};
 use elf32_reader::ElfFault;
 use hart::{Cause, Trap};
 use output_files::FileName;
@@ -307,22 +307,22 @@ static FAILURES: [(Failure<'static>, u8, &str); 8] = [
     ),
     (Failure::InputTooLarge, 124, "input too large\n"),
     (
-        Failure::CannotRead(Place::Path("a b")),
+        Failure::CannotRead(Target::Path("a b")),
         124,
         "cannot read a b\n",
     ),
     (
-        Failure::CannotRead(Place::StandardInput),
+        Failure::CannotRead(Target::StandardInput),
         124,
         "cannot read standard input\n",
     ),
     (
-        Failure::CannotWrite(Place::Path("t")),
+        Failure::CannotWrite(Target::Path("t")),
         124,
         "cannot write t\n",
     ),
     (
-        Failure::CannotWrite(Place::StandardOutput),
+        Failure::CannotWrite(Target::StandardOutput),
         124,
         "cannot write standard output\n",
     ),

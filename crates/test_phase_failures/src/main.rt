@@ -1,7 +1,7 @@
-//! Runs phases of guest programs, whose requests for memory `tools/refuse-each` refuses in turn.
+//! Runs phases of guest programs, whose requests for memory `tools/dt sweep memory` refuses in turn.
 //!
 //! It prints a line for each: what it came to, or that memory was refused. Round the draws one request for memory is
-//! made before and one after them. `tools/refuse-each` refuses the requests in turn.
+//! made before and one after them. `tools/dt sweep memory` refuses the requests in turn.
 #![tactic(auto)]
 
 mod draws;

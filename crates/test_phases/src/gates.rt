@@ -1,12 +1,10 @@
 //! Gates that hold workers until others have come.
 
+use crate::patience::Patience;
 use phase_jobs::Gate;
-use std::hint::spin_loop;
+use std::rt::Clock;
 use std::sync::atomic::{AtomicBool, AtomicU32, Ordering};
-
-/// How many rounds a worker waits at most: half a minute and more, since on a busy machine the others may be kept from
-/// their processor for whole seconds.
-const ROUNDS: u32 = 4_000_000_000;
+use std::test::Fail;
 
 /// A flag that one worker raises and others wait for.
 #[derive(Drop)]
@@ -28,36 +26,27 @@ impl Flag {
     pub fn is_up(&self) -> bool {
         self.up.load(Ordering::SeqCst)
     }
-
-    /// Whether it came up in time.
-    pub fn wait(&self) -> bool {
-        for _ in 0..ROUNDS {
-            if self.is_up() {
-                return true;
-            }
-            spin_loop();
-        }
-        false
-    }
 }
 
 /// The gate of three jobs and two workers, of which only one may go on: jobs 0 and 1 wait for each other, and then one of
 /// them waits for job 2. So jobs 0 and 1 have different workers, and the one that goes on first draws job 2, whichever it is.
 #[derive(Drop)]
-pub struct Tie {
+pub struct Tie<'a, R> {
+    patience: Patience<'a, R>,
     came: [Flag; 3],
     late: Flag,
     /// The job that waits for job 2.
     held: u32,
 }
 
-impl Tie {
-    pub fn new(held: u32) -> Self {
-        Tie {
+impl<'a, R: Clock> Tie<'a, R> {
+    pub fn new(rt: &'a R, held: u32) -> Result<Self, Fail> {
+        Ok(Tie {
+            patience: Patience::new(rt)?,
             came: [Flag::new(), Flag::new(), Flag::new()],
             late: Flag::new(),
             held,
-        }
+        })
     }
 
     /// Whether a worker waited in vain, or came too early.
@@ -73,16 +62,16 @@ impl Tie {
     }
 }
 
-impl Gate for Tie {
+impl<'a, R: Clock> Gate for Tie<'a, R> {
     fn pass(&self, _worker: u32, job: u32) {
         match job {
             0 => {
                 self.came[0].raise();
-                self.demand(self.came[1].wait());
+                self.demand(self.patience.wait_for(&self.came[1]));
             }
             1 => {
                 self.came[1].raise();
-                self.demand(self.came[0].wait());
+                self.demand(self.patience.wait_for(&self.came[0]));
             }
             _ => {
                 self.demand(self.came[0].is_up() && self.came[1].is_up());
@@ -90,14 +79,15 @@ impl Gate for Tie {
             }
         }
         if job == self.held {
-            self.demand(self.came[2].wait());
+            self.demand(self.patience.wait_for(&self.came[2]));
         }
     }
 }
 
 /// A gate at which all workers meet at their first jobs, and one of them is then held until all jobs were drawn.
 #[derive(Drop)]
-pub struct Holding {
+pub struct Holding<'a, R> {
+    patience: Patience<'a, R>,
     workers: u32,
     jobs: u32,
     held: u32,
@@ -107,9 +97,10 @@ pub struct Holding {
     late: Flag,
 }
 
-impl Holding {
-    pub fn new(workers: u32, jobs: u32, held: u32) -> Self {
-        Holding {
+impl<'a, R: Clock> Holding<'a, R> {
+    pub fn new(rt: &'a R, workers: u32, jobs: u32, held: u32) -> Result<Self, Fail> {
+        Ok(Holding {
+            patience: Patience::new(rt)?,
             workers,
             jobs,
             held,
@@ -117,7 +108,7 @@ impl Holding {
             met: Flag::new(),
             drawn: Flag::new(),
             late: Flag::new(),
-        }
+        })
     }
 
     /// Whether a worker waited in vain.
@@ -126,7 +117,7 @@ impl Holding {
     }
 }
 
-impl Gate for Holding {
+impl<'a, R: Clock> Gate for Holding<'a, R> {
     fn pass(&self, worker: u32, _job: u32) {
         let before = self.passes.fetch_add(1, Ordering::SeqCst);
         if Some(before) == self.workers.checked_sub(1) {
@@ -135,7 +126,9 @@ impl Gate for Holding {
         if Some(before) == self.jobs.checked_sub(1) {
             self.drawn.raise();
         }
-        let in_time = self.met.wait() && (worker != self.held || self.drawn.wait());
+        let patience = &self.patience;
+        let in_time = patience.wait_for(&self.met)
+            && (worker != self.held || patience.wait_for(&self.drawn));
         if !in_time {
             self.late.raise();
         }

@@ -18,4 +18,6 @@ mod overlap;
 #[cfg(test)]
 mod overlapping;
 #[cfg(test)]
+mod patience;
+#[cfg(test)]
 mod stops;

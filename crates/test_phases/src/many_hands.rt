@@ -17,7 +17,7 @@ fn either_worker_draws_the_third_job(rt: HostRuntime) -> Result<(), Fail> {
     let base = base_of(rt.alloc(), &BAD_WRITE)?;
     let jobs = [job_at(0, 0); 3];
     for held in [0, 1] {
-        let gate = Tie::new(held);
+        let gate = Tie::new(&rt, held)?;
         let outcomes = run_phase(&rt, rt.alloc(), &jobs, 2, &gate, &base)?;
         assert!(rt; !gate.has_failed(), "job {held} held");
         assert_eq!(rt;
@@ -33,7 +33,7 @@ fn each_worker_in_turn_is_held(rt: HostRuntime) -> Result<(), Fail> {
     let base = base_of(rt.alloc(), &BAD_WRITE)?;
     let jobs = [job_at(0, 0); 8];
     for held in 0..4 {
-        let gate = Holding::new(4, 8, held);
+        let gate = Holding::new(&rt, 4, 8, held)?;
         let outcomes = run_phase(&rt, rt.alloc(), &jobs, 4, &gate, &base)?;
         assert!(rt; !gate.has_failed(), "worker {held} held");
         assert_eq!(rt;

@@ -1,7 +1,10 @@
 //! A gate that holds a worker until a turn is taken.
 use crate::gates::Flag;
+use crate::patience::Patience;
 use phase_jobs::Gate;
+use std::rt::Clock;
 use std::sync::atomic::{AtomicU64, Ordering};
+use std::test::Fail;
 
 /// How many turns the first phase of `race` has, and the next one.
 const FIRST: u64 = 4;
@@ -14,21 +17,23 @@ const CALLER: u32 = 0;
 /// A gate of `race` with two workers. In phase 2 the caller waits until the other worker has come to a job above 0, or until
 /// the first turn of that phase. The other worker waits there for that turn.
 #[derive(Drop)]
-pub struct Overlap {
+pub struct Overlap<'a, R> {
+    patience: Patience<'a, R>,
     turns: AtomicU64,
     came: Flag,
     turned: Flag,
     late: Flag,
 }
 
-impl Overlap {
-    pub fn new() -> Self {
-        Overlap {
+impl<'a, R: Clock> Overlap<'a, R> {
+    pub fn new(rt: &'a R) -> Result<Self, Fail> {
+        Ok(Overlap {
+            patience: Patience::new(rt)?,
             turns: AtomicU64::new(0),
             came: Flag::new(),
             turned: Flag::new(),
             late: Flag::new(),
-        }
+        })
     }
 
     /// Whether the other worker came to a job above 0.
@@ -49,17 +54,17 @@ impl Overlap {
     }
 }
 
-impl Gate for Overlap {
+impl<'a, R: Clock> Gate for Overlap<'a, R> {
     fn pass(&self, worker: u32, job: u32) {
         let done = self.turns.load(Ordering::SeqCst);
         if done < FIRST || done >= FIRST + SECOND {
             return;
         }
         if worker == CALLER {
-            self.demand(self.turned.is_up() || self.came.wait());
+            self.demand(self.turned.is_up() || self.patience.wait_for(&self.came));
         } else if job > 0 {
             self.came.raise();
-            self.demand(self.turned.wait());
+            self.demand(self.patience.wait_for(&self.turned));
         }
     }
 

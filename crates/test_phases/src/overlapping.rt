@@ -17,7 +17,7 @@ fn turns_are_taken_beside_running_jobs(rt: HostRuntime) -> Result<(), Fail> {
     let file = RACE.file(alloc)?;
     let image = read(alloc, &file)?;
     for _ in 0..TIMES {
-        let gate = Overlap::new();
+        let gate = Overlap::new(&rt)?;
         let start = Start::open(alloc, &image, &[], BOUND, None)?;
         let trace = trace_of(&rt, alloc, start, 2, &gate)?;
         assert_eq!(rt; trace.as_str(), RACE_TRACE);

@@ -1,13 +1,12 @@
 //! Runs with two workers whose gate reads a clock: a job is executed by the host thread that drew it, before that one's
 //! next job, and its end is used.
 
-use crate::seen::{BEFORE, Seen, comes, is_reached, reach};
+use crate::seen::{BEFORE, Seen, is_reached, reach};
 use data_guest_programs::LATE_TRAP;
 use runtime::{Config, Gate, MAX_BOUND, RunOutcome, run};
 use std::rt::Clock;
 use std::sync::atomic::{AtomicU64, Ordering};
 use std::test::Fail;
-use std::time::Instant;
 
 /// How often the run is made.
 const TIMES: u32 = 20;
@@ -19,9 +18,7 @@ const LEAST: u64 = 100_000;
 /// nanoseconds since the start.
 #[derive(Drop)]
 struct Timing<'a, R> {
-    rt: &'a R,
-    start: Instant,
-    seen: Seen,
+    seen: Seen<'a, R>,
     /// When the other host thread came to job 1.
     begun: AtomicU64,
     /// When it came to its next job.
@@ -35,9 +32,7 @@ struct Timing<'a, R> {
 impl<'a, R: Clock> Timing<'a, R> {
     fn of(rt: &'a R) -> Result<Self, Fail> {
         Ok(Timing {
-            rt,
-            start: Instant::now(rt)?,
-            seen: Seen::nothing(),
+            seen: Seen::nothing(rt)?,
             begun: AtomicU64::new(0),
             over: AtomicU64::new(0),
             turned: AtomicU64::new(0),
@@ -45,16 +40,8 @@ impl<'a, R: Clock> Timing<'a, R> {
         })
     }
 
-    /// The time now, 0 where the clock can't be read.
-    fn now(&self) -> u64 {
-        match self.start.elapsed(self.rt) {
-            Ok(time) => u64::try_from(time.as_nanos()).unwrap_or(0),
-            Err(_) => 0,
-        }
-    }
-
     fn keep_now(&self, place: &AtomicU64) {
-        place.store(self.now(), Ordering::SeqCst);
+        place.store(self.seen.now(), Ordering::SeqCst);
     }
 
     /// How long the other host thread was at job 1.
@@ -76,7 +63,7 @@ impl<'a, R: Clock> Gate for Timing<'a, R> {
             return;
         }
         match job {
-            0 => seen.note(comes(|| is_reached(&seen.first))),
+            0 => seen.wait_until(|| is_reached(&seen.first)),
             1 => self.keep_now(&self.begun),
             _ => {
                 self.keep_now(&self.over);
@@ -89,7 +76,7 @@ impl<'a, R: Clock> Gate for Timing<'a, R> {
         let seen = &self.seen;
         if thread == 1 {
             let since = self.turned.load(Ordering::SeqCst);
-            let between = self.now().saturating_sub(since);
+            let between = seen.now().saturating_sub(since);
             self.between.store(between, Ordering::SeqCst);
         } else if seen.has_done(BEFORE) {
             self.keep_now(&self.turned);

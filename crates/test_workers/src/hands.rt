@@ -1,11 +1,12 @@
 //! Runs with two workers whose gate holds one host thread until another one has come somewhere: jobs run side by
 //! side, turns are taken beside running jobs, and a run ends beside an endless one, which is some slices old by then.
 
-use crate::seen::{BEFORE, Seen, comes, is_reached, linger, reach};
+use crate::seen::{BEFORE, Seen, is_reached, linger, reach};
 use data_guest_programs::{KEEPER_EXIT, KEEPER_EXIT_TRACE, LATE_WORK, Program, RACE, RACE_TRACE};
 use runtime::{Config, Gate, MAX_BOUND, Report, RunOutcome, run};
 use std::alloc::Global;
 use std::process::Abort;
+use std::rt::Clock;
 use std::sync::Wait;
 use std::test::Fail;
 use std::thread::Threads;
@@ -23,26 +24,26 @@ const BEFORE_LATE: u64 = 45;
 
 /// What host threads do once phase 1 is over, before each job that they have drawn.
 trait Holding {
-    fn hold(&self, seen: &Seen, worker: u32, job: u32);
+    fn hold<R: Clock>(&self, seen: &Seen<'_, R>, worker: u32, job: u32);
 }
 
 /// A gate that counts turns, and holds host threads once phase 1 is over.
 #[derive(Drop)]
-struct Held<'a, H> {
-    seen: Seen,
+struct Held<'a, R, H> {
+    seen: Seen<'a, R>,
     holding: &'a H,
 }
 
-impl<'a, H> Held<'a, H> {
-    fn by(holding: &'a H) -> Self {
-        Held {
-            seen: Seen::nothing(),
+impl<'a, R: Clock, H> Held<'a, R, H> {
+    fn by(rt: &'a R, holding: &'a H) -> Result<Self, Fail> {
+        Ok(Held {
+            seen: Seen::nothing(rt)?,
             holding,
-        }
+        })
     }
 }
 
-impl<'a, H: Holding> Gate for Held<'a, H> {
+impl<'a, R: Clock, H: Holding> Gate for Held<'a, R, H> {
     fn pass(&self, worker: u32, job: u32) {
         if self.seen.has_done(BEFORE) {
             self.holding.hold(&self.seen, worker, job);
@@ -59,15 +60,15 @@ impl<'a, H: Holding> Gate for Held<'a, H> {
 struct Meeting;
 
 impl Holding for Meeting {
-    fn hold(&self, seen: &Seen, _worker: u32, job: u32) {
+    fn hold<R: Clock>(&self, seen: &Seen<'_, R>, _worker: u32, job: u32) {
         match job {
             0 => {
                 reach(&seen.first);
-                seen.note(comes(|| is_reached(&seen.second)));
+                seen.wait_until(|| is_reached(&seen.second));
             }
             1 => {
                 reach(&seen.second);
-                seen.note(comes(|| is_reached(&seen.first)));
+                seen.wait_until(|| is_reached(&seen.first));
             }
             _ => {}
         }
@@ -80,15 +81,15 @@ impl Holding for Meeting {
 struct Overlap;
 
 impl Holding for Overlap {
-    fn hold(&self, seen: &Seen, worker: u32, job: u32) {
+    fn hold<R: Clock>(&self, seen: &Seen<'_, R>, worker: u32, job: u32) {
         if seen.has_done(BEFORE + 3) {
             return;
         }
         if worker == CALLER {
-            seen.note(comes(|| is_reached(&seen.first) || seen.has_done(BEFORE + 1)));
+            seen.wait_until(|| is_reached(&seen.first) || seen.has_done(BEFORE + 1));
         } else if job > 0 {
             reach(&seen.first);
-            seen.note(comes(|| seen.has_done(BEFORE + 1)));
+            seen.wait_until(|| seen.has_done(BEFORE + 1));
         }
     }
 }
@@ -98,9 +99,9 @@ impl Holding for Overlap {
 struct EndlessWorker;
 
 impl Holding for EndlessWorker {
-    fn hold(&self, seen: &Seen, worker: u32, job: u32) {
+    fn hold<R: Clock>(&self, seen: &Seen<'_, R>, worker: u32, job: u32) {
         if worker == CALLER {
-            seen.note(comes(|| is_reached(&seen.first)));
+            seen.wait_until(|| is_reached(&seen.first));
             linger();
         } else if job == 2 {
             reach(&seen.first);
@@ -114,15 +115,15 @@ impl Holding for EndlessWorker {
 struct EndlessCaller;
 
 impl Holding for EndlessCaller {
-    fn hold(&self, seen: &Seen, worker: u32, job: u32) {
+    fn hold<R: Clock>(&self, seen: &Seen<'_, R>, worker: u32, job: u32) {
         if worker != CALLER {
             reach(&seen.first);
-            seen.note(comes(|| is_reached(&seen.second)));
+            seen.wait_until(|| is_reached(&seen.second));
             linger();
         } else if job == 2 {
             reach(&seen.second);
         } else {
-            seen.note(comes(|| is_reached(&seen.first)));
+            seen.wait_until(|| is_reached(&seen.first));
         }
     }
 }
@@ -132,7 +133,7 @@ impl Holding for EndlessCaller {
 struct LateWork;
 
 impl Holding for LateWork {
-    fn hold(&self, seen: &Seen, worker: u32, _job: u32) {
+    fn hold<R: Clock>(&self, seen: &Seen<'_, R>, worker: u32, _job: u32) {
         if worker != CALLER && seen.has_done(BEFORE_LATE) && !seen.has_done(BEFORE_LATE + 1) {
             reach(&seen.first);
         }
@@ -157,13 +158,13 @@ fn report_of<G: Gate + Sync>(
 
 /// Asserts that runs of a program with two workers end so, with this trace, and that no host thread waits in vain.
 fn assert_runs<H: Holding + Sync>(
-    rt: &(impl Abort + Threads + Wait + Sync),
+    rt: &(impl Abort + Clock + Threads + Wait + Sync),
     alloc: Global,
     (program, trace, status): (&Program, &str, u32),
     holding: &H,
 ) -> Result<(), Fail> {
     for _ in 0..TIMES {
-        let gate = Held::by(holding);
+        let gate = Held::by(rt, holding)?;
         let report = report_of(rt, alloc, program, &gate)?;
         assert_eq!(rt; report.outcome, RunOutcome::Exit(status));
         assert_eq!(rt; trace_text(alloc, &report.trace)?.as_str(), trace);
@@ -201,7 +202,7 @@ fn a_phase_whose_first_job_the_caller_began_alone_is_shared_out(
 ) -> Result<(), Fail> {
     let mut is_shared = false;
     for _ in 0..TIMES {
-        let gate = Held::by(&LateWork);
+        let gate = Held::by(&rt, &LateWork)?;
         let report = report_of(&rt, rt.alloc(), &LATE_WORK, &gate)?;
         assert_eq!(rt; report.outcome, RunOutcome::Exit(0));
         if is_reached(&gate.seen.first) {

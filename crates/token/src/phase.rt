@@ -2,6 +2,7 @@
 ghost use Rattle.std.specs.Prelude.{◌≡◌, ◌+◌, ◌^◌, ◌<◌, None};
 
 use paged_memory::Snapshot;
+use std::alloc::AllocError;
 use thread_table::{ThreadNumbers, Threads};
 
 /// A phase of a run.
@@ -22,6 +23,37 @@ pub(crate) struct Phase {
 }
 
 impl Phase {
+    ghost use Rattle.std.specs.Prelude.{IfOk, option_map};
+    ghost use Rattle.paged_memory.specs.Snapshot.{cells_of};
+
+    /// The same phase. The memory's pages are shared, all else is copied.
+    pub(crate) fn try_clone(&self) -> Result<Self, AllocError>
+        ensures number { IfOk result (λ copy. copy.number ≡ self.now.number) }
+        ensures first { IfOk result (λ copy. copy.first ≡ self.now.first) }
+        ensures base { IfOk result (λ copy. option_map cells_of copy.base ≡ option_map cells_of self.now.base) }
+        ensures threads { IfOk result (λ copy. copy.threads ≡ self.now.threads) }
+        ensures list { IfOk result (λ copy. copy.list.items ≡ self.now.list.items) }
+        ensures given { IfOk result (λ copy. copy.given ≡ self.now.given) }
+    {
+        let base = match &self.base {
+            Some(base) => Some(base.try_clone()?),
+            None => None,
+        };
+        let mut threads = Threads::new();
+        threads.copy_from(&self.threads);
+        let mut list = ThreadNumbers::new();
+        let added = list.try_extend_from_slice(self.list.as_slice());
+        added.unwrap();
+        Ok(Phase {
+            number: self.number,
+            first: self.first,
+            base,
+            threads,
+            list,
+            given: self.given,
+        })
+    }
+
     /// The next phase begins, with these threads and this list, after so many turns.
     pub(crate) fn begin(&mut self, turns: u64, threads: &Threads, list: ThreadNumbers)
         requires { self.old.number + 1 < 2 ^ 64 }

@@ -51,6 +51,24 @@ impl RunInTurn {
     ghost use Rattle.token.specs.Due.{thread_due};
     ghost use Rattle.token.specs.RunInTurn.{point_of, HasDue, CanRun, MayTurn};
 
+    /// The same run. The pages of its memories are shared, all else is copied.
+    pub(crate) fn try_clone(&self) -> Result<Self, AllocError>
+        ensures { IfOk result (λ copy. point_of copy ≡ point_of self.now) }
+    {
+        Ok(RunInTurn {
+            entry: self.entry,
+            first: self.first.try_clone()?,
+            bound: self.bound,
+            quantum: self.quantum,
+            phase: self.phase.try_clone()?,
+            shared: self.shared.try_clone()?,
+            keeper: self.keeper,
+            outcome: self.outcome,
+            done: self.done,
+            fresh_from: self.fresh_from,
+        })
+    }
+
     /// The memory that the present phase began with.
     pub(crate) fn base(&self) -> &Snapshot
         ensures { cells_of result.now ≡ (point_of self.now).base }

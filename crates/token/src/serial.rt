@@ -5,13 +5,16 @@ ghost use Rattle.std.specs.Prelude.{◌≡◌, ◌<◌, [], None, Some, OnOk, On
 
 use crate::kept::Kept;
 use crate::need::Need;
+use crate::no_record::NoRecord;
 use crate::recorder::Recorder;
 use crate::run_in_turn::{MOST_TURNS, RunInTurn};
 use crate::segment_end::{SegmentEnd, patch_of};
 use crate::turn::Turn;
 use crate::turn_change::TurnChange;
 use crate::turn_fault::TurnFault;
+use condvar_barrier::Objects;
 use paged_memory::Snapshot;
+use std::alloc::AllocError;
 use std::marker::Model;
 use thread_table::Threads;
 
@@ -83,6 +86,13 @@ impl<R: Recorder> Serial<R> {
         ensures { result.now ≡ (point_of self.now).state.threads }
     {
         self.run.shared.threads()
+    }
+
+    /// The present mutexes, condition variables and barriers.
+    pub fn objects(&self) -> &Objects
+        ensures { result.now ≡ (point_of self.now).state.objects }
+    {
+        self.run.shared.objects()
     }
 
     /// The output so far.
@@ -172,6 +182,21 @@ impl<R: Recorder> Serial<R> {
         let turn = self.run.turn(end)?;
         self.recorder.record(turn);
         Ok(turn)
+    }
+}
+
+impl Serial<NoRecord> {
+    ghost use Rattle.token.specs.RunInTurn.{point_of};
+
+    /// A second run at the same point: what is done to one leaves the other as it is. The pages of the memories are
+    /// shared, all else is copied.
+    pub fn try_clone(&self) -> Result<Self, AllocError>
+        ensures { IfOk result (λ copy. point_of copy ≡ point_of self.now) }
+    {
+        Ok(Serial {
+            run: self.run.try_clone()?,
+            recorder: NoRecord,
+        })
     }
 }
 

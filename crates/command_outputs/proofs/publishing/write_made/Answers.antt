@@ -1,3 +1,4 @@
+use Rattle.std.proofs.Common.{inl}
 use Rattle.std.specs.String.{string_bytes}
 use Rattle.output_files.specs.Content.{Tells}
 use Rattle.paged_memory.specs.Snapshot.{cells_of}
@@ -19,9 +20,14 @@ returns-in-Ok-clause-failed g c =
     (g.F.Files.content c.write_text.new.files) (g.F.Files.content c.write_text-in-Ok.new.files)
     (g.W.Write.contents c.args.writer.now) (g.W.Write.contents c.write_text.new.writer) (g.W.Write.contents c.write_text-in-Ok.new.writer)
     c.report_of-text.result c.write_text-in-Ok.result c.requires.report
-    c.in-Ok.ensures.made c.report_of-text.ensures c.in-Ok.ensures.filed c.write_text-in-Ok.ensures.others c.write_text-in-Ok.ensures.failed
+    c.in-Ok.ensures.made c.report_of-text.ensures c.in-Ok.ensures.filed c.in-Ok.ensures.printed c.write_text-in-Ok.ensures.others
+    c.write_text-in-Ok.ensures.failed c.write_text-in-Ok.ensures.kept
 
 pub returns-clause-others : goal.returns-clause-others
 returns-clause-others g c =
     but_made_and_part c.args.records.now (g.F.Files.content c.args.files.now) (g.F.Files.content c.write_text.new.files) (g.F.Files.content c.abandon_output.new.files)
     c.write_text.ensures.others c.abandon_output.ensures.kept
+
+-- the report isn't where it is to be, and the digest wasn't looked at
+pub returns-clause-failed : goal.returns-clause-failed
+returns-clause-failed g c = λ changes shares order. inl (record { why = c.in-Err.ensures.failed; kept = c.in-Err.ensures.kept })

@@ -19,10 +19,15 @@ pub returns-in-Ok-clause-failed : goal.returns-in-Ok-clause-failed
 returns-in-Ok-clause-failed g c =
     where_failed c.write_made.result _ _
     (λ failure left turns changes told order.
-    trace_out c.args.records.now turns changes (g.F.Files.content c.args.files.now) (g.F.Files.content c.write_trace.new.files) (g.F.Files.content c.write_made.new.files) failure
-    (c.in-Ok.ensures.filed turns told.trace) c.write_made.ensures.others (left changes told.sharing order))
+    trace_out (Tells g.F.Output.Write.contents) c.args.records.now turns changes failure
+    (g.F.Files.content c.args.files.now) (g.F.Files.content c.write_trace.new.files) (g.F.Files.content c.write_made.new.files)
+    (g.W.Write.contents c.args.writer.now) (g.W.Write.contents c.write_trace.new.writer) (g.W.Write.contents c.write_made.new.writer)
+    (c.in-Ok.ensures.filed turns told.trace) (c.in-Ok.ensures.printed turns told.trace) c.write_made.ensures.others (left changes told.sharing order))
     c.write_made.ensures.failed
 
 pub returns-in-Err-clause-failed : goal.returns-in-Err-clause-failed
 returns-in-Err-clause-failed g c = λ turns changes told order.
-    inl (c.in-Err.ensures.failed, λ path file trace report digest. c.abandon_made.ensures.kept path report digest ∙ c.write_trace.ensures.others path file trace)
+    inl (record {
+      trace = record { why = c.in-Err.ensures.failed; kept = c.in-Err.ensures.kept };
+      others = λ path file trace report digest. c.abandon_made.ensures.kept path report digest ∙ c.write_trace.ensures.others path file trace;
+    })

@@ -3,7 +3,7 @@ use Rattle.std.proofs.lemmas.List.{take_more}
 use Rattle.std.proofs.lemmas.Option.{slice_get-get_or}
 use Rattle.schedule.specs.declared.event.Event.{Event}
 use Rattle.schedule.specs.declared.event.Event.TheVariants.{Draw}
-use Rattle.schedule_core.specs.Stage.{point_at, tally_of}
+use Rattle.schedule_core.specs.Scene.{point_at, tally_of}
 use Rattle.schedule_core.specs.Tally.{HappenInTurn}
 use Rattle.schedule_core.proofs.Events.{happen_more, happen_none, not_refused, refused_at}
 use Rattle.schedule_core.proofs.world.World.apply_all.Goals as goal

@@ -1,5 +1,5 @@
 use Rattle.std.proofs.Common.{take}
-use Rattle.schedule_core.specs.Stage.{point_at, tally_of}
+use Rattle.schedule_core.specs.Scene.{point_at, tally_of}
 use Rattle.schedule_core.specs.Tally.{HappenInTurn}
 use Rattle.schedule_core.proofs.world.World.apply_all.Given as goal
 

@@ -1,0 +1,122 @@
+-- What the stored state of a schedule tells, and what holds of it.
+use Rattle.std.specs.Prelude.{◌≡◌, ℕ, ◌+◌, ◌<◌, ◌≤◌, Option, Some, None, List, All, length, map, slice_get, sum_by, vec_len}
+use Rattle.std.specs.Vec.{vec_capacity}
+use Rattle.guest_memory.specs.Memory.{Memory}
+use Rattle.hart.specs.HartState.{HartState}
+use Rattle.hart.specs.Segment.{after}
+use Rattle.schedule.specs.Phase.{Counts, begun}
+use Rattle.schedule.specs.declared.advance.Advance.{Advance}
+use Rattle.schedule.specs.declared.fate.Fate.{Fate}
+use Rattle.schedule.specs.declared.fate.Fate.TheVariants as fate
+use Rattle.schedule.specs.declared.worker.Task.{Task}
+use Rattle.schedule.specs.declared.worker.Worker.{Worker}
+use Rattle.schedule.specs.declared.worker.Worker.TheVariants as worker
+use Rattle.token.specs.Point.{Point, IsEndOf, need_at}
+use Rattle.token.specs.RunInTurn.{point_of}
+use Rattle.token.specs.declared.need.Need.TheVariants.{Keeper}
+use Rattle.token.specs.declared.segment_end.SegmentEnd.{SegmentEnd}
+use Rattle.schedule_core.specs.Jobs.{Start, jobs_of, start_of, work_at}
+use Rattle.schedule_core.specs.Running.{IsRunning, advance_of, memory_of}
+use Rattle.schedule_core.specs.Tally.{Tally}
+use Rattle.schedule_core.specs.declared.running.Running.{Running}
+use Rattle.schedule_core.specs.declared.seat.Held.{Held}
+use Rattle.schedule_core.specs.declared.seat.Seat.{Seat}
+use Rattle.schedule_core.specs.declared.seat.Seat.TheVariants.{Idle, Ended, Working}
+use Rattle.schedule_core.specs.declared.slot.Slot.{Slot}
+use Rattle.schedule_core.specs.declared.slot.Slot.TheVariants.{Open, Posted, Skipped}
+use Rattle.schedule_core.specs.declared.scene.Scene.{Scene}
+
+-- what is counted of the job that a worker has
+abbrev pub task_of : Held → Task
+task_of held = record { job = held.job; advance = advance_of held.running; noted = held.noted }
+
+abbrev pub worker_of : Seat → Worker
+worker_of Idle = worker.Idle
+worker_of Ended = worker.Ended
+worker_of (Working held) = worker.Working (task_of held)
+
+abbrev pub fate_of : Slot → Fate
+fate_of Open = fate.Open
+fate_of (Posted end) = fate.Posted
+fate_of Skipped = fate.Skipped
+
+-- what is counted of a phase
+abbrev pub counts_by : ℕ → ℕ → List Seat → List Slot → Counts
+counts_by drawn least seats slots = record { drawn = drawn; least = least; workers = map worker_of seats; fates = map fate_of slots }
+
+-- how far the keeper's segment has come
+abbrev pub keeper_advance : Option Running → Advance
+keeper_advance None = begun
+keeper_advance (Some running) = advance_of running
+
+-- where the turns stand
+abbrev pub point_at : Scene → Point
+point_at scene = point_of scene.serial
+
+abbrev pub counts_of : Scene → Counts
+counts_of scene = counts_by scene.drawn scene.least scene.seats.items scene.slots.items
+
+-- the abstract world that is told
+abbrev pub tally_of : Scene → Tally
+tally_of scene = record { turns = (point_at scene).done; counts = counts_of scene; keeper = keeper_advance scene.keeper }
+
+-- A worker's segment is its job's on the phase's first memory.
+pub record IsHeld (start : Start) (held : Held) : Type 0 where
+  pub running : IsRunning held.running
+  pub job : held.job < length (jobs_of start)
+  pub work : held.running.work ≡ work_at start held.job
+  pub memory : memory_of held.running ≡ start.memory
+
+abbrev pub IsSeat : Start → Seat → Type 0
+IsSeat start Idle = Unit {0}
+IsSeat start Ended = Unit {0}
+IsSeat start (Working held) = IsHeld start held
+
+-- the keeper's segment is the one that the next turn needs, on the present memory
+pub record IsKeepers (point : Point) (segment : Running) : Type 0 where
+  pub running : IsRunning segment
+  pub need : need_at point ≡ Keeper segment.work
+  pub memory : memory_of segment ≡ point.state.memory
+
+abbrev pub IsKeeper : Point → Option Running → Type 0
+IsKeeper point None = Unit {0}
+IsKeeper point (Some running) = IsKeepers point running
+
+-- one for a worker that has found no job left
+abbrev pub one_if_ended : Seat → ℕ
+one_if_ended Idle = 0
+one_if_ended Ended = 1
+one_if_ended (Working held) = 0
+
+-- What holds of the workers' places and the jobs' results in a phase.
+pub record IsDesk (start : Start) (number : ℕ) (places : List Seat) (results : List Slot) : Type 0 where
+  pub seats : All (IsSeat start) places
+  pub slots : (job : ℕ) (end : SegmentEnd) → slice_get results job ≡ Some (Posted end) → IsEndOf start.memory (work_at start job) end
+  pub jobs : length results ≡ length (jobs_of start)
+  pub drawn : number ≤ length results + sum_by one_if_ended places
+  pub few_workers : length places ≤ 64
+  pub few_jobs : length results ≤ 256
+
+abbrev pub start_in : Scene → Start
+start_in scene = start_of (point_at scene)
+
+-- What holds of the stored state.
+pub record IsSound (scene : Scene) : Type 0 where
+  pub desk : IsDesk (start_in scene) scene.drawn scene.seats.items scene.slots.items
+  pub keeper : IsKeeper (point_at scene) scene.keeper
+  pub outcome : scene.outcome ≡ (point_at scene).ended
+  -- there is room for the results and the places of each further phase
+  pub room : 256 ≤ vec_capacity scene.slots
+  pub places : vec_len scene.seats ≤ vec_capacity scene.seats
+
+-- Two stored states tell the same.
+pub record Same (old new : Scene) : Type 0 where
+  pub point : point_at new ≡ point_at old
+  pub tally : tally_of new ≡ tally_of old
+
+-- the hart and the memory of a worker's job: as many times the next instruction from its start on the phase's first memory as its steps
+abbrev pub private_of : Start → Option Worker → Option (HartState × Memory)
+private_of start (Some (worker.Working task)) = after task.advance.steps (work_at start task.job).hart start.memory
+private_of start (Some worker.Idle) = None
+private_of start (Some worker.Ended) = None
+private_of start None = None

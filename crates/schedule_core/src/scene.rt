@@ -1,0 +1,172 @@
+//! The scene of a world: the serial state with the slots and seats of its phase.
+use crate::running::Running;
+use crate::seat::{Held, Seat};
+use crate::slot::Slot;
+use schedule::Event;
+use std::alloc::AllocError;
+use token::{Kept, RunOutcome, Serial, Work};
+
+/// The serial state of a run with the half-run jobs of its present phase.
+#[derive(Drop)]
+pub struct Scene {
+    pub(crate) serial: Serial<Kept>,
+    /// How many numbers were drawn in the phase.
+    pub(crate) drawn: u32,
+    /// The least job that was made known to have ended the run, or the number of jobs.
+    pub(crate) least: u32,
+    /// Each worker's place.
+    pub(crate) seats: Vec<Seat>,
+    /// What has become of each job.
+    pub(crate) slots: Vec<Slot>,
+    /// The segment of the thread that keeps the token, once it has begun.
+    pub(crate) keeper: Option<Running>,
+    /// How the run ended, none while a turn may follow.
+    pub(crate) outcome: Option<RunOutcome>,
+}
+
+impl Scene {
+    ghost use Rattle.std.specs.Prelude.{◌≡◌, ◌<◌, true, length, Some, IfOk, OnOk, OnErr};
+    ghost use Rattle.schedule.specs.Phase.{drawing, is_enabled, made, worker_of as worker_in};
+    ghost use Rattle.schedule.specs.declared.event.Event.TheVariants as event;
+    ghost use Rattle.schedule_core.specs.Jobs.{work_of, verdicts_of};
+    ghost use Rattle.schedule_core.specs.Scene.{IsSound, IsSeat, Same, counts_of, point_at, start_in, tally_of, worker_of};
+
+    /// The segment of a thread in this phase.
+    #[tactic(auto, unfolding(crate::specs::Jobs::work_of))]
+    pub(crate) fn work_of(&self, thread: u32) -> Work
+        requires { thread < length (start_in self.now).threads }
+        ensures { result ≡ work_of (start_in self.now) thread }
+    {
+        let row = self.serial.base_threads().get(thread);
+        Work {
+            thread,
+            hart: row.hart,
+            left: self.serial.bound().saturating_sub(row.executed),
+            quantum: self.serial.quantum(),
+        }
+    }
+
+    /// Whether an event of a worker is enabled.
+    pub(crate) fn allows(&self, worker: u32, event: Event) -> bool
+        requires sound { IsSound self.now }
+        requires there { worker < length self.now.seats.items }
+        requires its { worker_in event ≡ Some worker }
+        ensures { result ≡ is_enabled (verdicts_of (start_in self.now)) (counts_of self.now) event }
+    {
+        match (&self.seats[worker as usize], event) {
+            (Seat::Idle, Event::Draw(_)) => true,
+            (Seat::Working(held), event) => held.allows(self.least, event),
+            _ => false,
+        }
+    }
+
+    /// What a worker is at that draws the next number.
+    pub(crate) fn next_seat(&self) -> Result<Seat, AllocError>
+        requires { IsSound self.now }
+        ensures seat { IfOk result (IsSeat (start_in self.now)) }
+        ensures worker { IfOk result (λ seat. worker_of seat ≡ drawing self.now.drawn (length self.now.slots.items)) }
+    {
+        if self.drawn as usize >= self.slots.len() {
+            return Ok(Seat::Ended);
+        }
+        let jobs = self.serial.base_threads().ready_list();
+        let work = self.work_of(jobs.as_slice()[self.drawn as usize]);
+        let base = self.serial.base().try_clone()?;
+        Ok(Seat::Working(Held {
+            job: self.drawn,
+            noted: false,
+            running: Running::begin(work, base),
+        }))
+    }
+
+    /// A worker draws a number.
+    pub(crate) fn draw(&mut self, worker: u32) -> Result<(), AllocError>
+        requires sound { IsSound self.old }
+        requires there { worker < length self.old.seats.items }
+        requires enabled { is_enabled (verdicts_of (start_in self.old)) (counts_of self.old) (event.Draw worker) ≡ true }
+        ensures sound { IsSound self.new }
+        ensures serial { self.new.serial ≡ self.old.serial }
+        ensures keeper { self.new.keeper ≡ self.old.keeper }
+        ensures ok { OnOk result (counts_of self.new ≡ made (verdicts_of (start_in self.old)) (counts_of self.old) (event.Draw worker)) }
+        ensures err { OnErr result (counts_of self.new ≡ counts_of self.old) }
+    {
+        let seat = self.next_seat()?;
+        self.drawn += 1;
+        self.seats[worker as usize] = seat;
+        Ok(())
+    }
+
+    /// A worker's job goes on by an instruction, or stops.
+    pub(crate) fn step(&mut self, worker: u32) -> Result<(), AllocError>
+        requires sound { IsSound self.old }
+        requires there { worker < length self.old.seats.items }
+        requires enabled { is_enabled (verdicts_of (start_in self.old)) (counts_of self.old) (event.Step worker) ≡ true }
+        ensures sound { IsSound self.new }
+        ensures serial { self.new.serial ≡ self.old.serial }
+        ensures keeper { self.new.keeper ≡ self.old.keeper }
+        ensures ok { OnOk result (counts_of self.new ≡ made (verdicts_of (start_in self.old)) (counts_of self.old) (event.Step worker)) }
+        ensures err { OnErr result (counts_of self.new ≡ counts_of self.old) }
+    {
+        match &mut self.seats[worker as usize] {
+            Seat::Working(held) => held.running.go_on(),
+            _ => Ok(()),
+        }
+    }
+
+    /// A worker makes known that its job has ended the run.
+    pub(crate) fn note(&mut self, worker: u32)
+        requires sound { IsSound self.old }
+        requires there { worker < length self.old.seats.items }
+        requires enabled { is_enabled (verdicts_of (start_in self.old)) (counts_of self.old) (event.Note worker) ≡ true }
+        ensures sound { IsSound self.new }
+        ensures serial { self.new.serial ≡ self.old.serial }
+        ensures keeper { self.new.keeper ≡ self.old.keeper }
+        ensures counts { counts_of self.new ≡ made (verdicts_of (start_in self.old)) (counts_of self.old) (event.Note worker) }
+    {
+        if let Seat::Working(held) = &mut self.seats[worker as usize] {
+            held.noted = true;
+            self.least = self.least.min(held.job);
+        }
+    }
+
+    /// A worker gives its job up.
+    pub(crate) fn skip(&mut self, worker: u32)
+        requires sound { IsSound self.old }
+        requires there { worker < length self.old.seats.items }
+        requires enabled { is_enabled (verdicts_of (start_in self.old)) (counts_of self.old) (event.Skip worker) ≡ true }
+        ensures sound { IsSound self.new }
+        ensures serial { self.new.serial ≡ self.old.serial }
+        ensures keeper { self.new.keeper ≡ self.old.keeper }
+        ensures counts { counts_of self.new ≡ made (verdicts_of (start_in self.old)) (counts_of self.old) (event.Skip worker) }
+    {
+        if let Seat::Working(held) = &self.seats[worker as usize] {
+            let job = held.job as usize;
+            self.seats[worker as usize] = Seat::Idle;
+            self.slots[job] = Slot::Skipped;
+        }
+    }
+
+    /// A worker hands over the result of its job.
+    pub(crate) fn post(&mut self, worker: u32) -> Result<(), AllocError>
+        requires sound { IsSound self.old }
+        requires there { worker < length self.old.seats.items }
+        requires enabled { is_enabled (verdicts_of (start_in self.old)) (counts_of self.old) (event.Post worker) ≡ true }
+        ensures sound { IsSound self.new }
+        ensures serial { self.new.serial ≡ self.old.serial }
+        ensures keeper { self.new.keeper ≡ self.old.keeper }
+        ensures ok { OnOk result (counts_of self.new ≡ made (verdicts_of (start_in self.old)) (counts_of self.old) (event.Post worker)) }
+        ensures err { OnErr result (counts_of self.new ≡ counts_of self.old) }
+    {
+        let Seat::Working(held) = &self.seats[worker as usize] else {
+            return Ok(());
+        };
+        let Some(stop) = held.running.stop else {
+            return Ok(());
+        };
+        let job = held.job as usize;
+        let end = held.running.end(stop)?;
+        self.seats[worker as usize] = Seat::Idle;
+        self.slots[job] = Slot::Posted(end);
+        Ok(())
+    }
+}
