@@ -33,7 +33,10 @@ impl Flag {
 #[derive(Drop)]
 pub struct Tie<'a, R> {
     patience: Patience<'a, R>,
-    came: [Flag; 3],
+    /// Job 0 came, job 1, and job 2.
+    first: Flag,
+    second: Flag,
+    third: Flag,
     late: Flag,
     /// The job that waits for job 2.
     held: u32,
@@ -43,7 +46,9 @@ impl<'a, R: Clock> Tie<'a, R> {
     pub fn new(rt: &'a R, held: u32) -> Result<Self, Fail> {
         Ok(Tie {
             patience: Patience::new(rt)?,
-            came: [Flag::new(), Flag::new(), Flag::new()],
+            first: Flag::new(),
+            second: Flag::new(),
+            third: Flag::new(),
             late: Flag::new(),
             held,
         })
@@ -66,20 +71,20 @@ impl<'a, R: Clock> Gate for Tie<'a, R> {
     fn pass(&self, _worker: u32, job: u32) {
         match job {
             0 => {
-                self.came[0].raise();
-                self.demand(self.patience.wait_for(&self.came[1]));
+                self.first.raise();
+                self.demand(self.patience.wait_for(&self.second));
             }
             1 => {
-                self.came[1].raise();
-                self.demand(self.patience.wait_for(&self.came[0]));
+                self.second.raise();
+                self.demand(self.patience.wait_for(&self.first));
             }
             _ => {
-                self.demand(self.came[0].is_up() && self.came[1].is_up());
-                self.came[2].raise();
+                self.demand(self.first.is_up() && self.second.is_up());
+                self.third.raise();
             }
         }
         if job == self.held {
-            self.demand(self.patience.wait_for(&self.came[2]));
+            self.demand(self.patience.wait_for(&self.third));
         }
     }
 }
