@@ -14,6 +14,10 @@ use token::Start;
 /// The numbers of workers that each run is made with.
 const WORKERS: [u32; 3] = [1, 2, 64];
 
+/// How many instructions a thread may execute here, if its run allows more: more than any of these runs needs. A phase whose
+/// run ends still waits for the jobs that were begun, and one of them may be endless.
+const ENOUGH: u64 = 20_000_000;
+
 /// Compares the trace of a run whose phases are done one by one.
 pub fn compare(
     rt: &(impl Threads + Wait + Sync),
@@ -23,8 +27,9 @@ pub fn compare(
 ) -> Result<()> {
     let image = read(alloc, case.file)?;
     let run = case.run;
+    let bound = case.bound().min(ENOUGH);
     for workers in WORKERS {
-        let start = Start::open(alloc, &image, &run.input, case.bound(), case.quantum())?;
+        let start = Start::open(alloc, &image, &run.input, bound, case.quantum())?;
         let trace = trace_of(rt, alloc, start, workers, &OpenGate)?;
         let how = format!(in alloc; "phase by phase with {workers} workers")?;
         found.expect_text(trace.as_str(), run.trace.as_str(), "trace", how.as_str())?;
