@@ -1,4 +1,4 @@
-"""The functions of C11 and POSIX that a guest program has: the table in docs/C-REFERENCE.md.
+"""The functions of C11 and POSIX that a guest program has: the table in docs/C-FUNCTIONS.md.
 
 guest/reference lists the functions of each standard. A function is there if the library or the C library has it, which nm tells, or
 if its header defines a macro of its name. guest/refused says why others aren't.
@@ -12,7 +12,7 @@ from dt_commands.progress import Progress
 from dt_commands.repository import TOP
 
 KIT = f"{TOP}/guest"
-PAGE = f"{TOP}/docs/C-REFERENCE.md"
+PAGE = f"{TOP}/docs/C-FUNCTIONS.md"
 PICOLIBC = "/usr/lib/picolibc/riscv64-unknown-elf/lib/rv32im/ilp32"
 # The table of the page, and the marks round it.
 TABLE = re.compile(r"(<!-- The table of functions: [^>]*-->)(.*)(?=<!-- The end of the table -->)", re.S)
@@ -135,7 +135,7 @@ def check(options):
 
 
 def write(options):
-    """Writes the table of functions into docs/C-REFERENCE.md."""
+    """Writes the table of functions into docs/C-FUNCTIONS.md."""
     page, found, fresh, _ = compared()
     with open(PAGE, "w", encoding="utf-8") as file:
         file.write(page[: found.start(2)] + fresh + page[found.end(2) :])
