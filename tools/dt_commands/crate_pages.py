@@ -6,9 +6,9 @@ from .repository import TOP
 
 # The list of limits: what is limited, and the crate, the file and the name of the definition with the number.
 LIMITS = [
-    ("host threads", "runtime", "Limits", "workers"),
+    ("host threads", "run_limits", "Limits", "workers"),
     ("bound and quantum, in instructions", "abi", "Limits", "instructions"),
-    ("bytes of the input", "runtime", "Limits", "input"),
+    ("bytes of the input", "run_limits", "Limits", "input"),
     ("bytes of the output", "abi", "Limits", "output"),
     ("heap pages ever given", "guest_memory", "Layout", "heap_pages"),
     ("threads ever created", "abi", "Limits", "threads"),

@@ -1,13 +1,14 @@
 -- What seats have done, one by one and together.
 use Rattle.std.specs.Prelude.{◌≡◌, ℕ, ◌+◌, ◌<◌, Bool, ◌==◌, if◌then◌else◌, List, [], ◌∷◌, ◌++◌, length}
 use Rattle.claim_table.specs.declared.log.Log.{Log}
+use Rattle.run_limits.specs.Limits as limit
 
 -- the most jobs of a phase, and the most seats
 abbrev pub most_jobs : ℕ
 most_jobs = 256
 
 abbrev pub most_seats : ℕ
-most_seats = 64
+most_seats = limit.workers
 
 abbrev pub one_if : Bool → ℕ
 one_if test = if test then 1 else 0

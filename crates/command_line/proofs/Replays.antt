@@ -5,7 +5,7 @@ use Rattle.std.specs.Io.KnownBytes.{Appends}
 use Rattle.std.specs.Option.{option_map_or}
 use Rattle.output_files.specs.Content.{Content}
 use Rattle.runtime.specs.Config.{is_valid}
-use Rattle.runtime.specs.Limits as limit
+use Rattle.run_limits.specs.Limits as limit
 use Rattle.runtime.specs.Span.{is_span}
 use Rattle.runtime.specs.declared.config.Config.{Config}
 use Rattle.schedule.specs.declared.event.Event.{Event}
@@ -16,7 +16,7 @@ use Rattle.command_replay.specs.declared.replay_failure.ReplayFailure.{ReplayFai
 use Rattle.command_line.specs.Replays.{AreOf, Replays}
 
 -- an accepted configuration has 1 to 64 workers
-pub few_workers : (config : Config) → is_valid config ≡ true → (config.workers ≤ 64) × (0 < config.workers)
+pub few_workers : (config : Config) → is_valid config ≡ true → (config.workers ≤ limit.workers) × (0 < config.workers)
 unfolding is_valid
 few_workers config is =
     let last = and_parts (is_span config.bound && option_map_or is_span config.quantum true && nat_le 1 config.workers) (nat_le config.workers limit.workers) is in

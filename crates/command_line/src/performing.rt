@@ -1,7 +1,7 @@
 //! Performs the arguments of a command line over any files and streams, and gives the status.
 ghost use Rattle.std.specs.Prelude.{◌+◌, ◌-◌, ◌^◌, ◌<◌};
 ghost use Rattle.output_files.specs.Taken.{TakesAtMost};
-ghost use Rattle.runtime.specs.Limits as limit;
+ghost use Rattle.run_limits.specs.Limits as limit;
 
 use crate::config::config_of;
 use crate::replaying::replay;

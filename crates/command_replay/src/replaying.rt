@@ -1,6 +1,7 @@
 //! Replays of written schedules, of runs that were opened.
 ghost use Rattle.std.specs.Prelude.{◌≡◌, ℕ, ◌<◌, ◌≤◌, List, IfErr, IfOk, OnOk};
 ghost use Rattle.std.specs.Io.KnownBytes.{Appends};
+ghost use Rattle.run_limits.specs.Limits as limit;
 ghost use Rattle.schedule_core.specs.Scene.{point_at};
 ghost use Rattle.token.specs.RunInTurn.{point_of};
 ghost use Rattle.command_replay.specs.Replayed.{IsCut, IsPrinted, IsReplayed, IsUnprinted};
@@ -55,7 +56,7 @@ pub fn go_through<'a, W: Write>(
     workers: u32,
     stdout: &mut W,
 ) -> Result<Option<RunOutcome>, ReplayFailure<'a>>
-    requires few { workers ≤ 64 }
+    requires few { workers ≤ limit.workers }
     requires some { 0 < workers }
     ensures replayed { IfOk result (λ ended. (text : List ℕ) × IsReplayed (point_of opened.start).setup workers opened.events.items ended text
         × Appends (W.contents stdout.old) (W.contents stdout.new) text) }

@@ -1,11 +1,11 @@
 //! The command line: reads arguments into a request.
 use crate::destination::Destination;
-use crate::limits::{MAX_BOUND, MAX_WORKERS};
 use crate::numbers::Numbers;
 use crate::records::Records;
 use crate::request::Request;
 use clap::error::ErrorKind;
 use clap::{Arg, ArgMatches, Command, Error, value_parser};
+use run_limits::{MAX_BOUND, MAX_WORKERS};
 use std::alloc::{AllocError, Global};
 use std::convert::AsStr;
 

@@ -9,7 +9,7 @@ use Rattle.runtime.specs.Reports.{IsComplete}
 use Rattle.runtime.specs.Run.{IsAccepted, IsRunnable, Refuses, setup_from}
 use Rattle.runtime.specs.Sending.{SendsPrefix}
 use Rattle.runtime.specs.declared.config.Config.{Config}
-use Rattle.runtime.specs.Limits as limit
+use Rattle.run_limits.specs.Limits as limit
 use Rattle.runtime.specs.declared.run_fault.RunFault.TheVariants as run
 use Rattle.token.specs.History.{History, changes_of, outcome, present, turns_of}
 use Rattle.token.specs.RunInTurn.{point_of}

@@ -2,7 +2,7 @@
 ghost use Rattle.std.specs.Prelude.{◌≡◌, ◌+◌, ◌-◌, ◌^◌, ◌<◌, []};
 ghost use Rattle.output_files.specs.Content.{Tells};
 ghost use Rattle.output_files.specs.Taken.{TakesAtMost};
-ghost use Rattle.runtime.specs.Limits as limit;
+ghost use Rattle.run_limits.specs.Limits as limit;
 ghost use Rattle.command_outputs.specs.Records.{NamesNone};
 ghost use Rattle.token.specs.RunInTurn.{point_of};
 ghost use Rattle.command_run.specs.Serves.{Concludes, RunsInto};

@@ -3,7 +3,7 @@ ghost use Rattle.std.specs.Prelude.{◌≡◌, ◌+◌, ◌-◌, ◌^◌, ◌<�
 ghost use Rattle.std.specs.Io.KnownBytes.{Appends};
 ghost use Rattle.output_files.specs.Taken.{TakesAtMost};
 ghost use Rattle.runtime.specs.Faults.{IsUnderWay};
-ghost use Rattle.runtime.specs.Limits as limit;
+ghost use Rattle.run_limits.specs.Limits as limit;
 ghost use Rattle.runtime.specs.Recorded.{Ends};
 ghost use Rattle.runtime.specs.Sending.{SendsEnd};
 ghost use Rattle.token.specs.RunInTurn.{point_of};

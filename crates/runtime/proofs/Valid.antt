@@ -6,7 +6,7 @@ use Rattle.abi.specs.Limits as span
 use Rattle.runtime.specs.Config.{is_valid}
 use Rattle.runtime.specs.Span.{is_span}
 use Rattle.runtime.specs.declared.config.Config.{Config}
-use Rattle.runtime.specs.Limits as limit
+use Rattle.run_limits.specs.Limits as limit
 
 record InSpan (n : ℕ) : Type 0 where
   some : 0 < n

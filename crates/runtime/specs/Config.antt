@@ -1,6 +1,6 @@
 use Rattle.std.specs.Prelude.{Bool, true, ◌&&◌, nat_le}
 use Rattle.std.specs.Option.{option_map_or}
-use Rattle.runtime.specs.Limits as limit
+use Rattle.run_limits.specs.Limits as limit
 use Rattle.runtime.specs.Span.{is_span}
 use Rattle.runtime.specs.declared.config.Config.{Config}
 

@@ -1,6 +1,5 @@
 pub mod Config
 pub mod Faults
-pub mod Limits
 pub mod Recorded
 pub mod Reports
 pub mod Run

@@ -2,7 +2,7 @@
 ghost use Rattle.std.specs.Prelude.{◌≡◌};
 ghost use Rattle.runtime.specs.Span as spec;
 
-use crate::limits::{MAX_BOUND, MAX_WORKERS};
+use run_limits::{MAX_BOUND, MAX_WORKERS};
 
 /// How a file is run.
 #[derive(Clone, Copy, Debug, PartialEq, Eq)]

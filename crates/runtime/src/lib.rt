@@ -3,7 +3,6 @@
 
 mod all_taken;
 mod config;
-mod limits;
 mod opening;
 mod recorded_run;
 mod recording;
@@ -18,13 +17,13 @@ mod turns;
 mod write_sink;
 
 pub use config::Config;
-pub use limits::{MAX_BOUND, MAX_INPUT, MAX_WORKERS};
 pub use phase_jobs::{Gate, OpenGate};
 pub use recorded_run::RecordedRun;
 pub use recording::{open_run, run_opened, run_recorded};
 pub use report::Report;
 pub use run_end::RunEnd;
 pub use run_fault::RunFault;
+pub use run_limits::{MAX_BOUND, MAX_INPUT, MAX_WORKERS};
 pub use running::{run, run_into};
 pub use sink::{Sink, SinkFault};
 pub use token::{Both, Kept, NoRecord, Recorder, RunOutcome, Start};

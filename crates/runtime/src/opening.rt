@@ -2,9 +2,9 @@
 ghost use Rattle.runtime.specs.Run.{Opens};
 
 use crate::config::Config;
-use crate::limits::MAX_INPUT;
 use crate::run_fault::RunFault;
 use elf32_reader::{ElfFault, Image, read};
+use run_limits::MAX_INPUT;
 use std::alloc::Global;
 
 /// The image of a file, where the configuration, the input and the file are in order, looked at in this turn.

@@ -1,13 +1,13 @@
 //! Runs with a recorder.
 ghost use Rattle.std.specs.Prelude.{◌≡◌, ◌-◌, ◌^◌, ◌<◌, ◌≤◌, [], IfErr};
 ghost use Rattle.token.specs.RunInTurn.{point_of};
+ghost use Rattle.run_limits.specs.Limits as limit;
 ghost use Rattle.runtime.specs.Faults.{IsUnderWay};
 ghost use Rattle.runtime.specs.Recorded.{AnswersRecorded, EndsOrRecords};
 ghost use Rattle.runtime.specs.Run.{OpensRun, setup_from};
 ghost use Rattle.runtime.specs.Sending.{CountsFailures, SendsEnd};
 
 use crate::config::Config;
-use crate::limits::MAX_WORKERS;
 use crate::opening::open;
 use crate::recorded_run::RecordedRun;
 use crate::reporting::end_of;
@@ -15,6 +15,7 @@ use crate::run_fault::RunFault;
 use crate::sink::Sink;
 use crate::turns::take_turns;
 use phase_jobs::Gate;
+use run_limits::MAX_WORKERS;
 use std::alloc::Global;
 use std::marker::Brand;
 use std::sync::Wait;
@@ -93,7 +94,7 @@ fn record_serial<R: Threads + Wait + Sync, G: Gate + Sync, S: Sink, K: Recorder>
     sink: &mut S,
 ) -> RecordedRun<K>
     requires output { (point_of serial).state.output ≡ [] }
-    requires workers { (0 < workers) × (workers ≤ 64) }
+    requires workers { (0 < workers) × (workers ≤ limit.workers) }
     requires failures { S.failed sink.old < 2 ^ 64 - 1 }
     ensures end { EndsOrRecords K.records (point_of serial).setup result.result result.recorder }
     ensures fault { IfErr result.result IsUnderWay }

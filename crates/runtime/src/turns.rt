@@ -1,6 +1,7 @@
 //! The turns of a run, in token order, beside the host threads that execute its segments.
 ghost use Rattle.std.specs.Prelude.{◌≡◌, ◌-◌, ◌^◌, ◌<◌, ◌≤◌, Some, IfOk, IfErr, IfSome, OnErr};
 ghost use Rattle.token.specs.RunInTurn.{point_of};
+ghost use Rattle.run_limits.specs.Limits as limit;
 ghost use Rattle.runtime.specs.Sending.{CountsFailures, SendsOn};
 ghost use Rattle.runtime.specs.Turns.{Moves};
 ghost use denote.Param.Send.{IsSync, IsSend};
@@ -228,7 +229,7 @@ pub(crate) fn take_turns<
 ) -> Result<RunOutcome, RunFault>
     requires failures { S.failed sink.old < 2 ^ 64 - 1 }
     requires run { (point_of serial.old).setup ≡ B.setup }
-    requires workers { (0 < workers) × (workers ≤ 64) }
+    requires workers { (0 < workers) × (workers ≤ limit.workers) }
     ensures setup { (point_of serial.new).setup ≡ (point_of serial.old).setup }
     ensures ended { IfOk result (λ outcome. (point_of serial.new).ended ≡ Some outcome) }
     ensures sent { SendsOn result (point_of serial.old).state.output (point_of serial.new).state.output (S.taken sink.old) (S.taken sink.new) }

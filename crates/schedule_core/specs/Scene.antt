@@ -4,6 +4,7 @@ use Rattle.std.specs.Vec.{vec_capacity}
 use Rattle.guest_memory.specs.Memory.{Memory}
 use Rattle.hart.specs.HartState.{HartState}
 use Rattle.hart.specs.Segment.{after}
+use Rattle.run_limits.specs.Limits as limit
 use Rattle.schedule.specs.Phase.{Counts, begun}
 use Rattle.schedule.specs.declared.advance.Advance.{Advance}
 use Rattle.schedule.specs.declared.fate.Fate.{Fate}
@@ -94,7 +95,7 @@ pub record IsDesk (start : Start) (number : ℕ) (places : List Seat) (results :
   pub slots : (job : ℕ) (end : SegmentEnd) → slice_get results job ≡ Some (Posted end) → IsEndOf start.memory (work_at start job) end
   pub jobs : length results ≡ length (jobs_of start)
   pub drawn : number ≤ length results + sum_by one_if_ended places
-  pub few_workers : length places ≤ 64
+  pub few_workers : length places ≤ limit.workers
   pub few_jobs : length results ≤ 256
 
 abbrev pub start_in : Scene → Start

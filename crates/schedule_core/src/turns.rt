@@ -18,6 +18,7 @@ impl Scene {
     ghost use Rattle.schedule.specs.declared.event.Event.TheVariants as event;
     ghost use Rattle.token.specs.Point.{need_at};
     ghost use Rattle.token.specs.declared.need.Need.TheVariants as need;
+    ghost use Rattle.run_limits.specs.Limits as limit;
     ghost use Rattle.schedule_core.specs.Faults.{IsAnswerTo};
     ghost use Rattle.schedule_core.specs.Jobs.{job_of, jobs_of, verdict_by};
     ghost use Rattle.schedule_core.specs.Scene.{IsDesk, IsSound, Same, counts_of, keeper_advance, point_at, start_in, tally_of};
@@ -187,7 +188,7 @@ impl Scene {
         requires desk { (point_at self.old).phase ≡ phase → IsDesk (start_in self.old) self.old.drawn self.old.seats.items self.old.slots.items }
         requires slots { 256 ≤ vec_capacity self.old.slots }
         requires seats { vec_len self.old.seats ≤ vec_capacity self.old.seats }
-        requires few { length self.old.seats.items ≤ 64 }
+        requires few { length self.old.seats.items ≤ limit.workers }
         ensures sound { IsSound self.new }
         ensures serial { self.new.serial ≡ self.old.serial }
         ensures keeper { self.new.keeper ≡ None }
@@ -205,7 +206,7 @@ impl Scene {
         requires outcome { self.old.outcome ≡ (point_at self.old).ended }
         requires slots { 256 ≤ vec_capacity self.old.slots }
         requires seats { vec_len self.old.seats ≤ vec_capacity self.old.seats }
-        requires few { length self.old.seats.items ≤ 64 }
+        requires few { length self.old.seats.items ≤ limit.workers }
         requires keeper { self.old.keeper ≡ None }
         ensures sound { IsSound self.new }
         ensures serial { self.new.serial ≡ self.old.serial }

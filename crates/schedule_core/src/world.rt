@@ -38,8 +38,10 @@ impl Model for World {
 }
 
 impl World {
-    ghost use Rattle.std.specs.Prelude.{◌≡◌, ◌≤◌, ◌<◌, ◌^◌, length, IfOk, IfErr, IfSome, OnOk, OnErr, option_map, slice_get};
+    ghost use Rattle.std.specs.Prelude.{◌≡◌, ◌≤◌, ◌<◌, length, IfOk, IfErr, IfSome, OnOk, OnErr, option_map, slice_get};
+    ghost use Rattle.abi.specs.Limits as span;
     ghost use Rattle.paged_memory.specs.Snapshot.{cells_of};
+    ghost use Rattle.run_limits.specs.Limits as limit;
     ghost use Rattle.twins.specs.View as views;
     ghost use Rattle.schedule.specs.Phase.{begun, opened};
     ghost use Rattle.token.specs.History.{History, turns_of};
@@ -62,11 +64,11 @@ impl World {
         quantum: Option<u64>,
         workers: u32,
     ) -> Result<Self, AllocError>
-        requires bound { bound ≤ 2 ^ 40 }
+        requires bound { bound ≤ span.instructions }
         requires some { 0 < bound }
-        requires quantum { IfSome quantum (λ quantum. quantum ≤ 2 ^ 40) }
+        requires quantum { IfSome quantum (λ quantum. quantum ≤ span.instructions) }
         requires some_quantum { IfSome quantum (λ quantum. 0 < quantum) }
-        requires few { workers ≤ 64 }
+        requires few { workers ≤ limit.workers }
         requires some_workers { 0 < workers }
         ensures setup { IfOk result (λ world. (point_at world).setup ≡ setup_of image.now input.now bound quantum) }
         ensures done { IfOk result (λ world. (point_at world).done ≡ 0) }
@@ -78,7 +80,7 @@ impl World {
 
     /// A run of which no turn is done, for so many workers. Nothing has happened, and the first phase is open.
     pub fn of_start(alloc: Global, start: Start, workers: u32) -> Result<Self, AllocError>
-        requires few { workers ≤ 64 }
+        requires few { workers ≤ limit.workers }
         requires some_workers { 0 < workers }
         ensures point { IfOk result (λ world. point_at world ≡ point_of start) }
         ensures done { IfOk result (λ world. (point_at world).done ≡ 0) }

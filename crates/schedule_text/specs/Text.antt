@@ -1,5 +1,6 @@
 -- The text of a written schedule.
 use Rattle.std.specs.Prelude.{◌≡◌, ◌≢◌, ℕ, ◌+◌, ◌/◌, ◌%◌, ◌<◌, nat_lt, if◌then◌else◌, Option, Some, None, List, [], ◌∷◌, ◌++◌, All, codes, length}
+use Rattle.run_limits.specs.Limits as limit
 use Rattle.schedule.specs.Phase.{worker_of}
 use Rattle.schedule.specs.declared.event.Event.{Event}
 use Rattle.schedule.specs.declared.event.Event.TheVariants.{Draw, Step, Note, Skip, Post, Hold, Turn}
@@ -18,10 +19,10 @@ words_of (Post worker) = codes "post " ++ decimal worker
 words_of Hold = codes "hold"
 words_of Turn = codes "turn"
 
--- a worker of an event has a number below 64
+-- a worker of an event is one of those that there may be
 abbrev pub IsNumber : Option ℕ → Type 0
 IsNumber None = Unit {0}
-IsNumber (Some worker) = worker < 64
+IsNumber (Some worker) = worker < limit.workers
 
 -- an event that can be written
 abbrev pub IsWritable : Event → Type 0

@@ -1,8 +1,10 @@
 //! One line of a schedule.
 ghost use Rattle.std.specs.Prelude.{◌≡◌, ℕ, ◌++◌, ◌∷◌, [], ◌<◌, List, MatchOption, position, ◌==◌};
+ghost use Rattle.run_limits.specs.Limits as limit;
 ghost use Rattle.schedule.specs.declared.event.Event.{Event as AnEvent};
 ghost use Rattle.schedule_text.specs.Text.{IsEvent, IsFirstLine, IsWritable, decimal, words_of};
 
+use run_limits::MAX_WORKERS;
 use schedule::Event;
 
 /// The first line of a text.
@@ -56,7 +58,7 @@ pub(crate) fn event_of(line: &[u8]) -> Option<Event>
 
 /// The number of a worker, 0 to 63, in decimal digits without a leading zero; none where it is no such number.
 fn worker_of(digits: &[u8]) -> Option<u32>
-    ensures { MatchOption result ((worker : ℕ) → worker < 64 → digits.now ≡ decimal worker → ⊥) (λ worker. (worker < 64) × (digits.now ≡ decimal worker)) }
+    ensures { MatchOption result ((worker : ℕ) → worker < limit.workers → digits.now ≡ decimal worker → ⊥) (λ worker. (worker < limit.workers) × (digits.now ≡ decimal worker)) }
 {
     let worker = match digits {
         [ones @ b'0'..=b'9'] => u32::from(*ones - b'0'),
@@ -65,5 +67,9 @@ fn worker_of(digits: &[u8]) -> Option<u32>
         }
         _ => return None,
     };
-    if worker < 64 { Some(worker) } else { None }
+    if worker < MAX_WORKERS {
+        Some(worker)
+    } else {
+        None
+    }
 }

@@ -1,6 +1,6 @@
 //! Measures a phase of four jobs by several workers, and what its parts take.
 ghost use Rattle.std.specs.Prelude.{◌≡◌, ◌⊎◌, ◌+◌, ◌<◌, ◌≤◌, length};
-ghost use Rattle.claim_table.specs.Logs.{most_jobs};
+ghost use Rattle.claim_table.specs.Logs.{most_jobs, most_seats};
 
 use crate::timing::each;
 use anyhow::Result;
@@ -76,7 +76,7 @@ fn phase_time<R: Clock + Threads + Sync>(
     base: &Snapshot,
     count: u64,
 ) -> Result<u128>
-    requires { (length jobs.now ≤ most_jobs) × (0 < workers) × (workers ≤ 64) }
+    requires { (length jobs.now ≤ most_jobs) × (0 < workers) × (workers ≤ most_seats) }
 {
     let start = Instant::now(rt)?;
     for _ in 0..count {

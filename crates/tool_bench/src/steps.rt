@@ -1,5 +1,6 @@
 //! Measures an event of a written schedule that executes an instruction, and the instruction alone.
 ghost use Rattle.std.specs.Prelude.{◌<◌, ◌≤◌};
+ghost use Rattle.run_limits.specs.Limits as limit;
 
 use crate::timing::each;
 use anyhow::{Result, anyhow};
@@ -77,7 +78,7 @@ fn measure_steps_with<R: Clock + Print>(
     count: u64,
 ) -> Result<()>
     requires some { 0 < workers }
-    requires few { workers ≤ 64 }
+    requires few { workers ≤ limit.workers }
 {
     let mut hart = Hart::new(image.entry(), STACK_POINTER, 0, 0);
     let mut view = View::open(Snapshot::of_image(alloc, image)?);

@@ -20,5 +20,5 @@ mod shared_phase;
 
 pub use crew::Crew;
 pub use of_run::OfRun;
-pub use pool::{MOST_WORKERS, Pool};
+pub use pool::Pool;
 pub use post::Post;

@@ -9,6 +9,7 @@ use crate::post::Post;
 use crate::shared_phase::SharedPhase;
 use claim_table::DrawSeat;
 use crossbeam_channel::{Receiver, Sender};
+use run_limits::MAX_WORKERS;
 use std::sync::{Arc, Wait};
 
 /// The caller's ends of what joins it with the workers.
@@ -22,7 +23,7 @@ pub(crate) struct Line<B: OfRun> {
 }
 
 /// How many offers there are at most.
-pub(crate) const MOST_OFFERS: usize = 64;
+pub(crate) const MOST_OFFERS: usize = MAX_WORKERS as usize;
 
 impl<B: OfRun + Send + Sync> Line<B> {
     /// Takes back the offers that nobody took.

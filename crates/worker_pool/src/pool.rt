@@ -24,9 +24,6 @@ use token::{Need, Recorder, SegmentEnd, Serial, Work};
 /// The number of the caller among the host threads of a run.
 const CALLER: u32 = 0;
 
-/// The most host threads of a run.
-pub const MOST_WORKERS: u32 = 64;
-
 /// How many instructions of a job the caller executes alone before it shares its phase out.
 const FIRST: u64 = 4096;
 
