@@ -1,5 +1,5 @@
-/* Threads of POSIX on the machine of dthreads. docs/C.md says of each function what it does here, and how many turns it
- * takes. What this header doesn't declare can't be had. */
+/* Threads of POSIX on the machine of dthreads. docs/C-FUNCTIONS.md says of each function what it does here,
+ * docs/C-REFERENCE.md how many turns it takes. What this header doesn't declare can't be had. */
 #ifndef _PTHREAD_H
 #define _PTHREAD_H
 

@@ -1,4 +1,4 @@
-/* Signals within the one process: docs/C.md says when one is delivered. The numbers are those of Linux. */
+/* Signals within the one process: docs/C-REFERENCE.md says when one is delivered. The numbers are those of Linux. */
 #ifndef _SIGNAL_H_
 #define _SIGNAL_H_
 #define _SYS_SIGNAL_H
