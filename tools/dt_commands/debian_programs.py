@@ -20,7 +20,9 @@ from dt_commands.repository import TOP
 WORKERS = (1, 4, 64)
 BOUND = "1099511627776"
 INPUT_BYTES = 1300000
-LIST = "deb-src [signed-by=/usr/share/keyrings/debian-archive-keyring.gpg] http://deb.debian.org/debian bookworm main\n"
+# The suites that sources are taken from: the first whose archive the mirror has.
+SUITES = ("bookworm", "trixie")
+LIST = "deb-src [signed-by=/usr/share/keyrings/debian-archive-keyring.gpg] http://deb.debian.org/debian {} main\n"
 
 ZLIB = "adler32 crc32 deflate infback inffast inflate inftrees trees zutil compress uncompr"
 BZIP2 = "blocksort huffman crctable randtable compress decompress bzlib"
@@ -121,7 +123,7 @@ class Archives:
         os.makedirs(f"{folder}/lists/partial", exist_ok=True)
         os.makedirs(f"{folder}/cache/archives/partial", exist_ok=True)
         with open(f"{folder}/sources.list", "w", encoding="utf-8") as file:
-            file.write(LIST)
+            file.writelines(LIST.format(suite) for suite in SUITES)
 
     def apt(self, *words):
         options = {"Dir::Etc::sourcelist": "sources.list", "Dir::Etc::sourceparts": "none", "Dir::State::lists": "lists",
@@ -142,7 +144,9 @@ class Archives:
                 say("reading the list of sources")
                 self.apt("update")
                 self.is_listed = True
-            self.apt("source", "--tar-only", "--download-only", package)
+        for suite in SUITES:
+            if not self.find(package):
+                self.apt("source", "--tar-only", "--download-only", f"{package}/{suite}")
         if not self.find(package):
             raise Failure(f"the sources of {package} can't be fetched")
         return self.find(package)
