@@ -1,10 +1,11 @@
 """Programs of Debian: their sources, how each is built, and on what it is tried.
 
 By hand, and only with a network: it fetches the sources of zstd, xz, pigz, plzip, pbzip2, bzip2, lz4, SQLite and Lua by `apt-get
-source`, with lists of its own (no root, no change to the host's lists). It builds each one natively and by dthreads-cc, runs both on
-one input, compares the output byte for byte, and the digests of runs with 1, 4 and 64 workers. Then it prints a table: version, whether
-the output is the host's, whether the digests are one, turns and instructions. Programs in C++ need guest/build-libstdcxx first, SQLite
-needs tclsh. It takes some 20 minutes. DTHREADS names the program to run the guests with, or else ./dthreads.
+source`, with lists of its own (no root, no change to the host's lists). It builds each one natively and by dthreads-cc, runs both
+on one input, compares the output byte for byte, and the digests of runs with 1, 4 and 64 workers. It prints a table, each row once
+it is known: version, whether the output is the host's, whether the digests are one, turns and instructions. Programs in C++ need
+guest/build-libstdcxx first, SQLite needs tclsh. It takes some 20 minutes. DTHREADS names the program to run the guests with, or
+else ./dthreads.
 """
 import glob
 import os
@@ -261,9 +262,10 @@ def test(options):
     """Builds programs of Debian for the guest machine, and compares what they print with what they print on this host."""
     chosen = [one for one in PROGRAMS if not options.names or one.name in options.names]
     failed = 0
+    print(line(["Program", "Version", "Arguments", "The host's output", "One digest", "Turns", "Instructions"]))
+    print(line(["---"] * 7), flush=True)
     with tempfile.TemporaryDirectory() as room:
         archives = Archives(os.path.abspath(options.sources) if options.sources else f"{room}/sources")
-        rows = []
         for program in chosen:
             try:
                 row, is_well = row_of(program, archives, room)
@@ -271,9 +273,5 @@ def test(options):
             except Failure as failure:
                 row, failed = [program.name, str(failure), "", "", "", "", ""], failed + 1
                 say(f"{program.name}: {failure}")
-            rows.append(row)
-    print(line(["Program", "Version", "Arguments", "The host's output", "One digest", "Turns", "Instructions"]))
-    print(line(["---"] * 7))
-    for row in rows:
-        print(line(row))
+            print(line(row), flush=True)
     return 1 if failed else 0
