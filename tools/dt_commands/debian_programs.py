@@ -27,7 +27,7 @@ LIST = "deb-src [signed-by=/usr/share/keyrings/debian-archive-keyring.gpg] http:
 
 ZLIB = "adler32 crc32 deflate infback inffast inflate inftrees trees zutil compress uncompr"
 BZIP2 = "blocksort huffman crctable randtable compress decompress bzlib"
-ZOPFLI = "deflate zopfli_lib blocksplitter katajainen squeeze lz77 hash cache tree util symbols"
+ZOPFLI = "deflate blocksplitter katajainen squeeze lz77 hash cache tree util symbols"
 
 LUA_TEXT = """
 local counts, names = {}, {}
