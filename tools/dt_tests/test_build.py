@@ -270,8 +270,9 @@ class Whole(unittest.TestCase):
         self.assertIn("this is of high", self.said)
         self.assertFalse(os.path.exists(f"{self.top}/{built_from.OF_BUILD}"))
         wrote, asked = self.ran("run", INNER="1")
-        self.assertEqual([it.split()[0] for it in asked], ["high", "run"])
-        self.assertIn("building 2 of 4 crates", self.said)
+        # (with one lane, which is all that little free memory allows, side comes after high)
+        self.assertEqual([it.split()[0] for it in asked if not it.startswith("side")], ["high", "run"])
+        self.assertRegex(self.said, "building [23] of 4 crates")
         self.assertEqual(wrote, "built, run\n")
 
     def test_a_toolchain_with_other_functions_builds_by_its_own_command(self):

@@ -24,7 +24,7 @@ class Definitions(unittest.TestCase):
 
 class Tables(unittest.TestCase):
     def test_numbers_are_written_for_readers(self):
-        self.assertEqual(crate_pages.value("runtime", "Limits", "input"), "16,777,216")
+        self.assertEqual(crate_pages.value("run_limits", "Limits", "input"), "16,777,216")
         self.assertEqual(crate_pages.value("abi", "Limits", "instructions"), "2^40")
 
     def test_each_change_is_named_once(self):
