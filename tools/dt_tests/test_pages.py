@@ -18,8 +18,8 @@ class Definitions(unittest.TestCase):
         self.assertEqual(definitions.used("record { other = count }", items, {}, {}, None), {items["count"]})
 
     def test_names_behind_an_alias(self):
-        found = definitions.used("nat_le 1 limit.workers", {}, {"limit": ("runtime", "specs", "Limits")}, {}, None)
-        self.assertEqual(found, {(("runtime", "specs", "Limits"), "workers")})
+        found = definitions.used("nat_le 1 limit.workers", {}, {"limit": ("run_limits", "specs", "Limits")}, {}, None)
+        self.assertEqual(found, {(("run_limits", "specs", "Limits"), "workers")})
 
 
 class Tables(unittest.TestCase):
