@@ -1,4 +1,4 @@
-"""The table of crates and the list of limits, made of crates.txt, the crate roots and the definitions."""
+"""The page of the crates and the list of limits, made of crates.txt, the crate roots and the definitions."""
 import os
 import re
 
@@ -53,6 +53,12 @@ def table():
         text += f"**{heading}**\n\n| Crate | What it is |\n|---|---|\n"
         text += "".join(f"| `{it}` | {first_sentence(it)} |\n" for it in names) + "\n"
     return text
+
+
+def page():
+    """Returns the page of the crates."""
+    head = "For developers: what each crate is, in the order of `crates.txt`: a crate depends on earlier ones alone."
+    return f"# Crates\n\n{head} `tools/dt write pages` makes this page.\n\n{table()}".rstrip("\n") + "\n"
 
 
 def value(crate, file, name):

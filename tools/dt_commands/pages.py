@@ -1,7 +1,7 @@
 """The generated parts of the pages.
 
-Generated are docs/CONFORMANCE.md as a whole, from tools/changes; the table of crates in docs/ARCHITECTURE.md, from crates.txt and the
-first sentence of each crate root; the limits in docs/GUEST.md, from the definitions; the list of the definitions that the headline
+Generated are docs/CONFORMANCE.md as a whole, from tools/changes; docs/CRATES.md as a whole, from crates.txt and the first sentence of
+each crate root; the limits in docs/GUEST.md, from the definitions; the list of the definitions that the headline
 needs in docs/LAW.md, from the contracts of run, run_into, run_recorded and perform; and man/dthreads.1, from docs/CLI.md. Besides,
 each line of a block marked `antt` must be in the sources, so that no page quotes what isn't there, and each link must lead to a file
 and a heading.
@@ -32,7 +32,7 @@ def pages():
     """Returns each page that has generated parts, with what must be in it."""
     return {
         "docs/CONFORMANCE.md": conformance_page.page(),
-        "docs/ARCHITECTURE.md": with_part("docs/ARCHITECTURE.md", "crates", crate_pages.table()),
+        "docs/CRATES.md": crate_pages.page(),
         "docs/GUEST.md": with_part("docs/GUEST.md", "limits", crate_pages.limits()),
         "docs/LAW.md": with_part("docs/LAW.md", "definitions", definitions.listed()),
         man_page.FILE: man_page.page(),
