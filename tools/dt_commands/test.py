@@ -2,8 +2,9 @@
 
 It proves nothing: `.ci/run` is the verdict. Tests and programs are run as `rt ci` runs them, a program with its files data/, args,
 stdin, stdout and status, but compiled with checks in place of proofs, which makes them up to a hundred times slower. If its folder
-has a file args.unproved, a program is given these words in place of args. The crates that took the longest when they were last run
-here come first.
+has a file args.unproved, a program is given these words in place of args; a file stdout.unproved then has a line `old:` and a line
+`new:`, the line of stdout that these words change and what it becomes. The crates that took the longest when they were last run here
+come first.
 """
 import os
 import re
@@ -71,9 +72,20 @@ def of_tests(said, status):
     return result
 
 
+def wanted_of(folder):
+    """Returns what a program must write, with the line changed that stdout.unproved names."""
+    wanted, change = contents(f"{folder}/stdout") or b"", contents(f"{folder}/stdout.unproved")
+    if not change:
+        return wanted
+    old, new = (line.split(b": ", 1)[1] + b"\n" for line in change.splitlines())
+    if wanted.count(old) != 1:
+        raise SystemExit(f"{folder}/stdout.unproved: its old line must be in stdout once")
+    return wanted.replace(old, new)
+
+
 def of_program(wrote, said, folder):
     """Compares what a program wrote, and the status that `rt try` says it ended with, with what is wanted."""
-    wanted, status = contents(f"{folder}/stdout") or b"", int(contents(f"{folder}/status") or 0)
+    wanted, status = wanted_of(folder), int(contents(f"{folder}/status") or 0)
     ended, why = ENDED.search(said), []
     if not ended:
         return Result("its program", failures=[("its program did not end", said.splitlines()[-SHOWN:])])

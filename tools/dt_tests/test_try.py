@@ -67,6 +67,13 @@ class Programs(unittest.TestCase):
         (what, why), = test.of_program(b"one\nthree\n", ENDED, self.folder).failures
         self.assertIn("line 2 is 'three' and not 'two'", why[0])
 
+    def test_one_line_may_be_another_unproved(self):
+        self.write("stdout", "one\ntwo\n")
+        self.write("status", "7")
+        self.write("stdout.unproved", "old: two\nnew: three\n")
+        self.assertEqual(test.of_program(b"one\nthree\n", ENDED, self.folder).failures, [])
+        self.assertTrue(test.of_program(b"one\ntwo\n", ENDED, self.folder).failures)
+
     def test_without_a_wanted_output_nothing_may_be_written(self):
         self.write("status", "7")
         self.assertTrue(test.of_program(b"one\n", ENDED, self.folder).failures)
