@@ -12,9 +12,9 @@ use Rattle.claim_table.specs.Logs.{times, total, tally, one_if}
 use Rattle.claim_table.specs.Seat.{SeatState, Row}
 use Rattle.claim_table.specs.Draws.{AreDraws, IsDrawnOut}
 use Rattle.claim_table.proofs.Totals.{times_append, times_empty}
-use Rattle.phase_jobs.specs.declared.drawn.Drawn.{Drawn}
-use Rattle.phase_jobs.specs.declared.outcome.Outcome.{Outcome}
-use Rattle.phase_jobs.specs.declared.outcome.Outcome.TheVariants.{Ran, Skipped}
+use Rattle.parallel_phase.specs.declared.drawn.Drawn.{Drawn}
+use Rattle.parallel_phase.specs.declared.outcome.Outcome.{Outcome}
+use Rattle.parallel_phase.specs.declared.outcome.Outcome.TheVariants.{Ran, Skipped}
 use Rattle.phase_jobs.specs.SharedJobs.{PhaseState, SawBelow}
 use Rattle.parallel_phase.specs.Work.{WorkState, FitsNumber, Fits, IsOver, IsWorkOf}
 use Rattle.parallel_phase.specs.Outcomes.{EndsBelow, IsFate, AreFates, IsWhole, filed}

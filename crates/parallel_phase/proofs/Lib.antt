@@ -1,4 +1,4 @@
-pub mod Stages
+pub mod Slices
 pub mod Works
 pub mod Events
 pub mod Scheduling

@@ -9,7 +9,8 @@ use Rattle.guest_memory.specs.Memory.{Memory}
 use Rattle.paged_memory.specs.Snapshot.{cells_of}
 use Rattle.hart.specs.HartState.{HartState}
 use Rattle.hart.specs.Next.{next}
-use Rattle.hart.specs.Segment.{Segment, after, stop_at, stop_after, counted}
+use Rattle.hart.specs.Segment as of_hart
+use Rattle.hart.specs.Segment.{after, stop_at, stop_after, counted}
 use Rattle.hart.specs.declared.stop.Stop.{Stop}
 use Rattle.hart.specs.declared.stop.Stop.TheVariants.{Trap, Ecall, Quantum}
 use Rattle.claim_table.specs.Logs.{times, total}
@@ -20,14 +21,14 @@ use Rattle.schedule.specs.declared.event.Event.{Event}
 use Rattle.schedule.specs.declared.fate.Fate.{Fate}
 use Rattle.schedule.specs.declared.fate.Fate.TheVariants as fate
 use Rattle.parallel_phase.specs.Events.{AreByEvents, TakeInOrder, LeadTo, events_of, fate_of, steps_to, verdict_of_job, verdicts}
-use Rattle.phase_jobs.specs.Job.{IsRanOf}
+use Rattle.parallel_phase.specs.Ran.{IsRanOf}
 use Rattle.parallel_phase.specs.Outcomes.{AreFates, IsWhole, filed}
-use Rattle.phase_jobs.specs.Outcome.{ends}
+use Rattle.parallel_phase.specs.Outcome.{ends}
 use Rattle.phase_jobs.specs.SharedJobs.{PhaseState, SawBelow}
 use Rattle.parallel_phase.specs.Work.{WorkState, FitsNumber, Fits}
-use Rattle.phase_jobs.specs.declared.job.Job.{Job}
-use Rattle.phase_jobs.specs.declared.outcome.Outcome.{Outcome}
-use Rattle.phase_jobs.specs.declared.outcome.Outcome.TheVariants.{Ran, Skipped}
+use Rattle.segment.specs.declared.segment.Segment.{Segment}
+use Rattle.parallel_phase.specs.declared.outcome.Outcome.{Outcome}
+use Rattle.parallel_phase.specs.declared.outcome.Outcome.TheVariants.{Ran, Skipped}
 use Rattle.parallel_phase.proofs.Events.{idle, does_nothing, leads_on, least_after, ran_one, skipped_one}
 use Rattle.parallel_phase.proofs.Fates.{AreWorks, all_at, at_number, counted_by, drawn_by, drawn_of, filed_length, logs_of, nothing_there, number_at, numbers, once, part_of_total, some_is, stands_once, total_drawn, work_of}
 
@@ -106,7 +107,7 @@ all_jobs v works number least past (o ∷ os) long is each =
       rest.4 ∙ append_assoc past (fate_of o ∷ []) (map fate_of os),
     )
 
-pub scheduled : (jobs : List Job) (memory : Memory) (works : List WorkState) (outcomes : List Outcome) → length outcomes ≡ length jobs
+pub scheduled : (jobs : List Segment) (memory : Memory) (works : List WorkState) (outcomes : List Outcome) → length outcomes ≡ length jobs
     → ((number : ℕ) (outcome : Outcome) → slice_get outcomes number ≡ Some outcome → Knows (verdicts jobs memory) works number outcome)
     → (events : List Event) × TakeInOrder works 0 outcomes events × LeadTo jobs memory (length works) events outcomes
 unfolding opened
@@ -120,11 +121,11 @@ goes_at : (left : ℕ) (quantum : Option ℕ) (steps : ℕ) (state : Option (Har
 goes_at left quantum steps None is = refl
 goes_at left quantum steps (Some s) is = ap (verdict_of s.0) is
 
-segment_goes : (hart : HartState) (memory : Memory) (left : ℕ) (quantum : Option ℕ) (stop : Stop) (count : ℕ) (last : HartState) (cells : Memory) (s : Segment hart memory left quantum stop count last cells) (k : ℕ) → k < s.steps → verdict_after hart memory left quantum k ≡ GoesOn
+segment_goes : (hart : HartState) (memory : Memory) (left : ℕ) (quantum : Option ℕ) (stop : Stop) (count : ℕ) (last : HartState) (cells : Memory) (s : of_hart.Segment hart memory left quantum stop count last cells) (k : ℕ) → k < s.steps → verdict_after hart memory left quantum k ≡ GoesOn
 unfolding verdict_after stop_after
 segment_goes hart memory left quantum stop count last cells s k below = goes_at left quantum k (after k hart memory) (s.running k below)
 
-segment_stops : (hart : HartState) (memory : Memory) (left : ℕ) (quantum : Option ℕ) (stop : Stop) (count : ℕ) (last : HartState) (cells : Memory) (s : Segment hart memory left quantum stop count last cells)
+segment_stops : (hart : HartState) (memory : Memory) (left : ℕ) (quantum : Option ℕ) (stop : Stop) (count : ℕ) (last : HartState) (cells : Memory) (s : of_hart.Segment hart memory left quantum stop count last cells)
     → verdict_after hart memory left quantum s.steps ≡ (if ends_run last stop then EndsRun else Stops)
 unfolding verdict_after stop_after
 segment_stops hart memory left quantum stop count last cells s =
@@ -189,13 +190,13 @@ module _ (phase : PhaseState) (works : List WorkState) (start : List Outcome) (a
       → AreFates phase.jobs (cells_of phase.base) ends_as → Came (verdicts phase.jobs (cells_of phase.base)) works number work.seat outcome
   came_is number at work (Ran ran) inside is noted found fates =
       let ran_is : IsRanOf phase.jobs (cells_of phase.base) number ran = fates.each number (Ran ran) found in
-      let s = ran_is.over.segment in
+      let s = ran_is.over.segment_is in
       let memory = cells_of phase.base in (
         s.steps,
         ends_run ran.end.hart ran.end.stop,
         count_steps ran.end.stop s.steps ran.end.count s.count_is,
-        λ k below. ap (λ (job : Option Job). verdict_of_job memory job k) ran_is.job_is ∙ segment_goes _ _ _ _ _ _ _ _ s k below,
-        ap (λ (job : Option Job). verdict_of_job memory job s.steps) ran_is.job_is ∙ segment_stops _ _ _ _ _ _ _ _ s,
+        λ k below. ap (λ (job : Option Segment). verdict_of_job memory job k) ran_is.job_is ∙ segment_goes _ _ _ _ _ _ _ _ s k below,
+        ap (λ (job : Option Segment). verdict_of_job memory job s.steps) ran_is.job_is ∙ segment_stops _ _ _ _ _ _ _ _ s,
         λ some. noted_ends at work number (Ran ran) is some found,
       )
   came_is number at work Skipped inside is noted found fates =
@@ -225,9 +226,9 @@ module _ (phase : PhaseState) (works : List WorkState) (start : List Outcome) (a
       }
 
 -- so many workers do as well
-pub led : {A E : Type 0} (outcomes_of : A → List Outcome) (jobs of_jobs : List Job) (memory of_memory : Memory) (works : List WorkState) (workers : ℕ) (result : Result A E) → of_jobs ≡ jobs → of_memory ≡ memory → length works ≤ workers
+pub led : {A E : Type 0} (outcomes_of : A → List Outcome) (jobs of_jobs : List Segment) (memory of_memory : Memory) (works : List WorkState) (workers : ℕ) (result : Result A E) → of_jobs ≡ jobs → of_memory ≡ memory → length works ≤ workers
     → IfOk result (λ value. AreByEvents of_jobs of_memory works (outcomes_of value))
     → IfOk result (λ value. (seats : ℕ) × (events : List Event) × (seats ≤ workers) × LeadTo jobs memory seats events (outcomes_of value))
 led outcomes_of jobs of_jobs memory of_memory works workers (Ok value) same_jobs same_memory within by =
-    (length works, by.0, within, subst (λ (m : Memory). LeadTo jobs m (length works) by.0 (outcomes_of value)) same_memory (subst (λ (js : List Job). LeadTo js of_memory (length works) by.0 (outcomes_of value)) same_jobs by.2))
+    (length works, by.0, within, subst (λ (m : Memory). LeadTo jobs m (length works) by.0 (outcomes_of value)) same_memory (subst (λ (js : List Segment). LeadTo js of_memory (length works) by.0 (outcomes_of value)) same_jobs by.2))
 led outcomes_of jobs of_jobs memory of_memory works workers (Err error) same_jobs same_memory within by = by

@@ -10,11 +10,11 @@ use Rattle.claim_table.specs.declared.log.Log.{Log}
 use Rattle.claim_table.specs.Logs.{times, new_log, with_drawn, with_end}
 use Rattle.claim_table.specs.Seat.{SeatState}
 use Rattle.claim_table.proofs.Totals.{times_push, times_empty}
-use Rattle.phase_jobs.specs.declared.job.Job.{Job}
-use Rattle.phase_jobs.specs.declared.drawn.Drawn.{Drawn}
-use Rattle.phase_jobs.specs.declared.outcome.Outcome.{Outcome}
-use Rattle.phase_jobs.specs.declared.outcome.Outcome.TheVariants.{Ran, Skipped}
-use Rattle.phase_jobs.specs.Outcome.{IsOutcome, ends}
+use Rattle.segment.specs.declared.segment.Segment.{Segment}
+use Rattle.parallel_phase.specs.declared.drawn.Drawn.{Drawn}
+use Rattle.parallel_phase.specs.declared.outcome.Outcome.{Outcome}
+use Rattle.parallel_phase.specs.declared.outcome.Outcome.TheVariants.{Ran, Skipped}
+use Rattle.parallel_phase.specs.Outcome.{IsOutcome, ends}
 use Rattle.phase_jobs.specs.SharedJobs.{Looks, SawBelow, noted_if}
 use Rattle.parallel_phase.specs.Work.{Works, FitsNumber, Fits, HasEnd, AreOutcomes, AreOver, IsOver}
 
@@ -26,12 +26,12 @@ rest_is : (test : Bool) (log : Log) (number : ℕ) → ((noted_if test log numbe
 rest_is true log number = (refl, refl, refl)
 rest_is false log number = (refl, refl, refl)
 
-same_outcome : (jobs : List Job) (memory : Memory) (a b : Log) (number : ℕ) (outcome : Outcome) → b.seen ≡ a.seen → IsOutcome jobs memory a number outcome → IsOutcome jobs memory b number outcome
+same_outcome : (jobs : List Segment) (memory : Memory) (a b : Log) (number : ℕ) (outcome : Outcome) → b.seen ≡ a.seen → IsOutcome jobs memory a number outcome → IsOutcome jobs memory b number outcome
 same_outcome jobs memory a b number (Ran ran) same is = is
 same_outcome jobs memory a b number Skipped same is = (is.0, is.1, rw same is.2)
 
 -- a seat drew, looked, and noted where it was to
-pub works : (jobs : List Job) (memory : Memory) (old mid looked new : SeatState) (drawn : Drawn)
+pub works : (jobs : List Segment) (memory : Memory) (old mid looked new : SeatState) (drawn : Drawn)
     → mid ≡ record old { log = with_drawn old.log drawn.number } → Looks mid looked
     → new ≡ record looked { log = noted_if (ends drawn.outcome) looked.log drawn.number }
     → IsOutcome jobs memory looked.log drawn.number drawn.outcome → length mid.log.drawn ≤ length jobs
@@ -59,11 +59,11 @@ fits_more : (a b : Log) (number : ℕ) (outcome : Outcome) → ((k : ℕ) → 0 
 fits_more a b number (Ran ran) seen fits = fits
 fits_more a b number Skipped seen fits = more_seen a b number seen fits
 
-fits_new : (jobs : List Job) (memory : Memory) (log : Log) (number : ℕ) (outcome : Outcome) → IsOutcome jobs memory log number outcome → FitsNumber log number outcome
+fits_new : (jobs : List Segment) (memory : Memory) (log : Log) (number : ℕ) (outcome : Outcome) → IsOutcome jobs memory log number outcome → FitsNumber log number outcome
 fits_new jobs memory log number (Ran ran) is = is.number_is
 fits_new jobs memory log number Skipped is = is
 
-over_new : (jobs : List Job) (memory : Memory) (log : Log) (number : ℕ) (outcome : Outcome) → IsOutcome jobs memory log number outcome → IsOver jobs memory outcome
+over_new : (jobs : List Segment) (memory : Memory) (log : Log) (number : ℕ) (outcome : Outcome) → IsOutcome jobs memory log number outcome → IsOver jobs memory outcome
 over_new jobs memory log number (Ran ran) is = record { number_is = refl; job_is = rw is.number_is is.job_is; memory_is = is.memory_is; over = is.over }
 over_new jobs memory log number Skipped is = tt
 
@@ -85,14 +85,14 @@ noted_more true outcomes drawn noted is each number was = ⊎_elim
     (λ (none : times number noted ≤ 0). let more = times_push number drawn.number noted in (length outcomes, drawn, get_last outcomes drawn, grind (arith, nat_tests), is)) (cases_lt 0 (times number noted))
 
 -- one more job
-pub outcomes_more : (jobs : List Job) (memory : Memory) (old new : SeatState) (outcomes : List Drawn) (drawn : Drawn) → Works jobs memory old new drawn → AreOutcomes old.log outcomes → AreOutcomes new.log (outcomes ++ drawn ∷ [])
+pub outcomes_more : (jobs : List Segment) (memory : Memory) (old new : SeatState) (outcomes : List Drawn) (drawn : Drawn) → Works jobs memory old new drawn → AreOutcomes old.log outcomes → AreOutcomes new.log (outcomes ++ drawn ∷ [])
 outcomes_more jobs memory old new outcomes drawn works are = record {
   numbers = map-append (λ (d : Drawn). d.number) outcomes (drawn ∷ []) ∙ ap (λ (ns : List ℕ). ns ++ drawn.number ∷ []) are.numbers ∙ sym works.drawn_is;
   each = All-push (Fits new.log) outcomes drawn (λ k d below. fits_more old.log new.log _ _ works.seen (are.each k d below)) (fits_new jobs memory new.log drawn.number drawn.outcome works.outcome);
   noted = λ number was. noted_more (ends drawn.outcome) outcomes drawn old.log.noted refl are.noted number (subst (λ (ns : List ℕ). 0 < times number ns) works.noted was);
 }
 
-pub over_more : (jobs : List Job) (memory : Memory) (old new : SeatState) (outcomes : List Drawn) (drawn : Drawn) → Works jobs memory old new drawn → AreOver jobs memory outcomes → AreOver jobs memory (outcomes ++ drawn ∷ [])
+pub over_more : (jobs : List Segment) (memory : Memory) (old new : SeatState) (outcomes : List Drawn) (drawn : Drawn) → Works jobs memory old new drawn → AreOver jobs memory outcomes → AreOver jobs memory (outcomes ++ drawn ∷ [])
 over_more jobs memory old new outcomes drawn works over = All-push (λ (d : Drawn). IsOver jobs memory d.outcome) outcomes drawn over (over_new jobs memory new.log drawn.number drawn.outcome works.outcome)
 
 pub outcomes_end : (old new : SeatState) (outcomes : List Drawn) → new ≡ record old { log = with_end old.log } → AreOutcomes old.log outcomes → AreOutcomes new.log outcomes

@@ -12,16 +12,16 @@ use Rattle.schedule.specs.declared.event.Event.TheVariants.{Draw, Step, Note, Sk
 use Rattle.schedule.specs.declared.fate.Fate.{Fate}
 use Rattle.schedule.specs.declared.fate.Fate.TheVariants as fate
 use Rattle.parallel_phase.specs.Work.{WorkState}
-use Rattle.phase_jobs.specs.declared.job.Job.{Job}
-use Rattle.phase_jobs.specs.declared.outcome.Outcome.{Outcome}
-use Rattle.phase_jobs.specs.declared.outcome.Outcome.TheVariants.{Ran, Skipped}
+use Rattle.segment.specs.declared.segment.Segment.{Segment}
+use Rattle.parallel_phase.specs.declared.outcome.Outcome.{Outcome}
+use Rattle.parallel_phase.specs.declared.outcome.Outcome.TheVariants.{Ran, Skipped}
 
 -- what a job on this memory comes to after so many steps; a number that is no job's has no end
-abbrev pub verdict_of_job : Memory → Option Job → ℕ → Verdict
+abbrev pub verdict_of_job : Memory → Option Segment → ℕ → Verdict
 verdict_of_job memory None steps = GoesOn
 verdict_of_job memory (Some job) steps = verdict_after job.hart memory job.left job.quantum steps
 
-abbrev pub verdicts : List Job → Memory → Verdicts
+abbrev pub verdicts : List Segment → Memory → Verdicts
 verdicts jobs memory = λ number. verdict_of_job memory (slice_get jobs number)
 
 -- a job that was run is posted, and a skipped one skipped
@@ -53,11 +53,11 @@ TakeInOrder works number (outcome ∷ outcomes) events =
 
 -- The events, each enabled, lead from the beginning of a phase of these jobs to one where exactly those that were run are posted, and the
 -- others skipped.
-pub record LeadTo (jobs : List Job) (memory : Memory) (workers : ℕ) (events : List Event) (outcomes : List Outcome) : Type 0 where
+pub record LeadTo (jobs : List Segment) (memory : Memory) (workers : ℕ) (events : List Event) (outcomes : List Outcome) : Type 0 where
   pub after : Counts
   pub leads : Leads (verdicts jobs memory) (opened (length jobs) workers) events after
   pub fates : after.fates ≡ map fate_of outcomes
 
 -- one list of events takes the jobs in order by the seats of these works, each event enabled, and leads to these outcomes
-abbrev pub AreByEvents : List Job → Memory → List WorkState → List Outcome → Type 0
+abbrev pub AreByEvents : List Segment → Memory → List WorkState → List Outcome → Type 0
 AreByEvents jobs memory works outcomes = (events : List Event) × TakeInOrder works 0 outcomes events × LeadTo jobs memory (length works) events outcomes

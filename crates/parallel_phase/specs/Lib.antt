@@ -1,3 +1,5 @@
+pub mod Ran
+pub mod Outcome
 pub mod Work
 pub mod Outcomes
 pub mod Events

@@ -5,16 +5,16 @@ use Rattle.paged_memory.specs.Snapshot.{cells_of}
 use Rattle.claim_table.specs.declared.log.Log.{Log}
 use Rattle.claim_table.specs.Logs.{times, with_drawn}
 use Rattle.claim_table.specs.Seat.{SeatState}
-use Rattle.phase_jobs.specs.Job.{IsRanOf}
-use Rattle.phase_jobs.specs.Outcome.{IsOutcome, ends}
+use Rattle.parallel_phase.specs.Ran.{IsRanOf}
+use Rattle.parallel_phase.specs.Outcome.{IsOutcome, ends}
 use Rattle.phase_jobs.specs.SharedJobs.{Looks, PhaseState, SawBelow}
-use Rattle.phase_jobs.specs.declared.job.Job.{Job}
-use Rattle.phase_jobs.specs.declared.drawn.Drawn.{Drawn}
-use Rattle.phase_jobs.specs.declared.outcome.Outcome.{Outcome}
-use Rattle.phase_jobs.specs.declared.outcome.Outcome.TheVariants.{Ran, Skipped}
+use Rattle.segment.specs.declared.segment.Segment.{Segment}
+use Rattle.parallel_phase.specs.declared.drawn.Drawn.{Drawn}
+use Rattle.parallel_phase.specs.declared.outcome.Outcome.{Outcome}
+use Rattle.parallel_phase.specs.declared.outcome.Outcome.TheVariants.{Ran, Skipped}
 
 -- a seat drew a job, this became of it, and it was noted where the run ends by it
-pub record Works (jobs : List Job) (memory : Memory) (old new : SeatState) (drawn : Drawn) : Type 0 where
+pub record Works (jobs : List Segment) (memory : Memory) (old new : SeatState) (drawn : Drawn) : Type 0 where
   pub row : new.row ≡ old.row
   pub number : new.number ≡ old.number
   pub drawn_is : new.log.drawn ≡ old.log.drawn ++ drawn.number ∷ []
@@ -25,7 +25,7 @@ pub record Works (jobs : List Job) (memory : Memory) (old new : SeatState) (draw
   pub room : length new.log.drawn ≤ length jobs
 
 -- a seat drew one of these jobs, and then did nothing but look
-pub record OnlyDraws (jobs : List Job) (old new : SeatState) : Type 0 where
+pub record OnlyDraws (jobs : List Segment) (old new : SeatState) : Type 0 where
   pub number : ℕ
   pub inside : number < length jobs
   pub looks : Looks (record old { log = with_drawn old.log number }) new
@@ -50,11 +50,11 @@ pub record AreOutcomes (log : Log) (outcomes : List Drawn) : Type 0 where
   pub noted : (number : ℕ) → 0 < times number log.noted → HasEnd outcomes number
 
 -- a job that was run is one of these, run on this memory
-abbrev pub IsOver : List Job → Memory → Outcome → Type 0
+abbrev pub IsOver : List Segment → Memory → Outcome → Type 0
 IsOver jobs memory (Ran ran) = IsRanOf jobs memory ran.number ran
 IsOver jobs memory Skipped = Unit {0}
 
-abbrev pub AreOver : List Job → Memory → List Drawn → Type 0
+abbrev pub AreOver : List Segment → Memory → List Drawn → Type 0
 AreOver jobs memory outcomes = All (λ drawn. IsOver jobs memory drawn.outcome) outcomes
 
 -- the work of a seat: what it did, what became of its jobs, and whether memory was refused

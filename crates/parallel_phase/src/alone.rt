@@ -2,25 +2,11 @@
 
 ghost use Rattle.std.specs.Prelude.{◌<◌, length, IfOk};
 ghost use Rattle.paged_memory.specs.Snapshot.{cells_of};
-ghost use Rattle.phase_jobs.specs.Job.{IsJobEnd, IsRanOf};
+ghost use Rattle.parallel_phase.specs.Ran.{IsRanOf};
 
 use crate::phase::Phase;
-use paged_memory::Snapshot;
-use phase_jobs::{Job, JobEnd, Progress, Ran, SLICE, Underway};
+use crate::ran::Ran;
 use std::alloc::AllocError;
-
-/// Runs a job to its end.
-fn end_of(job: Job, base: &Snapshot) -> Result<JobEnd, AllocError>
-    ensures { IfOk result (IsJobEnd (cells_of base.now) job) }
-{
-    let mut progress = Underway::begin(job, base, SLICE)?;
-    loop {
-        match progress {
-            Progress::GoesOn(underway) => progress = underway.go_on(SLICE)?,
-            Progress::Over(end) => return Ok(end),
-        }
-    }
-}
 
 impl Phase {
     /// Runs a job, whoever drew it.
@@ -28,7 +14,7 @@ impl Phase {
         requires { number < length self.now.jobs }
         ensures { IfOk result (IsRanOf self.now.jobs (cells_of self.now.base) number) }
     {
-        let end = end_of(self.jobs()[number as usize], self.base())?;
+        let end = self.jobs()[number as usize].run(self.base())?;
         let base = self.base().try_clone()?;
         Ok(Ran::new(number, self.jobs()[number as usize], base, end))
     }

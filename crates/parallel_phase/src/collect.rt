@@ -6,10 +6,11 @@ ghost use Rattle.parallel_phase.specs.Events.{AreByEvents};
 ghost use Rattle.parallel_phase.specs.Outcomes.{AreFates, IsWhole, filed};
 ghost use Rattle.parallel_phase.specs.Work.{IsWorkOf};
 
+use crate::drawn::Drawn;
+use crate::outcome::Outcome;
 use crate::phase::Phase;
 use crate::work_done::WorkDone;
 use claim_table::DrawSeat;
-use phase_jobs::{Drawn, Outcome};
 use std::alloc::{AllocError, Global};
 
 /// As many skipped jobs.

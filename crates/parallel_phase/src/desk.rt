@@ -1,15 +1,17 @@
 //! What the workers of a phase taken in order share with the taker of turns.
 ghost use Rattle.std.specs.Prelude.{◌≡◌, ◌<◌, length, IfOk};
 ghost use Rattle.paged_memory.specs.Snapshot.{cells_of};
-ghost use Rattle.phase_jobs.specs.Job.{IsRanOf};
+ghost use Rattle.parallel_phase.specs.Ran.{IsRanOf};
 ghost use Rattle.parallel_phase.specs.Turns.{AreWaiting};
 
 use crate::collect::all_skipped;
 use crate::message::{Message, PhaseName};
+use crate::outcome::Outcome;
 use crate::phase::Phase;
+use crate::ran::Ran;
 use claim_table::DrawSeat;
 use crossbeam_channel::Receiver;
-use phase_jobs::{Gate, Outcome, Ran};
+use phase_jobs::Gate;
 use std::alloc::AllocError;
 use std::sync::Wait;
 

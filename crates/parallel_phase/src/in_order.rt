@@ -14,7 +14,8 @@ use crate::whole_phase::seats_for;
 use claim_table::DrawSeat;
 use crossbeam_channel::{Receiver, bounded};
 use paged_memory::Snapshot;
-use phase_jobs::{Gate, Job};
+use phase_jobs::Gate;
+use segment::Segment;
 use std::alloc::{AllocError, Global};
 use std::marker::Brand;
 use std::sync::Wait;
@@ -124,7 +125,7 @@ impl Phase {
 pub fn run_in_order<G: Gate + Sync, R: Threads + Wait + Sync, T: TurnTaker>(
     rt: &R,
     alloc: Global,
-    jobs: &[Job],
+    jobs: &[Segment],
     workers: u32,
     gate: &G,
     base: &Snapshot,

@@ -7,9 +7,12 @@
 mod alone;
 mod collect;
 mod desk;
+mod drawn;
 mod in_order;
 mod message;
+mod outcome;
 mod phase;
+mod ran;
 mod sending;
 mod taker_stage;
 mod turn_taker;
@@ -18,9 +21,13 @@ mod whole_phase;
 mod work_done;
 
 pub use claim_table::DrawSeat;
+pub use drawn::Drawn;
 pub use in_order::run_in_order;
+pub use outcome::Outcome;
 pub use phase::Phase;
-pub use phase_jobs::{Drawn, Gate, Job, JobEnd, OpenGate, Outcome, Ran};
+pub use phase_jobs::{Gate, OpenGate};
+pub use ran::Ran;
+pub use segment::{Segment as Job, SegmentEnd};
 pub use taker_stage::TakerStage;
 pub use turn_taker::TurnTaker;
 pub use whole_phase::run_phase;

@@ -1,15 +1,15 @@
 //! A job's result as a worker sends it, with the fact whose result it is.
 ghost use Rattle.std.specs.Prelude.{◌≡◌, List};
 ghost use Rattle.guest_memory.specs.Memory.{Memory};
-ghost use Rattle.phase_jobs.specs.declared.job.Job.{Job};
+ghost use Rattle.segment.specs.declared.segment.Segment.{Segment};
 ghost use Rattle.parallel_phase.specs.Turns.{IsSent};
 
-use phase_jobs::Drawn;
+use crate::drawn::Drawn;
 use std::marker::{Brand, Model, PhantomData};
 
 /// Which jobs and which memory the messages of a call are of. Each call picks them.
 pub trait PhaseName {
-    ghost jobs: { List Job };
+    ghost jobs: { List Segment };
 
     ghost memory: { Memory };
 }
@@ -33,7 +33,7 @@ impl<J: PhaseName> Model for Message<J> {
     ghost use Rattle.std.specs.Prelude.{Option};
     ghost use Rattle.std.specs.Coded.{codes};
     ghost use Rattle.commit.specs.contracts.patch.Patch as patch;
-    ghost use Rattle.phase_jobs.specs.declared.drawn.Drawn.{Drawn};
+    ghost use Rattle.parallel_phase.specs.declared.drawn.Drawn.{Drawn};
     ghost use Rattle.parallel_phase.specs.Turns.{IsSent};
 
     ghost Value = { Option Drawn };

@@ -1,18 +1,24 @@
 //! A phase from its opening to what became of each job: its seats draw and run its jobs, each for itself.
 
-ghost use Rattle.std.specs.Prelude.{◌≡◌, ◌+◌, ◌<◌, ◌≤◌, length, true, false, IfOk, IfSome, IfNone, OnErr, OnSome, map};
+ghost use Rattle.std.specs.Prelude.{◌≡◌, ◌+◌, ◌<◌, ◌≤◌, length, true, false, IfOk, IfSome, IfNone, OnErr, OnSome, map, option_map};
 ghost use Rattle.std.specs.List.{range_with_len};
 ghost use Rattle.paged_memory.specs.Snapshot.{cells_of};
 ghost use Rattle.claim_table.specs.Logs.{most_jobs, most_seats, new_log, times, with_end};
 ghost use Rattle.claim_table.specs.Seat.{drew};
 ghost use Rattle.phase_jobs.specs.SharedJobs.{Looks};
-ghost use Rattle.phase_jobs.specs.Stage.{IsOverAt};
+ghost use Rattle.phase_jobs.specs.Slices.{IsSlice};
+ghost use Rattle.segment.specs.declared.progress.Progress.TheVariants.{Over};
+ghost use Rattle.parallel_phase.specs.Outcome.{IsOutcomeAt};
 ghost use Rattle.parallel_phase.specs.Work.{Works, OnlyDraws, AreOver, IsUnbegun, IsWorkOf};
 
+use crate::drawn::Drawn;
+use crate::outcome::Outcome;
+use crate::ran::Ran;
 use crate::work_done::WorkDone;
 use claim_table::DrawSeat;
 use paged_memory::Snapshot;
-use phase_jobs::{Drawn, Gate, Job, SharedJobs, Stage};
+use phase_jobs::{Gate, SharedJobs};
+use segment::{Progress, Segment, SegmentEnd};
 use std::alloc::{AllocError, Global};
 use std::marker::Model;
 
@@ -34,19 +40,24 @@ impl Model for Phase {
     ghost invariant = { λ p. (length p.shared.jobs ≡ p.shared.row.size.jobs) × (0 < p.shared.row.size.seats) × (length p.shared.jobs ≤ most_jobs) };
 }
 
-/// Runs a job that a seat drew to its end, unless a lower job ends the run.
-fn run(shared: &SharedJobs, seat: &mut DrawSeat, number: u32) -> Result<Drawn, AllocError>
+/// Runs a job that a seat drew to its end. None if a lower job ends the run.
+fn run(
+    shared: &SharedJobs,
+    seat: &mut DrawSeat,
+    number: u32,
+) -> Result<Option<SegmentEnd>, AllocError>
     requires row { seat.old.row ≡ shared.now.row }
     requires job { number < length shared.now.jobs }
     requires drawn { 0 < times number seat.old.log.drawn }
-    ensures over { IfOk result (IsOverAt shared.now.jobs (cells_of shared.now.base) number seat.old seat.new) }
+    ensures over { IfOk result (λ end. IsSlice shared.now.jobs (cells_of shared.now.base) number 0 seat.old seat.new (option_map Over end)) }
     ensures refused { OnErr result (Looks seat.old seat.new) }
 {
-    let mut stage = shared.begin(seat, number)?;
+    let mut slice = shared.begin(seat, number)?;
     loop {
-        match stage {
-            Stage::GoesOn(taken) => stage = shared.go_on(seat, taken)?,
-            Stage::Over(drawn) => return Ok(drawn),
+        match slice {
+            Some(Progress::GoesOn(job)) => slice = shared.go_on(seat, number, job)?,
+            Some(Progress::Over(end)) => return Ok(Some(end)),
+            None => return Ok(None),
         }
     }
 }
@@ -55,7 +66,7 @@ impl Phase {
     /// The phase of some jobs, at most 256, on a memory, with seats for 1 to 64 threads.
     pub fn open(
         alloc: Global,
-        jobs: &[Job],
+        jobs: &[Segment],
         seats: u32,
         base: &Snapshot,
     ) -> Result<(Phase, Vec<DrawSeat>), AllocError>
@@ -69,7 +80,7 @@ impl Phase {
     }
 
     /// The jobs, in their order.
-    pub(crate) fn jobs(&self) -> &[Job]
+    pub(crate) fn jobs(&self) -> &[Segment]
         ensures jobs { result.now ≡ self.now.jobs }
         ensures most { length result.now ≤ most_jobs }
     {
@@ -111,7 +122,28 @@ impl Phase {
             return Ok(None);
         };
         gate.pass(seat.number(), number);
-        Ok(Some(run(&self.shared, seat, number)?))
+        let outcome = self.outcome(seat, number)?;
+        Ok(Some(Drawn { number, outcome }))
+    }
+
+    /// What becomes of a job that the seat drew.
+    fn outcome(&self, seat: &mut DrawSeat, number: u32) -> Result<Outcome, AllocError>
+        requires row { seat.old.row ≡ self.now.row }
+        requires job { number < length self.now.jobs }
+        requires drawn { 0 < times number seat.old.log.drawn }
+        ensures outcome { IfOk result (IsOutcomeAt self.now.jobs (cells_of self.now.base) number seat.old seat.new) }
+        ensures refused { OnErr result (Looks seat.old seat.new) }
+    {
+        let base = self.base().try_clone()?;
+        match run(&self.shared, seat, number)? {
+            Some(end) => Ok(Outcome::Ran(Ran::new(
+                number,
+                self.jobs()[number as usize],
+                base,
+                end,
+            ))),
+            None => Ok(Outcome::Skipped),
+        }
     }
 
     /// Draws and runs one more job. Whether to go on: not where no job is left, nor where memory was refused.

@@ -1,20 +1,20 @@
 //! The trait of what takes the results of a phase in order.
 ghost use Rattle.std.specs.Prelude.{◌≡◌, ◌<◌, ◌+◌, List};
 ghost use Rattle.guest_memory.specs.Memory.{Memory};
-ghost use Rattle.phase_jobs.specs.declared.job.Job.{Job};
-ghost use Rattle.phase_jobs.specs.Job.{IsRanOf};
+ghost use Rattle.segment.specs.declared.segment.Segment.{Segment};
+ghost use Rattle.parallel_phase.specs.Ran.{IsRanOf};
 ghost use Rattle.parallel_phase.specs.Turns.{after_call};
 ghost use Rattle.parallel_phase.specs.declared.taker_stage.TakerStage.{TakerStage};
 ghost use Rattle.parallel_phase.specs.declared.taker_stage.TakerStage.TheVariants.{New, Going};
 ghost use Rattle.claim_table.specs.Logs.{most_jobs};
 
-use phase_jobs::Ran;
+use crate::ran::Ran;
 use std::alloc::AllocError;
 
 /// Who takes the turns of a phase's jobs, in the order of the jobs.
 pub trait TurnTaker {
     /// The jobs whose turns it takes.
-    ghost turns_of: { Self → List Job };
+    ghost turns_of: { Self → List Segment };
 
     /// The memory that each of them begins with.
     ghost begins_with: { Self → Memory };

@@ -1,12 +1,14 @@
 //! Waits for the result of a job. Blocks on the channel of results.
 ghost use Rattle.std.specs.Prelude.{◌≡◌, ◌<◌, length, IfSome};
 ghost use Rattle.paged_memory.specs.Snapshot.{cells_of};
-ghost use Rattle.phase_jobs.specs.Job.{IsRanOf};
+ghost use Rattle.parallel_phase.specs.Ran.{IsRanOf};
 ghost use Rattle.parallel_phase.specs.Turns.{AreWaiting, IsResult};
 
 use crate::collect::put;
+use crate::drawn::Drawn;
+use crate::outcome::Outcome;
 use crate::phase::Phase;
-use phase_jobs::{Drawn, Outcome, Ran};
+use crate::ran::Ran;
 use std::mem::replace;
 
 impl Phase {

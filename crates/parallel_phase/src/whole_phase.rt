@@ -9,11 +9,13 @@ ghost use Rattle.parallel_phase.specs.Outcomes.{AreFates};
 ghost use Rattle.parallel_phase.specs.Work.{IsUnbegun, IsWorkOf};
 ghost use denote.Param.Send.{IsSync};
 
+use crate::outcome::Outcome;
 use crate::phase::Phase;
 use crate::work_done::WorkDone;
 use claim_table::DrawSeat;
 use paged_memory::Snapshot;
-use phase_jobs::{Gate, Job, Outcome};
+use phase_jobs::Gate;
+use segment::Segment;
 use std::alloc::{AllocError, Global};
 use std::thread::{Threads, join_mut};
 
@@ -74,7 +76,7 @@ impl Phase {
 pub fn run_phase<G: Gate + Sync, R: Threads + Sync>(
     rt: &R,
     alloc: Global,
-    jobs: &[Job],
+    jobs: &[Segment],
     workers: u32,
     gate: &G,
     base: &Snapshot,

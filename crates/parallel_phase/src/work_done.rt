@@ -3,8 +3,8 @@ ghost use Rattle.std.specs.Prelude.{◌≡◌, [], false, IfOk, OnOk};
 ghost use Rattle.claim_table.specs.Logs.{new_log};
 ghost use Rattle.parallel_phase.specs.Outcomes.{IsWhole};
 
+use crate::drawn::Drawn;
 use claim_table::DrawSeat;
-use phase_jobs::Drawn;
 use std::alloc::{AllocError, Global};
 use std::marker::Model;
 

@@ -1,3 +1,2 @@
-pub mod Coding
 pub mod Runs
-pub mod Stages
+pub mod Slices

@@ -4,7 +4,7 @@ use Rattle.std.specs.Prelude.{slice_get}
 use Rattle.claim_table.specs.Logs.{times, with_seen}
 use Rattle.claim_table.proofs.Totals.{times_push, drawn_here}
 use Rattle.claim_table.specs.Seat.{SeatState}
-use Rattle.phase_jobs.specs.declared.job.Job.{Job}
+use Rattle.segment.specs.declared.segment.Segment.{Segment}
 use Rattle.phase_jobs.specs.SharedJobs.{Looks, SawBelow}
 
 pub looks_none : (seat : SeatState) → Looks seat seat
@@ -36,7 +36,7 @@ looks_at old new least is = record {
 pub saw_below : (old new : SeatState) (least number : ℕ) → new ≡ record old { log = with_seen old.log least } → least < number → SawBelow new.log number
 saw_below old new least number is below = (least, below, let e = ap (λ (s : SeatState). times least s.log.seen) is in let here = drawn_here least old.log.seen in omega arith)
 
-pub job_at : (jobs : List Job) (number : ℕ) (job : Job) → number < length jobs → job ≡ get_or jobs number job → slice_get jobs number ≡ Some job
+pub job_at : (jobs : List Segment) (number : ℕ) (job : Segment) → number < length jobs → job ≡ get_or jobs number job → slice_get jobs number ≡ Some job
 job_at [] number job inside is = absurd (omega arith)
 job_at (x ∷ xs) zero job inside is = ap Some (sym is)
 job_at (x ∷ xs) (suc number) job inside is = job_at xs number job (omega arith) is

@@ -4,12 +4,12 @@ use Rattle.paged_memory.specs.declared.snapshot.Snapshot.{Snapshot}
 use Rattle.claim_table.specs.declared.log.Log.{Log}
 use Rattle.claim_table.specs.Logs.{times, with_noted}
 use Rattle.claim_table.specs.Seat.{Row, SeatState}
-use Rattle.phase_jobs.specs.declared.job.Job.{Job}
+use Rattle.segment.specs.declared.segment.Segment.{Segment}
 
 -- a phase: the row that its seats draw by, its jobs, and the memory that each begins with
 pub record PhaseState : Type 0 where
   pub row : Row
-  pub jobs : List Job
+  pub jobs : List Segment
   pub base : Snapshot
 
 -- a number below this one was seen

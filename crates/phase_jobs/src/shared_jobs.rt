@@ -5,31 +5,21 @@ ghost use Rattle.std.specs.List.{range_with_len};
 ghost use Rattle.paged_memory.specs.Snapshot.{cells_of};
 ghost use Rattle.claim_table.specs.Logs.{most_jobs, most_seats, new_log, times};
 ghost use Rattle.claim_table.specs.Seat.{drew};
-ghost use Rattle.schedule.specs.Verdict.{ends_run};
-ghost use Rattle.phase_jobs.specs.SharedJobs.{Looks, SawBelow, noted_if};
-ghost use Rattle.phase_jobs.specs.Stage.{IsProgressOf, IsStage, IsStageBy, IsTakenOf};
+ghost use Rattle.phase_jobs.specs.SharedJobs.{Looks, SawBelow};
+ghost use Rattle.phase_jobs.specs.Slices.{IsGoing, IsSlice, noted_by};
 
-use crate::drawn::Drawn;
-use crate::job::Job;
-use crate::outcome::Outcome;
-use crate::progress::Progress;
-use crate::ran::Ran;
-use crate::stage::Stage;
-use crate::taken::Taken;
-use crate::underway::Underway;
 use claim_table::{DrawSeat, Draws};
 use paged_memory::Snapshot;
+use schedule::ends_run;
+use segment::{Progress, SLICE, Segment, Underway};
 use std::alloc::{AllocError, Global};
 use std::marker::Model;
-
-/// After how many instructions a worker looks whether its job is still wanted.
-pub const SLICE: u64 = 65536;
 
 /// The jobs of a phase and the memory that each begins with. It is shared by reference with those who have seats.
 #[derive(Drop)]
 pub struct SharedJobs {
     draws: Draws,
-    jobs: Vec<Job>,
+    jobs: Vec<Segment>,
     base: Snapshot,
 }
 
@@ -45,21 +35,11 @@ impl Model for SharedJobs {
     ghost invariant = { λ p. (length p.jobs.items ≡ p.draws.size.jobs) × (0 < p.draws.size.seats) × (length p.jobs.items ≤ most_jobs) };
 }
 
-/// A job that isn't run, since a lower one ends the run.
-fn skipped(number: u32) -> Stage
-    ensures { result ≡ Stage.Over (record { number = number; outcome = Outcome.Skipped }) }
-{
-    Stage::Over(Drawn {
-        number,
-        outcome: Outcome::Skipped,
-    })
-}
-
 impl SharedJobs {
     /// The phase of some jobs, at most 256, on a memory, with seats for 1 to 64 threads.
     pub fn open(
         alloc: Global,
-        jobs: &[Job],
+        jobs: &[Segment],
         seats: u32,
         base: &Snapshot,
     ) -> Result<(SharedJobs, Vec<DrawSeat>), AllocError>
@@ -81,7 +61,7 @@ impl SharedJobs {
     }
 
     /// The jobs, in their order.
-    pub fn jobs(&self) -> &[Job]
+    pub fn jobs(&self) -> &[Segment]
         ensures { result.now ≡ self.now.jobs }
     {
         self.jobs.as_slice()
@@ -129,75 +109,56 @@ impl SharedJobs {
         self.draws.draw(seat)
     }
 
-    /// Begins a job that the seat drew, by a first slice, unless a lower job ends the run. Where the run ends by it, it
-    /// is noted.
-    pub fn begin(&self, seat: &mut DrawSeat, number: u32) -> Result<Stage, AllocError>
+    /// Begins a job that the seat drew, by a first slice, and notes it if the run ends by it. None if a lower job ends
+    /// the run: nothing of it is executed then.
+    pub fn begin(&self, seat: &mut DrawSeat, number: u32) -> Result<Option<Progress>, AllocError>
         requires row { seat.old.row ≡ self.now.row }
         requires job { number < length self.now.jobs }
         requires drawn { 0 < times number seat.old.log.drawn }
-        ensures stage { IfOk result (IsStage self.now.jobs (cells_of self.now.base) number 0 seat.old seat.new) }
+        ensures slice { IfOk result (IsSlice self.now.jobs (cells_of self.now.base) number 0 seat.old seat.new) }
         ensures refused { OnErr result (Looks seat.old seat.new) }
     {
         if self.is_unwanted(seat, number) {
-            return Ok(skipped(number));
+            return Ok(None);
         }
         let progress = Underway::begin(self.jobs[number as usize], &self.base, SLICE)?;
-        self.staged(seat, number, progress)
+        self.note(seat, number, &progress);
+        Ok(Some(progress))
     }
 
-    /// Goes on with a job that the seat drew, by a further slice, unless a lower job ends the run. Where the run ends
-    /// by it, it is noted.
-    pub fn go_on(&self, seat: &mut DrawSeat, taken: Taken) -> Result<Stage, AllocError>
-        requires row { seat.old.row ≡ self.now.row }
-        requires taken { IsTakenOf self.now.jobs (cells_of self.now.base) taken.number taken }
-        requires drawn { 0 < times taken.number seat.old.log.drawn }
-        ensures stage { IfOk result (IsStage self.now.jobs (cells_of self.now.base) taken.number taken.job.done seat.old seat.new) }
-        ensures refused { OnErr result (Looks seat.old seat.new) }
-    {
-        let Taken { number, job } = taken;
-        if self.is_unwanted(seat, number) {
-            return Ok(skipped(number));
-        }
-        let progress = job.go_on(SLICE)?;
-        self.staged(seat, number, progress)
-    }
-
-    /// What became of a job that the seat drew, after a slice.
-    fn staged(
+    /// Goes on with a job that the seat drew, by a further slice, and notes it if the run ends by it. None if a lower job
+    /// ends the run: nothing more of it is executed then.
+    pub fn go_on(
         &self,
         seat: &mut DrawSeat,
         number: u32,
-        progress: Progress,
-    ) -> Result<Stage, AllocError>
+        job: Underway,
+    ) -> Result<Option<Progress>, AllocError>
+        requires row { seat.old.row ≡ self.now.row }
+        requires going { IsGoing self.now.jobs (cells_of self.now.base) number job }
+        requires drawn { 0 < times number seat.old.log.drawn }
+        ensures slice { IfOk result (IsSlice self.now.jobs (cells_of self.now.base) number job.done seat.old seat.new) }
+        ensures refused { OnErr result (Looks seat.old seat.new) }
+    {
+        if self.is_unwanted(seat, number) {
+            return Ok(None);
+        }
+        let progress = job.go_on(SLICE)?;
+        self.note(seat, number, &progress);
+        Ok(Some(progress))
+    }
+
+    /// Notes a job that the seat drew if it is over and the run ends by it.
+    fn note(&self, seat: &mut DrawSeat, number: u32, progress: &Progress)
         requires row { seat.old.row ≡ self.now.row }
         requires job { number < length self.now.jobs }
         requires drawn { 0 < times number seat.old.log.drawn }
-        requires progress { IsProgressOf self.now.jobs (cells_of self.now.base) number progress }
-        ensures stage { IfOk result (IsStageBy self.now.jobs (cells_of self.now.base) number progress seat.old seat.new) }
-        ensures refused { OnErr result (seat.new ≡ seat.old) }
+        ensures { seat.new ≡ noted_by progress.now seat.old number }
     {
-        match progress {
-            Progress::GoesOn(job) => Ok(Stage::GoesOn(Taken { number, job })),
-            Progress::Over(end) => {
-                let base = self.base.try_clone()?;
-                let ran = Ran::new(number, self.jobs[number as usize], base, end);
-                Ok(Stage::Over(self.noted(seat, number, ran)))
+        if let Progress::Over(end) = progress {
+            if ends_run(&end.hart, end.stop) {
+                self.draws.note(seat, number);
             }
         }
-    }
-
-    /// Notes a job that was run, where the run ends by it.
-    fn noted(&self, seat: &mut DrawSeat, number: u32, ran: Ran) -> Drawn
-        requires row { seat.old.row ≡ self.now.row }
-        requires drawn { 0 < times number seat.old.log.drawn }
-        ensures drawn { result ≡ record { number = number; outcome = Outcome.Ran ran } }
-        ensures noted { seat.new ≡ record seat.old { log = noted_if (ends_run ran.end.hart ran.end.stop) seat.old.log number } }
-    {
-        let outcome = Outcome::Ran(ran);
-        if outcome.ends_run() {
-            self.draws.note(seat, number);
-            return Drawn { number, outcome };
-        }
-        Drawn { number, outcome }
     }
 }

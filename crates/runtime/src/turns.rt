@@ -38,7 +38,7 @@ fn take_turn<B: OfRun + Send + Sync, R: Wait, K: Recorder, G: Gate>(
             Ok(None)
         }
         Need::Keeper(work) => {
-            let end = work.run(serial.now())?;
+            let end = work.segment.run(serial.now())?;
             serial.turn(Some(&end))?;
             gate.turned(work.thread);
             Ok(None)

@@ -18,8 +18,9 @@ use Rattle.schedule.specs.declared.worker.Task.{Task}
 use Rattle.schedule.specs.declared.worker.Worker.{Worker}
 use Rattle.schedule.specs.declared.worker.Worker.TheVariants as worker
 use Rattle.hart.specs.declared.stop.Stop.{Stop}
-use Rattle.token.specs.Point.{IsEndOf}
-use Rattle.token.specs.declared.segment_end.SegmentEnd.{SegmentEnd}
+use Rattle.segment.specs.Ends.{IsEndOf}
+use Rattle.segment.specs.declared.segment_end.SegmentEnd.{SegmentEnd}
+use Rattle.token.specs.declared.need.Work.{Work}
 use Rattle.schedule_core.specs.Jobs.{Start, verdict_by, verdicts_of, work_at}
 use Rattle.schedule_core.specs.Running.{advance_of, memory_of, verdict_of}
 use Rattle.schedule_core.specs.Scene.{IsDesk, IsHeld, IsSeat, counts_by, fate_of, one_if_ended, task_of, worker_of}
@@ -188,7 +189,7 @@ few_drawn start drawn seats slots desk =
 
 -- what holds where something has become of a job
 pub slot_changes : (start : Start) (drawn : ℕ) (seats : List Seat) (slots : List Slot) (job : ℕ) (slot : Slot)
-    → IsDesk start drawn seats slots → job < length slots → ((end : SegmentEnd) → slot ≡ Posted end → IsEndOf start.memory (work_at start job) end)
+    → IsDesk start drawn seats slots → job < length slots → ((end : SegmentEnd) → slot ≡ Posted end → IsEndOf start.memory (work_at start job).segment end)
     → IsDesk start drawn seats (slice_set slots job slot)
 slot_changes start drawn seats slots job slot desk there ends =
     record {
@@ -201,13 +202,13 @@ slot_changes start drawn seats slots job slot desk there ends =
     }
   where
     posted : (other : ℕ) (end : SegmentEnd) (same : Bool) → (job == other) ≡ same → slice_get (slice_set slots job slot) other ≡ Some (Posted end)
-        → IsEndOf start.memory (work_at start other) end
+        → IsEndOf start.memory (work_at start other).segment end
     posted other end false apart is = desk.slots other end (sym (slice_get-other slots job other slot apart) ∙ is)
     posted other end true equal is =
         let same : job ≡ other = grind (arith, nat_tests) in
         let itself : slice_get (slice_set slots job slot) job ≡ Some slot = slice_get-itself slots job slot (get_or slots job Open) (slice_get-get_or slots job Open there) in
         let here : Some slot ≡ Some (Posted end) = sym itself ∙ ap (λ place. slice_get (slice_set slots job slot) place) same ∙ is in
-        subst (λ place. IsEndOf start.memory (work_at start place) end) same (ends end (cc here))
+        subst (λ place. IsEndOf start.memory (work_at start place).segment end) same (ends end (cc here))
 
 -- what holds where a call succeeded, or where it failed, holds of what follows from it
 pub ok_then : {E P Q : Type 0} (result : Result (Unit {0}) E) → (P → Q) → OnOk result P → OnOk result Q
@@ -303,9 +304,9 @@ no_draw Hold none = refl
 no_draw Turn none = refl
 
 -- the result that is posted is that of the job
-pub posted_end : (start : Start) (held : Held) → IsHeld start held → (end : SegmentEnd) → IsEndOf (memory_of held.running) held.running.work end
-    → (posted : SegmentEnd) → Posted end ≡ Posted posted → IsEndOf start.memory (work_at start held.job) posted
+pub posted_end : (start : Start) (held : Held) → IsHeld start held → (end : SegmentEnd) → IsEndOf (memory_of held.running) held.running.work.segment end
+    → (posted : SegmentEnd) → Posted end ≡ Posted posted → IsEndOf start.memory (work_at start held.job).segment posted
 posted_end start held holds end ends posted is =
     let same : end ≡ posted = cc is in
-    subst (IsEndOf start.memory (work_at start held.job)) same
-    (subst (λ work. IsEndOf start.memory work end) holds.work (subst (λ memory. IsEndOf memory held.running.work end) holds.memory ends))
+    subst (IsEndOf start.memory (work_at start held.job).segment) same
+    (subst (λ (work : Work). IsEndOf start.memory work.segment end) holds.work (subst (λ memory. IsEndOf memory held.running.work.segment end) holds.memory ends))

@@ -3,7 +3,7 @@ use Rattle.std.proofs.Common.{◌≡◌, ◌∙◌, ℕ, zero, suc, ◌+◌, Boo
 use Rattle.std.specs.Prelude.{is_some, if◌then◌else◌, ◌==◌, ◌||◌, nat_lt}
 use Rattle.thread_table.specs.Threads.{serial_list}
 use Rattle.token.specs.Outcome.{quiet_outcome}
-use Rattle.token.specs.Point.{Point, after_step, due_at, moved, need_at, need_by, counted, need_of, next_phase, passed_on, work_from, base_at}
+use Rattle.token.specs.Point.{Point, after_step, due_at, moved, need_at, need_by, counted, need_of, next_phase, passed_on}
 use Rattle.token.specs.Serial.{IsLonger}
 use Rattle.token.specs.Turns.{Step}
 use Rattle.token.specs.declared.due.Due.{Due}
@@ -26,11 +26,12 @@ use Rattle.schedule.specs.Phase.{Counts, opened}
 use Rattle.schedule.specs.declared.advance.Advance.{Advance}
 use Rattle.schedule.specs.declared.event.Event.TheVariants.{Turn}
 use Rattle.schedule.specs.declared.fate.Fate.{Fate}
-use Rattle.token.proofs.Needs.{segment_needed}
-use Rattle.token.specs.Point.{IsEndOf, IsNeededAt, step_at}
+use Rattle.token.proofs.Needs.{segment_is, segment_needed}
+use Rattle.segment.specs.Ends.{IsEndOf}
+use Rattle.token.specs.Point.{IsNeededAt, step_at}
 use Rattle.token.specs.RunInTurn.{point_of}
 use Rattle.token.specs.declared.run_in_turn.RunInTurn.{RunInTurn}
-use Rattle.token.specs.declared.segment_end.SegmentEnd.{SegmentEnd}
+use Rattle.segment.specs.declared.segment_end.SegmentEnd.{SegmentEnd}
 use Rattle.schedule_core.specs.Jobs.{Start, start_of, work_of, work_at, job_of, jobs_of}
 use Rattle.schedule_core.specs.Scene.{IsSeat, counts_by, counts_of, fate_of, keeper_advance, point_at, tally_of, worker_of}
 use Rattle.schedule_core.specs.Tally.{Happens, Tally, counts_after, is_posted}
@@ -63,18 +64,9 @@ same_start point step same =
     by_going after (serial_list after.state.threads) (is_some after.ended || is_some after.keeper || nat_lt after.given (length after.list)) (length (serial_list after.state.threads) == 0) same
 
 -- the segment that the next turn needs is that of a thread in this phase
-fresh_work : (point : Point) (ends : Option RunOutcome) (who : Due) (work : Work) → need_by ends (need_of point who) ≡ need.Segment work → work ≡ work_of (start_of point) work.thread
+segment_work : (point : Point) (work : Work) → need_at point ≡ need.Segment work → work ≡ work_of (start_of point) work.thread
 unfolding work_of
-fresh_work point (Some outcome) who work is = absurd (cc)
-fresh_work point None (due.Fresh thread) work is =
-    let same : work_from point.setup (base_at point (due.Fresh thread)) thread point.setup.quantum ≡ work = cc is in
-    subst (λ (work : Work). work ≡ work_of (start_of point) work.thread) same refl
-fresh_work point None (due.Keeper thread) work is = absurd (cc)
-fresh_work point None (due.Woken thread mutex) work is = absurd (cc)
-
-pub segment_work : (point : Point) (work : Work) → need_at point ≡ need.Segment work → work ≡ work_of (start_of point) work.thread
-unfolding need_at
-segment_work point work is = fresh_work point point.ended (due_at point) work is
+segment_work point work is = segment_is point work is
 
 -- a run that has ended needs nothing
 ended_of : (point : Point) (ends : Option RunOutcome) (who : Due) (outcome : RunOutcome) → need_by ends (need_of point who) ≡ need.Ended outcome → ends ≡ Some outcome
@@ -178,7 +170,7 @@ pub posted_needed : (point : Point) (work : Work) (number : ℕ) (places : List 
     → slice_get results job ≡ Some (Posted end) → IsNeededAt point (Some end)
 posted_needed point work number places results job end needs desk is posted =
     segment_needed point work end needs
-    (subst (λ (work : Work). IsEndOf point.base work end) (job_work (start_of point) work.thread job is ∙ sym (segment_work point work needs)) (desk.slots job end posted))
+    (subst (λ (work : Work). IsEndOf point.base work.segment end) (job_work (start_of point) work.thread job is ∙ sym (segment_work point work needs)) (desk.slots job end posted))
 
 -- a turn that is done has happened
 same_tally : (turns other : ℕ) (counts others : Counts) (keeper another : Advance) → turns ≡ other → counts ≡ others → keeper ≡ another

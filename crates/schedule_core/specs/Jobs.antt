@@ -1,12 +1,12 @@
 -- The jobs of a phase.
-use Rattle.std.specs.Prelude.{ℕ, ◌-◌, ◌==◌, Option, List, position, slice_get, slice_index, unwrap_or}
+use Rattle.std.specs.Prelude.{ℕ, ◌==◌, Option, List, position, slice_index}
 use Rattle.guest_memory.specs.Memory.{Memory}
 use Rattle.schedule.specs.Phase.{Verdicts}
 use Rattle.schedule.specs.Verdict.{Verdict, verdict_after}
-use Rattle.thread_table.specs.Thread.{blank}
 use Rattle.thread_table.specs.Threads.{ready_list}
 use Rattle.thread_table.specs.declared.thread.Thread.{Thread}
 use Rattle.token.specs.Point.{Point}
+use Rattle.token.specs.Segments.{segment_in}
 use Rattle.token.specs.Setup.{Setup}
 use Rattle.token.specs.declared.need.Work.{Work}
 
@@ -24,21 +24,17 @@ start_of point = record { setup = point.setup; memory = point.base; threads = po
 unfoldable pub jobs_of : Start → List ℕ
 jobs_of start = ready_list start.threads
 
-abbrev pub row_at : Start → ℕ → Thread
-row_at start thread = unwrap_or (slice_get start.threads thread) blank
-
 -- the segment of a thread in this phase
 unfoldable pub work_of : Start → ℕ → Work
-work_of start thread =
-    record { thread = thread; hart = (row_at start thread).hart; left = start.setup.bound - (row_at start thread).executed; quantum = start.setup.quantum }
+work_of start thread = record { thread = thread; segment = segment_in start.setup start.threads thread }
 
 -- the segment of a job
 unfoldable pub work_at : Start → ℕ → Work
 work_at start job = work_of start (slice_index (jobs_of start) job)
 
--- what a piece of work on a memory comes to after so many steps
+-- what a thread's segment on a memory comes to after so many steps
 abbrev pub verdict_by : Memory → Work → ℕ → Verdict
-verdict_by memory work steps = verdict_after work.hart memory work.left work.quantum steps
+verdict_by memory work steps = verdict_after work.segment.hart memory work.segment.left work.segment.quantum steps
 
 -- what each job comes to after so many steps
 unfoldable pub verdicts_of : Start → Verdicts

@@ -9,7 +9,7 @@ use Rattle.hart.specs.declared.stop.Stop.{Stop}
 use Rattle.hart.specs.declared.stop.Stop.TheVariants.{Trap, Ecall, Quantum}
 use Rattle.schedule.specs.Verdict.{Verdict, verdict_after}
 use Rattle.schedule.specs.declared.advance.Advance.{Advance}
-use Rattle.token.specs.declared.need.Work.{Work}
+use Rattle.segment.specs.declared.segment.Segment.{Segment}
 use Rattle.schedule_core.specs.declared.running.Running.{Running}
 
 -- the memory that it began with
@@ -22,27 +22,27 @@ advance_of run = record { steps = run.steps; stopped = is_some run.stop }
 
 -- what it comes to after its steps so far
 abbrev pub verdict_of : Running → Verdict
-verdict_of run = verdict_after run.work.hart (memory_of run) run.work.left run.work.quantum run.steps
+verdict_of run = verdict_after run.work.segment.hart (memory_of run) run.work.segment.left run.work.segment.quantum run.steps
 
 -- the stop by the bound or the quantum after so many steps of a segment
-unfoldable pub limit_at : Work → ℕ → Option Stop
-limit_at work steps = if steps == work.left then Some (Trap bound_trap) else (if is_used_up work.quantum steps then Some Quantum else None)
+unfoldable pub limit_at : Segment → ℕ → Option Stop
+limit_at segment steps = if steps == segment.left then Some (Trap bound_trap) else (if is_used_up segment.quantum steps then Some Quantum else None)
 
 -- where it is said to have stopped, this is its stop
 abbrev pub IsItsStop : Option Stop → Option Stop → Type 0
 IsItsStop None found = Unit {0}
 IsItsStop (Some stop) found = found ≡ Some stop
 
--- A piece of work on a memory has come to this hart and these cells after its steps, none of which was a stop, and where it is said to have
+-- A segment on a memory has come to this hart and these cells after its steps, none of which was a stop, and where it is said to have
 -- stopped, that is its stop after them.
-pub record HasCome (work : Work) (memory : Memory) (hart : HartState) (cells : Memory) (steps : ℕ) (stop : Option Stop) : Type 0 where
-  pub reached : after steps work.hart memory ≡ Some (hart, cells)
-  pub running : (k : ℕ) → k < steps → stop_after work.hart memory work.left work.quantum k ≡ None
-  pub stops : IsItsStop stop (stop_after work.hart memory work.left work.quantum steps)
-  pub within : steps ≤ work.left
-  pub bounded : work.left < 2 ^ 64
-  pub call : stop ≡ Some Ecall → steps < work.left
+pub record HasCome (segment : Segment) (memory : Memory) (hart : HartState) (cells : Memory) (steps : ℕ) (stop : Option Stop) : Type 0 where
+  pub reached : after steps segment.hart memory ≡ Some (hart, cells)
+  pub running : (k : ℕ) → k < steps → stop_after segment.hart memory segment.left segment.quantum k ≡ None
+  pub stops : IsItsStop stop (stop_after segment.hart memory segment.left segment.quantum steps)
+  pub within : steps ≤ segment.left
+  pub bounded : segment.left < 2 ^ 64
+  pub call : stop ≡ Some Ecall → steps < segment.left
 
--- A segment stands where its work has come to.
+-- It stands where its segment has come to.
 abbrev pub IsRunning : Running → Type 0
-IsRunning run = HasCome run.work (memory_of run) run.hart (views.cells_of run.view) run.steps run.stop
+IsRunning run = HasCome run.work.segment (memory_of run) run.hart (views.cells_of run.view) run.steps run.stop

@@ -12,10 +12,11 @@ use Rattle.schedule.specs.declared.fate.Fate.TheVariants as fate
 use Rattle.schedule.specs.declared.worker.Task.{Task}
 use Rattle.schedule.specs.declared.worker.Worker.{Worker}
 use Rattle.schedule.specs.declared.worker.Worker.TheVariants as worker
-use Rattle.token.specs.Point.{Point, IsEndOf, need_at}
+use Rattle.segment.specs.Ends.{IsEndOf}
+use Rattle.token.specs.Point.{Point, need_at}
 use Rattle.token.specs.RunInTurn.{point_of}
 use Rattle.token.specs.declared.need.Need.TheVariants.{Keeper}
-use Rattle.token.specs.declared.segment_end.SegmentEnd.{SegmentEnd}
+use Rattle.segment.specs.declared.segment_end.SegmentEnd.{SegmentEnd}
 use Rattle.schedule_core.specs.Jobs.{Start, jobs_of, start_of, work_at}
 use Rattle.schedule_core.specs.Running.{IsRunning, advance_of, memory_of}
 use Rattle.schedule_core.specs.Tally.{Tally}
@@ -92,7 +93,7 @@ one_if_ended (Working held) = 0
 -- What holds of the workers' places and the jobs' results in a phase.
 pub record IsDesk (start : Start) (number : ℕ) (places : List Seat) (results : List Slot) : Type 0 where
   pub seats : All (IsSeat start) places
-  pub slots : (job : ℕ) (end : SegmentEnd) → slice_get results job ≡ Some (Posted end) → IsEndOf start.memory (work_at start job) end
+  pub slots : (job : ℕ) (end : SegmentEnd) → slice_get results job ≡ Some (Posted end) → IsEndOf start.memory (work_at start job).segment end
   pub jobs : length results ≡ length (jobs_of start)
   pub drawn : number ≤ length results + sum_by one_if_ended places
   pub few_workers : length places ≤ limit.workers
@@ -117,7 +118,7 @@ pub record Same (old new : Scene) : Type 0 where
 
 -- the hart and the memory of a worker's job: as many times the next instruction from its start on the phase's first memory as its steps
 abbrev pub private_of : Start → Option Worker → Option (HartState × Memory)
-private_of start (Some (worker.Working task)) = after task.advance.steps (work_at start task.job).hart start.memory
+private_of start (Some (worker.Working task)) = after task.advance.steps (work_at start task.job).segment.hart start.memory
 private_of start (Some worker.Idle) = None
 private_of start (Some worker.Ended) = None
 private_of start None = None

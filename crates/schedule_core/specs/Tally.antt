@@ -10,7 +10,7 @@ use Rattle.schedule.specs.declared.fate.Fate.TheVariants.{Open, Posted, Skipped}
 use Rattle.token.specs.Point.{Point, IsNeededAt, moved, need_at, step_at}
 use Rattle.token.specs.declared.need.Need.{Need}
 use Rattle.token.specs.declared.need.Need.TheVariants as need
-use Rattle.token.specs.declared.segment_end.SegmentEnd.{SegmentEnd}
+use Rattle.segment.specs.declared.segment_end.SegmentEnd.{SegmentEnd}
 use Rattle.schedule_core.specs.Faults.{IsAnswerTo}
 use Rattle.schedule_core.specs.Jobs.{Start, job_of, jobs_of, start_of, verdict_by, verdicts_of}
 use Rattle.schedule_core.specs.declared.event_fault.EventFault.{EventFault}

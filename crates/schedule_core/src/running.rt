@@ -3,8 +3,9 @@ use commit::Patch;
 use hart::{Cause, Hart, Stepped, Stop, Trap, step};
 use paged_memory::Snapshot;
 use schedule::ends_run;
+use segment::SegmentEnd;
 use std::alloc::AllocError;
-use token::{SegmentEnd, Work};
+use token::Work;
 use twins::View;
 
 /// A segment that is executed an instruction at a time, on a view of the memory that it began with.
@@ -24,7 +25,7 @@ impl Running {
     ghost use Rattle.paged_memory.specs.Snapshot.{cells_of};
     ghost use Rattle.schedule.specs.Phase.{advanced, begun, is_end};
     ghost use Rattle.hart.specs.Segment.{counted};
-    ghost use Rattle.token.specs.Point.{IsEndOf};
+    ghost use Rattle.segment.specs.Ends.{IsEndOf};
     ghost use Rattle.schedule_core.specs.Running.{IsRunning, memory_of, advance_of, verdict_of, limit_at};
 
     /// A segment that has executed nothing, on a memory that it takes over.
@@ -34,10 +35,12 @@ impl Running {
         ensures memory { memory_of result ≡ cells_of base }
         ensures advance { advance_of result ≡ begun }
     {
+        let view = View::open(base);
+        let segment = work.segment;
         Running {
             work,
-            hart: work.hart,
-            view: View::open(base),
+            hart: segment.hart,
+            view,
             steps: 0,
             stop: None,
         }
@@ -95,13 +98,13 @@ impl Running {
     /// The stop by the bound or by the quantum, where one of them is reached.
     #[tactic(auto, unfolding(crate::specs::Running::limit_at))]
     fn limit(&self) -> Option<Stop>
-        ensures { result ≡ limit_at self.now.work self.now.steps }
+        ensures { result ≡ limit_at self.now.work.segment self.now.steps }
     {
-        if self.steps == self.work.left {
+        if self.steps == self.work.segment.left {
             let cause = Cause::BoundReached;
             return Some(Stop::Trap(Trap { cause, value: 0 }));
         }
-        match self.work.quantum {
+        match self.work.segment.quantum {
             Some(quantum) if self.steps == quantum => Some(Stop::Quantum),
             _ => None,
         }
@@ -111,7 +114,7 @@ impl Running {
     pub(crate) fn end(&self, stop: Stop) -> Result<SegmentEnd, AllocError>
         requires running { IsRunning self.now }
         requires stopped { self.now.stop ≡ Some stop }
-        ensures { IfOk result (λ end. IsEndOf (memory_of self.now) self.now.work end) }
+        ensures { IfOk result (λ end. IsEndOf (memory_of self.now) self.now.work.segment end) }
     {
         let patch = Patch::of(self.view.base().allocator(), &self.view)?;
         Ok(SegmentEnd {

@@ -4,7 +4,7 @@ use crate::seat::{Held, Seat};
 use crate::slot::Slot;
 use schedule::Event;
 use std::alloc::AllocError;
-use token::{Kept, RunOutcome, Serial, Work};
+use token::{Kept, RunOutcome, Serial, Work, segment_of};
 
 /// The serial state of a run with the half-run jobs of its present phase.
 #[derive(Drop)]
@@ -40,9 +40,7 @@ impl Scene {
         let row = self.serial.base_threads().get(thread);
         Work {
             thread,
-            hart: row.hart,
-            left: self.serial.bound().saturating_sub(row.executed),
-            quantum: self.serial.quantum(),
+            segment: segment_of(row, self.serial.bound(), self.serial.quantum()),
         }
     }
 

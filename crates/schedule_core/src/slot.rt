@@ -1,5 +1,5 @@
 //! The slot of a job in the present phase: open, drawn, posted or skipped.
-use token::SegmentEnd;
+use segment::SegmentEnd;
 
 /// What has become of a job, with its result.
 #[derive(Drop)]

@@ -2,18 +2,20 @@
 ghost use Rattle.std.specs.Prelude.{◌≡◌, ◌<◌, ◌+◌, List, All, length, map, IfOk};
 ghost use Rattle.guest_memory.specs.Memory.{Memory};
 ghost use Rattle.paged_memory.specs.Snapshot.{cells_of};
-ghost use Rattle.phase_jobs.specs.Job.{IsRanOf};
-ghost use Rattle.phase_jobs.specs.declared.job.Job.{Job as JobValue};
+ghost use Rattle.parallel_phase.specs.Ran.{IsRanOf};
+ghost use Rattle.segment.specs.declared.segment.Segment.{Segment as SegmentValue};
+ghost use Rattle.token.specs.Segments as segments;
 ghost use Rattle.token.specs.RunInTurn.{point_of};
-ghost use Rattle.worker_pool.specs.Jobs.{AreJobsIn, job_from};
+ghost use Rattle.worker_pool.specs.Jobs.{AreJobsIn};
 
 use paged_memory::Snapshot;
-use parallel_phase::{Job, JobEnd, Ran, TakerStage, TurnTaker};
+use parallel_phase::{Ran, TakerStage, TurnTaker};
 use phase_jobs::Gate;
+use segment::Segment;
 use std::alloc::{AllocError, Global};
 use std::marker::{Model, PhantomData};
 use thread_table::Threads;
-use token::{Kept, Need, SegmentEnd, Serial, TurnFault};
+use token::{Kept, Need, Serial, TurnFault, segment_of};
 use worker_pool::OfRun;
 
 /// Who does the turns of a phase of a run as its jobs end: of each job the turn of its thread, and then those that need no
@@ -25,7 +27,7 @@ pub struct PhaseTurns<'a, B: OfRun, G: Gate> {
     number: u64,
     /// The threads of the jobs, in their order.
     threads: Vec<u32>,
-    jobs: Vec<Job>,
+    jobs: Vec<Segment>,
     base: Snapshot,
     stage: TakerStage,
     of: PhantomData<B>,
@@ -49,32 +51,15 @@ fn jobs_of(
     threads: &[u32],
     bound: u64,
     quantum: Option<u64>,
-) -> Result<Vec<Job>, AllocError>
+) -> Result<Vec<Segment>, AllocError>
     requires { All (λ thread. thread < length rows.now) threads.now }
-    ensures { IfOk result (λ jobs. jobs.items ≡ map (job_from rows.now bound quantum) threads.now) }
+    ensures { IfOk result (λ jobs. jobs.items ≡ map (λ thread. segments.segment_of bound quantum (segments.row_in rows.now thread)) threads.now) }
 {
     let mut jobs = Vec::with_capacity(alloc, threads.len())?;
     for thread in threads {
-        let row = rows.get(*thread);
-        jobs.push(Job {
-            hart: row.hart,
-            left: bound.saturating_sub(row.executed),
-            quantum,
-        })?;
+        jobs.push(segment_of(rows.get(*thread), bound, quantum))?;
     }
     Ok(jobs)
-}
-
-/// The end of a job as the end of its thread's segment.
-fn segment_end(end: JobEnd) -> SegmentEnd
-    ensures { result ≡ record { hart = end.hart; stop = end.stop; count = end.count; patch = end.patch } }
-{
-    SegmentEnd {
-        hart: end.hart,
-        stop: end.stop,
-        count: end.count,
-        patch: end.patch,
-    }
 }
 
 /// Does the turn of a thread whose job was run, and answers the thread. None where the run needs another one, or memory was
@@ -87,7 +72,7 @@ fn job_turn<B: OfRun>(
     ran: Ran,
 ) -> Option<u32>
     requires setup { (point_of serial.old).setup ≡ B.setup }
-    requires ran { (jobs : List JobValue) × (memory : Memory) × AreJobsIn B.setup number threads.now jobs memory × IsRanOf jobs memory job ran }
+    requires ran { (jobs : List SegmentValue) × (memory : Memory) × AreJobsIn B.setup number threads.now jobs memory × IsRanOf jobs memory job ran }
     ensures { (point_of serial.new).setup ≡ (point_of serial.old).setup }
 {
     let Need::Segment(work) = serial.need() else {
@@ -97,7 +82,7 @@ fn job_turn<B: OfRun>(
     if serial.phase() != number || place >= threads.len() || threads[place] != work.thread {
         return None;
     }
-    let end = segment_end(ran.into_end());
+    let end = ran.into_end();
     serial.turn(Some(&end)).ok()?;
     Some(work.thread)
 }
@@ -108,7 +93,7 @@ fn other_turn(serial: &mut Serial<Kept>) -> Result<Option<u32>, TurnFault>
 {
     match serial.need() {
         Need::Keeper(work) => {
-            let end = work.run(serial.now())?;
+            let end = work.segment.run(serial.now())?;
             serial.turn(Some(&end))?;
             Ok(Some(work.thread))
         }
@@ -170,7 +155,7 @@ impl<'a, B: OfRun, G: Gate> PhaseTurns<'a, B, G> {
     }
 
     /// The jobs whose turns it does.
-    pub fn jobs(&self) -> &[Job]
+    pub fn jobs(&self) -> &[Segment]
         ensures { result.now ≡ self.now.jobs }
     {
         self.jobs.as_slice()

@@ -1,11 +1,10 @@
 -- The changes of a legal history come in the order of their phases, and each is of one of 256 threads.
-use Rattle.std.proofs.Common.{◌≡◌, ◌⊎◌, ℕ, suc, ◌<◌, ◌≤◌, Bool, true, false, List, [], ◌∷◌, length, sym, subst, inl, inr, arith}
+use Rattle.std.proofs.Common.{ℕ, ◌<◌, ◌≤◌, Bool, true, false, [], ◌∷◌, inl, inr, arith}
 use Rattle.std.specs.List.{All, AllPairs}
 use Rattle.std.proofs.lemmas.List.Elements.{All-push}
 use Rattle.std.proofs.lemmas.List.Quantifiers.{all_pairs_push}
 use Rattle.token.specs.Change.{Change}
-use Rattle.token.specs.Due.{thread_due}
-use Rattle.token.specs.History.{History, change_of, changes_of, keeps, phase_of, present}
+use Rattle.token.specs.History.{History, change_of, changes_of, keeps, phase_of}
 use Rattle.token.specs.Legal.{Follows, IsLegal}
 use Rattle.token.specs.Setup.{Setup}
 use Rattle.token.specs.Turns.{Step}

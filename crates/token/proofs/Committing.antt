@@ -1,5 +1,5 @@
 -- A commit changes a thread's row alone of the threads, and can be taken back.
-use Rattle.std.proofs.Common.{◌≡◌, ℕ, zero, suc, ◌<◌, Bool, true, false, ◌&&◌, Option, Some, None, List, [], ◌∷◌, length, take, slice_get, refl, ap, sym, subst, arith}
+use Rattle.std.proofs.Common.{◌≡◌, ℕ, zero, suc, ◌<◌, Bool, true, false, ◌&&◌, Some, None, List, [], ◌∷◌, length, take, slice_get, refl, ap, sym, subst, arith}
 use Rattle.std.specs.List.{list_all}
 use Rattle.commit.specs.ByteMap.{ByteMap}
 use Rattle.hart.specs.HartState.{HartState}

@@ -7,7 +7,7 @@ use Rattle.token.specs.RunInTurn.{point_of}
 use Rattle.token.specs.Serial.{HasRecorded, Invariants, IsLawful, IsNeeded, IsRecorded, StandsAfter}
 use Rattle.token.specs.Turns.{Step, wake_step}
 use Rattle.token.specs.declared.run_in_turn.RunInTurn.{RunInTurn}
-use Rattle.token.specs.declared.segment_end.SegmentEnd.{SegmentEnd}
+use Rattle.segment.specs.declared.segment_end.SegmentEnd.{SegmentEnd}
 use Rattle.token.specs.declared.turn.Turn.{Turn}
 use Rattle.token.proofs.NextStep.{turn_stands}
 

@@ -10,7 +10,7 @@ use Rattle.token.specs.Serial.{IsAskedFor, IsLawful, IsLonger, IsNeeded, StandsA
 use Rattle.call_table.specs.State.{State}
 use Rattle.token.specs.Turns.{Step}
 use Rattle.token.specs.declared.run_in_turn.RunInTurn.{RunInTurn}
-use Rattle.token.specs.declared.segment_end.SegmentEnd.{SegmentEnd}
+use Rattle.segment.specs.declared.segment_end.SegmentEnd.{SegmentEnd}
 use Rattle.token.proofs.Outputs.{output_grows}
 use Rattle.token.proofs.NextStep.{step_follows}
 

@@ -27,7 +27,7 @@ use Rattle.token.specs.declared.due.Due.{Due}
 use Rattle.token.specs.declared.due.Due.TheVariants as due
 use Rattle.token.specs.declared.need.Need.{Need}
 use Rattle.token.specs.declared.outcome.RunOutcome.{RunOutcome}
-use Rattle.token.specs.declared.segment_end.SegmentEnd.{SegmentEnd}
+use Rattle.segment.specs.declared.segment_end.SegmentEnd.{SegmentEnd}
 use Rattle.token.proofs.Dues.{keeper_is, keeper_ready, ready_is}
 use Rattle.token.proofs.Duties.{due_is, has_due}
 use Rattle.token.proofs.Followers.{follower}
@@ -138,13 +138,13 @@ ran_follows : (point : Point) (history : History) → StandsAfter point history 
 ran_follows point history stands (due.Fresh thread) end is cut ended =
     let base = base_is point history stands (due.Fresh thread) in
     let ran : Ran = ran_of end ended.memory in
-    let segment = segment_from point.setup (version point.setup history (base_of history point.phase (due.Fresh thread))) (base_at point (due.Fresh thread)) thread point.setup.quantum ran base.memory base.threads ended.segment in
+    let segment = segment_from point.setup (version point.setup history (base_of history point.phase (due.Fresh thread))) (base_at point (due.Fresh thread)) thread point.setup.quantum ran base.memory base.threads ended.segment_is in
     subst (Follows point.setup history) (same_step point history stands (due.Fresh thread) end ended.memory ended.patch)
     (follower point.setup history point.phase (due.Fresh thread) ran is segment cut)
 ran_follows point history stands (due.Keeper thread) end is cut ended =
     let base = base_is point history stands (due.Keeper thread) in
     let ran : Ran = ran_of end ended.memory in
-    let segment = segment_from point.setup (version point.setup history (base_of history point.phase (due.Keeper thread))) (base_at point (due.Keeper thread)) thread None ran base.memory base.threads ended.segment in
+    let segment = segment_from point.setup (version point.setup history (base_of history point.phase (due.Keeper thread))) (base_at point (due.Keeper thread)) thread None ran base.memory base.threads ended.segment_is in
     subst (Follows point.setup history) (same_step point history stands (due.Keeper thread) end ended.memory ended.patch)
     (follower point.setup history point.phase (due.Keeper thread) ran is segment cut)
 ran_follows point history stands (due.Woken thread mutex) end is cut needed = absurd needed
@@ -250,8 +250,8 @@ ready_by point history stands (due.Keeper thread) end is needed =
 ready_by point history stands (due.Woken thread mutex) end is needed = absurd needed
 
 within_by : (point : Point) (who : Due) (end : SegmentEnd) → IsNeededBy point (need_of point who) (Some end) → end.count ≤ point.setup.bound - (row_of (base_at point who) (thread_due who)).executed
-within_by point (due.Fresh thread) end needed = count_within _ _ _ _ _ _ _ _ needed.segment
-within_by point (due.Keeper thread) end needed = count_within _ _ _ _ _ _ _ _ needed.segment
+within_by point (due.Fresh thread) end needed = count_within _ _ _ _ _ _ _ _ needed.segment_is
+within_by point (due.Keeper thread) end needed = count_within _ _ _ _ _ _ _ _ needed.segment_is
 within_by point (due.Woken thread mutex) end needed = absurd needed
 
 woken_by : (point : Point) (history : History) → StandsAfter point history → (who : Due) → IsDue point.setup history point.phase who

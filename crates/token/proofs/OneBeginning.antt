@@ -1,7 +1,5 @@
 -- A phase begins with one version, wherever in it legal histories of one setup end.
-use Rattle.std.proofs.Common.{◌≡◌, ◌⊎◌, ℕ, suc, ◌≤◌, Bool, true, false, List, [], ◌∷◌, ◌++◌, refl, ap, sym, ◌∙◌, inl, inr, arith, subst}
-use Rattle.guest_memory.specs.Memory.{Memory}
-use Rattle.thread_table.specs.declared.thread.Thread.{Thread}
+use Rattle.std.proofs.Common.{◌≡◌, ◌⊎◌, ℕ, ◌≤◌, Bool, true, false, List, [], ◌∷◌, ◌++◌, refl, ap, sym, ◌∙◌, inl, inr, arith, subst}
 use Rattle.call_table.specs.State.{State}
 use Rattle.token.specs.Setup.{Setup}
 use Rattle.token.specs.Turns.{Step}

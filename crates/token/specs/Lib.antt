@@ -10,4 +10,5 @@ pub mod Point
 pub mod RunInTurn
 pub mod Serial
 pub mod Setup
+pub mod Segments
 pub mod Turns

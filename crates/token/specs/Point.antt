@@ -1,13 +1,9 @@
 -- Where a run stands between two turns, and what a turn makes of that.
-use Rattle.std.specs.Prelude.{◌≡◌, ℕ, ◌+◌, ◌-◌, ◌<◌, ◌&&◌, ◌||◌, not, ◌==◌, nat_lt, if◌then◌else◌, Option, Some, None, is_some, List, length, slice_index, IfSome}
+use Rattle.std.specs.Prelude.{ℕ, ◌+◌, ◌&&◌, ◌||◌, not, ◌==◌, nat_lt, if◌then◌else◌, Option, Some, None, is_some, List, length, slice_index}
 use Rattle.guest_memory.specs.Memory.{Memory}
 use Rattle.commit.specs.ByteMap.{ByteMap}
 use Rattle.commit.specs.Changed.{addresses_of}
-use Rattle.commit.specs.Merge.{changes}
 use Rattle.condvar_barrier.specs.Objects.{holds}
-use Rattle.hart.specs.HartState.{HartState}
-use Rattle.hart.specs.Segment.{Segment}
-use Rattle.hart.specs.Slice.{Runs}
 use Rattle.thread_table.specs.Status.{is_ready}
 use Rattle.thread_table.specs.Threads.{serial_list}
 use Rattle.thread_table.specs.declared.status.Status.{Status}
@@ -17,6 +13,7 @@ use Rattle.call_table.specs.CommitAndWake.{committed_bytes}
 use Rattle.call_table.specs.State.{State, row_of}
 use Rattle.token.specs.Due.{thread_due, mutex_due}
 use Rattle.token.specs.Outcome.{outcome_of_stop, quiet_outcome}
+use Rattle.token.specs.Segments.{segment_of}
 use Rattle.token.specs.Setup.{Setup}
 use Rattle.token.specs.Turns.{Step, Stopped, after_stop, wake_step}
 use Rattle.token.specs.declared.due.Due.{Due}
@@ -25,7 +22,8 @@ use Rattle.token.specs.declared.need.Need.{Need}
 use Rattle.token.specs.declared.need.Need.TheVariants as need
 use Rattle.token.specs.declared.need.Work.{Work}
 use Rattle.token.specs.declared.outcome.RunOutcome.{RunOutcome}
-use Rattle.token.specs.declared.segment_end.SegmentEnd.{SegmentEnd}
+use Rattle.segment.specs.Ends.{IsEndOf}
+use Rattle.segment.specs.declared.segment_end.SegmentEnd.{SegmentEnd}
 use Rattle.token.specs.declared.turn.Turn.{Turn}
 use Rattle.token.specs.declared.turn.TurnStop.{TurnStop}
 
@@ -73,7 +71,7 @@ base_number_at point (due.Woken thread mutex) = point.done
 -- the segment of a thread from a base
 abbrev pub work_from : Setup → State → ℕ → Option ℕ → Work
 work_from setup base thread quantum =
-    record { thread = thread; hart = (row_of base thread).hart; left = setup.bound - (row_of base thread).executed; quantum = quantum }
+    record { thread = thread; segment = segment_of setup.bound quantum (row_of base thread) }
 
 -- what the turn of who is due needs
 abbrev pub need_of : Point → Due → Need
@@ -89,20 +87,6 @@ need_by None asked = asked
 unfoldable pub need_at : Point → Need
 need_at point = need_by point.ended (need_of point (due_at point))
 
--- A segment's end is that of a piece of work on a copy of a memory: the patch has what the memory at its end changed.
-pub record IsEndOf (copy : Memory) (work : Work) (end : SegmentEnd) : Type 0 where
-  pub memory : Memory
-  pub patch : end.patch ≡ changes copy memory
-  pub segment : Segment work.hart copy work.left work.quantum end.stop end.count end.hart memory
-
--- A piece of work on a copy of a memory executes so many instructions, and goes on then.
-pub record GoesPast (copy : Memory) (work : Work) (count : ℕ) : Type 0 where
-  pub hart : HartState
-  pub memory : Memory
-  pub runs : Runs work.hart copy work.left work.quantum count hart memory
-  pub bound : count < work.left
-  pub quantum : IfSome work.quantum (λ q. count < q)
-
 -- the patch of a segment's end, none at a wake
 abbrev pub patch_of : Option SegmentEnd → Option ByteMap
 patch_of None = None
@@ -110,8 +94,8 @@ patch_of (Some end) = Some end.patch
 
 -- the end is what the next turn needs
 abbrev pub IsNeededBy : Point → Need → Option SegmentEnd → Type 0
-IsNeededBy point (need.Segment work) (Some end) = IsEndOf point.base work end
-IsNeededBy point (need.Keeper work) (Some end) = IsEndOf point.state.memory work end
+IsNeededBy point (need.Segment work) (Some end) = IsEndOf point.base work.segment end
+IsNeededBy point (need.Keeper work) (Some end) = IsEndOf point.state.memory work.segment end
 IsNeededBy point (need.Wake thread) None = Unit {0}
 IsNeededBy point _ _ = ⊥
 

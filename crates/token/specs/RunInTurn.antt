@@ -9,7 +9,7 @@ use Rattle.call_table.specs.Shared.{state_of, input_of}
 use Rattle.call_table.specs.State.{row_of}
 use Rattle.token.specs.Due.{thread_due, mutex_due}
 use Rattle.token.specs.Point.{Point, base_at, due_at}
-use Rattle.token.specs.declared.segment_end.SegmentEnd.{SegmentEnd}
+use Rattle.segment.specs.declared.segment_end.SegmentEnd.{SegmentEnd}
 use Rattle.token.specs.declared.run_in_turn.RunInTurn.{RunInTurn}
 
 -- the base's memory: a snapshot of its own, or the present memory

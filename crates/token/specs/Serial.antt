@@ -7,9 +7,8 @@ use Rattle.token.specs.History.{History, IsHeldByKeeper, IsNextPhase, turns_of, 
 use Rattle.token.specs.Legal.{IsLegal, Follows}
 use Rattle.token.specs.Point.{Point, IsNeededAt, step_at}
 use Rattle.token.specs.RunInTurn.{point_of}
-use Rattle.token.specs.Setup.{Setup}
 use Rattle.token.specs.declared.run_in_turn.RunInTurn.{RunInTurn}
-use Rattle.token.specs.declared.segment_end.SegmentEnd.{SegmentEnd}
+use Rattle.segment.specs.declared.segment_end.SegmentEnd.{SegmentEnd}
 use Rattle.token.specs.declared.turn.Turn.{Turn}
 
 -- A run stands after this history: each part of the point is the history's.

@@ -1,18 +1,13 @@
 //! What the next turn needs: a segment with its limits, nothing at a wake, or the end of the run.
 use crate::outcome::RunOutcome;
-use hart::Hart;
+use segment::Segment;
 
-/// A segment that is to be executed.
+/// A thread's segment, which is to be executed.
 #[derive(Clone, Copy, Debug, PartialEq, Eq)]
 pub struct Work {
     /// The thread's number.
     pub thread: u32,
-    /// The hart that it begins with.
-    pub hart: Hart,
-    /// How many instructions the thread may still execute.
-    pub left: u64,
-    /// After how many instructions it ends at the latest, where it has a quantum.
-    pub quantum: Option<u64>,
+    pub segment: Segment,
 }
 
 /// What the next turn of a run needs.

@@ -6,8 +6,8 @@ ghost use Rattle.token.specs.RunInTurn.{point_of};
 use crate::need::Need;
 use crate::outcome::RunOutcome;
 use crate::recorder::Recorder;
-use crate::segment_end::SegmentEnd;
 use crate::serial::Serial;
+use segment::SegmentEnd;
 use std::alloc::AllocError;
 
 /// How a run goes on.
@@ -26,11 +26,11 @@ pub fn next_turn<R: Recorder>(serial: &Serial<R>) -> Result<Next, AllocError>
 {
     match serial.need() {
         Need::Segment(work) => {
-            let end = work.run(serial.base())?;
+            let end = work.segment.run(serial.base())?;
             Ok(Next::Turn(Some(end)))
         }
         Need::Keeper(work) => {
-            let end = work.run(serial.now())?;
+            let end = work.segment.run(serial.now())?;
             Ok(Next::Turn(Some(end)))
         }
         Need::Wake { .. } => Ok(Next::Turn(None)),

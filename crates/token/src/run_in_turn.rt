@@ -9,13 +9,14 @@ use crate::due::Due;
 use crate::need::{Need, Work};
 use crate::outcome::RunOutcome;
 use crate::phase::Phase;
-use crate::segment_end::SegmentEnd;
 use crate::segment_turn::run_on;
+use crate::segments::segment_of;
 use crate::turn::{Turn, TurnStop};
 use crate::verdict::{keeper_after, outcome_of_stop, quiet_outcome};
 use call_table::SharedState;
 use commit::changed;
 use paged_memory::Snapshot;
+use segment::SegmentEnd;
 use std::alloc::AllocError;
 use thread_table::{Status, Thread};
 
@@ -144,9 +145,7 @@ impl RunInTurn {
         let row = self.base_row(due);
         Work {
             thread: due.thread(),
-            hart: row.hart,
-            left: self.bound.saturating_sub(row.executed),
-            quantum,
+            segment: segment_of(row, self.bound, quantum),
         }
     }
 

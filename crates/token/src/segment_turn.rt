@@ -6,11 +6,11 @@ ghost use Rattle.hart.specs.HartState.{register};
 ghost use Rattle.thread_table.specs.declared.status.Status.TheVariants.{Ready};
 ghost use Rattle.token.specs.Point.{stopped_by};
 
-use crate::segment_end::SegmentEnd;
 use crate::turn::TurnStop;
 use abi::Reply;
 use call_table::SharedState;
 use hart::{Hart, Stop};
+use segment::SegmentEnd;
 use std::alloc::AllocError;
 
 /// Commits what a thread changed, and carries out its call where it stopped by one. Answers how the turn

@@ -2,21 +2,33 @@
 #![tactic(auto, unfolding(crate::specs::RunInTurn::point_of))]
 
 ghost use Rattle.std.specs.Prelude.{◌≡◌, ◌<◌, [], None, Some, OnOk, OnErr, IfOk, IfErr, option_map};
+ghost use Rattle.token.specs.Point as point;
 
 use crate::kept::Kept;
 use crate::need::Need;
 use crate::no_record::NoRecord;
 use crate::recorder::Recorder;
 use crate::run_in_turn::{MOST_TURNS, RunInTurn};
-use crate::segment_end::{SegmentEnd, patch_of};
 use crate::turn::Turn;
 use crate::turn_change::TurnChange;
 use crate::turn_fault::TurnFault;
+use commit::Patch;
 use condvar_barrier::Objects;
 use paged_memory::Snapshot;
+use segment::SegmentEnd;
 use std::alloc::AllocError;
 use std::marker::Model;
 use thread_table::Threads;
+
+/// The patch of a segment's end, and none at a wake.
+fn patch_of(end: Option<&SegmentEnd>) -> Option<&Patch>
+    ensures { option_map (λ patch. patch.now) result ≡ point.patch_of (option_map (λ end. end.now) end.entry) }
+{
+    match end {
+        Some(end) => Some(&end.patch),
+        None => None,
+    }
+}
 
 /// The serial state of a run: what it was given, what stands after the turns that it has done, and a recorder of
 /// these turns. They are a legal history, and the recorder has recorded exactly its turns and its changes. A turn

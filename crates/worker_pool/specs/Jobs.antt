@@ -1,16 +1,16 @@
 -- A phase of a run as its jobs are shared out.
-use Rattle.std.specs.Prelude.{◌≡◌, ℕ, ◌-◌, ◌<◌, Option, List, length, map}
+use Rattle.std.specs.Prelude.{◌≡◌, ℕ, ◌<◌, List, length, map}
 use Rattle.guest_memory.specs.Memory.{Memory}
 use Rattle.paged_memory.specs.Snapshot.{cells_of}
-use Rattle.phase_jobs.specs.Stands.{UnderwayState}
 use Rattle.phase_jobs.specs.SharedJobs.{PhaseState}
-use Rattle.phase_jobs.specs.declared.job.Job.{Job}
+use Rattle.segment.specs.Stands.{UnderwayState}
+use Rattle.segment.specs.declared.segment.Segment.{Segment}
 use Rattle.thread_table.specs.declared.thread.Thread.{Thread}
 use Rattle.token.specs.History.{History}
 use Rattle.token.specs.Point.{Point}
+use Rattle.token.specs.Segments.{segment_in}
 use Rattle.token.specs.Serial.{StandsAfter}
 use Rattle.token.specs.Setup.{Setup}
-use Rattle.worker_pool.specs.Posts.{row_in}
 
 -- a phase's number, its ready threads, and their jobs
 pub record SharedState : Type 0 where
@@ -18,16 +18,12 @@ pub record SharedState : Type 0 where
   pub threads : List ℕ
   pub phase : PhaseState
 
--- the job of a thread in a phase that began with these threads
-abbrev pub job_from : List Thread → ℕ → Option ℕ → ℕ → Job
-job_from rows bound quantum thread = record { hart = (row_in rows thread).hart; left = bound - (row_in rows thread).executed; quantum = quantum }
-
--- the jobs of some threads
-abbrev pub jobs_in : Setup → List Thread → List ℕ → List Job
-jobs_in setup rows threads = map (job_from rows setup.bound setup.quantum) threads
+-- the jobs of some threads in a phase that began with these rows
+abbrev pub jobs_in : Setup → List Thread → List ℕ → List Segment
+jobs_in setup rows threads = map (segment_in setup rows) threads
 
 -- Wherever in a phase a run of this setup stands, these are the jobs of these threads, and this is the memory that the phase began with.
-abbrev pub AreJobsIn : Setup → ℕ → List ℕ → List Job → Memory → Type 0
+abbrev pub AreJobsIn : Setup → ℕ → List ℕ → List Segment → Memory → Type 0
 AreJobsIn setup number threads jobs memory =
     (point : Point) (history : History) → StandsAfter point history → point.setup ≡ setup → point.phase ≡ number → (memory ≡ point.base) × (jobs ≡ jobs_in setup point.base_threads threads)
 
@@ -37,6 +33,6 @@ pub record IsShared (setup : Setup) (number : ℕ) (threads : List ℕ) (phase :
 
 -- it is a thread's job in the phase where a run stands, and goes on
 pub record IsBegunIn (point : Point) (thread : ℕ) (job : UnderwayState) : Type 0 where
-  pub job_is : job.job ≡ job_from point.base_threads point.setup.bound point.setup.quantum thread
+  pub segment_is : job.segment ≡ segment_in point.setup point.base_threads thread
   pub memory_is : cells_of job.base ≡ point.base
-  pub going : job.done < job.job.left
+  pub going : job.done < job.segment.left

@@ -1,4 +1,3 @@
-pub mod Goings
 pub mod Jobs
 pub mod Posts
 pub mod Sharing

@@ -1,17 +1,16 @@
 //! What the caller has of a phase that is shared out: its seat, its job, and the ends that it received. May wait for an end.
-ghost use Rattle.std.specs.Prelude.{◌≡◌, ◌<◌, IfSome};
+ghost use Rattle.std.specs.Prelude.{◌≡◌, ◌<◌, length, IfSome};
 ghost use Rattle.std.specs.Arc.{arc_value};
-ghost use Rattle.worker_pool.specs.Posts.{IsPost};
-ghost use Rattle.worker_pool.specs.Sharing.{Has};
-ghost use Rattle.worker_pool.specs.Goings.{IsGoing};
+ghost use Rattle.worker_pool.specs.Sharing.{Has, HasLed};
 
-use crate::going::Going;
+use crate::held::Held;
 use crate::line::Line;
 use crate::of_run::OfRun;
 use crate::post::Post;
 use crate::shared_phase::SharedPhase;
 use claim_table::DrawSeat;
-use phase_jobs::{Gate, Taken};
+use phase_jobs::Gate;
+use segment::Progress;
 use std::marker::Model;
 use std::sync::{Arc, Wait};
 
@@ -20,7 +19,7 @@ use std::sync::{Arc, Wait};
 pub(crate) struct Board<B: OfRun> {
     shared: Arc<SharedPhase<B>>,
     seat: DrawSeat,
-    mine: Option<Taken>,
+    mine: Option<Held>,
     posts: Vec<Post<B>>,
     /// A message found no room, so not every end can be waited for.
     missed: bool,
@@ -38,30 +37,32 @@ impl<B: OfRun> Model for Board<B> {
     ghost invariant = { λ b. Has (arc_value b.shared).phase b.seat b.mine };
 }
 
-/// Goes on with the job that a seat holds, by a slice, or draws one and begins it. None where no job is left.
+/// Goes on with the job that a seat holds, by a slice, or draws one and begins it. The job's number and where the slice
+/// has led; none if no job is left.
 fn proceed<B: OfRun, G: Gate>(
     shared: &SharedPhase<B>,
     seat: &mut DrawSeat,
-    mine: Option<Taken>,
+    mine: Option<Held>,
     gate: &G,
-) -> Option<Going<B>>
+) -> Option<(u32, Option<Progress>)>
     requires { Has shared.now.phase seat.old mine }
     ensures row { seat.new.row ≡ shared.now.phase.row }
-    ensures going { IfSome result (IsGoing shared.now.phase seat.new) }
+    ensures job { IfSome result (λ led. led.0 < length shared.now.phase.jobs) }
+    ensures led { IfSome result (λ led. HasLed shared.now.phase seat.new led.0 led.1) }
 {
-    if let Some(taken) = mine {
-        return Some(shared.go_on(seat, taken));
+    if let Some(held) = mine {
+        return Some((held.number, shared.go_on(seat, held.number, held.job)));
     }
     let number = shared.phase().draw(seat)?;
     gate.pass(seat.number(), number);
-    Some(shared.begin(seat, number))
+    Some((number, shared.begin(seat, number)))
 }
 
 impl<B: OfRun + Send + Sync> Board<B> {
     pub(crate) fn new(
         shared: Arc<SharedPhase<B>>,
         seat: DrawSeat,
-        mine: Option<Taken>,
+        mine: Option<Held>,
         posts: Vec<Post<B>>,
     ) -> Self
         requires { Has (arc_value shared).phase seat mine }
@@ -110,11 +111,19 @@ impl<B: OfRun + Send + Sync> Board<B> {
     /// Goes on with the caller's job, by a slice, or draws one and begins it. Whether there was one.
     fn step<G: Gate>(&mut self, gate: &G) -> bool {
         let mine = self.mine.take();
-        match proceed(&self.shared, &mut self.seat, mine, gate) {
-            Some(Going::On(taken)) => self.mine = Some(taken),
-            Some(Going::Over(post)) => self.file(post),
-            None => return false,
-        }
+        let Some((number, slice)) = proceed(&self.shared, &mut self.seat, mine, gate) else {
+            return false;
+        };
+        let end = match slice {
+            Some(Progress::GoesOn(job)) => {
+                self.mine = Some(Held { number, job });
+                return true;
+            }
+            Some(Progress::Over(end)) => Some(end),
+            None => None,
+        };
+        let post = self.shared.post(number, end);
+        self.file(post);
         true
     }
 

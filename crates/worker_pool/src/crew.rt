@@ -3,7 +3,6 @@ ghost use Rattle.std.specs.Prelude.{◌≡◌, ◌<◌, length};
 ghost use Rattle.claim_table.specs.Logs.{times};
 
 use crate::flags::Flags;
-use crate::going::Going;
 use crate::of_run::OfRun;
 use crate::offer::Offer;
 use crate::post::Post;
@@ -11,6 +10,7 @@ use crate::shared_phase::SharedPhase;
 use claim_table::DrawSeat;
 use crossbeam_channel::{Receiver, Sender};
 use phase_jobs::Gate;
+use segment::Progress;
 use std::sync::{Arc, Wait};
 
 /// How often a worker without work looks for some before it sleeps.
@@ -90,14 +90,15 @@ impl<B: OfRun + Send + Sync> Crew<B> {
         requires drawn { 0 < times number seat.old.log.drawn }
         ensures { seat.new.row ≡ seat.old.row }
     {
-        let mut going = shared.begin(seat, number);
+        let mut slice = shared.begin(seat, number);
         for _ in rt.forever() {
             if self.flags.is_over() {
                 return None;
             }
-            match going {
-                Going::On(taken) => going = shared.go_on(seat, taken),
-                Going::Over(post) => return Some(post),
+            match slice {
+                Some(Progress::GoesOn(job)) => slice = shared.go_on(seat, number, job),
+                Some(Progress::Over(end)) => return Some(shared.post(number, Some(end))),
+                None => return Some(shared.post(number, None)),
             }
         }
         unreachable!()

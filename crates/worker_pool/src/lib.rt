@@ -8,14 +8,13 @@
 mod board;
 mod crew;
 mod flags;
-mod going;
+mod held;
 mod line;
 mod of_run;
 mod offer;
 mod opening;
 mod pool;
 mod post;
-mod segment_end;
 mod shared_phase;
 
 pub use crew::Crew;

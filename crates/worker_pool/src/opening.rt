@@ -5,19 +5,22 @@ ghost use Rattle.paged_memory.specs.Snapshot.{cells_of};
 ghost use Rattle.token.specs.RunInTurn.{point_of};
 ghost use Rattle.token.specs.Serial.{IsAskedFor};
 ghost use Rattle.std.specs.Arc.{arc_value};
-ghost use Rattle.worker_pool.specs.Jobs.{IsBegunIn, job_from, jobs_in};
+ghost use Rattle.token.specs.Segments as segments;
+ghost use Rattle.worker_pool.specs.Jobs.{IsBegunIn, jobs_in};
 ghost use Rattle.worker_pool.specs.Sharing.{IsHeld};
 
 use crate::board::Board;
+use crate::held::Held;
 use crate::line::Line;
 use crate::of_run::OfRun;
 use crate::shared_phase::SharedPhase;
 use claim_table::DrawSeat;
-use phase_jobs::{Job, SharedJobs, Taken, Underway};
+use phase_jobs::SharedJobs;
+use segment::{Segment, Underway};
 use std::alloc::{AllocError, Global};
 use std::sync::{Arc, Wait};
 use thread_table::Threads;
-use token::{Recorder, Serial};
+use token::{Recorder, Serial, segment_of};
 
 /// The jobs of some threads, in their order.
 fn jobs_of(
@@ -26,18 +29,13 @@ fn jobs_of(
     threads: &[u32],
     bound: u64,
     quantum: Option<u64>,
-) -> Result<Vec<Job>, AllocError>
+) -> Result<Vec<Segment>, AllocError>
     requires { All (λ thread. thread < length rows.now) threads.now }
-    ensures { IfOk result (λ jobs. jobs.items ≡ map (job_from rows.now bound quantum) threads.now) }
+    ensures { IfOk result (λ jobs. jobs.items ≡ map (λ thread. segments.segment_of bound quantum (segments.row_in rows.now thread)) threads.now) }
 {
     let mut jobs = Vec::with_capacity(alloc, threads.len())?;
     for thread in threads {
-        let row = rows.get(*thread);
-        jobs.push(Job {
-            hart: row.hart,
-            left: bound.saturating_sub(row.executed),
-            quantum,
-        })?;
+        jobs.push(segment_of(rows.get(*thread), bound, quantum))?;
     }
     Ok(jobs)
 }
@@ -101,17 +99,17 @@ pub(crate) fn adopted<B: OfRun>(
     seat: &mut DrawSeat,
     thread: u32,
     job: Underway,
-) -> Option<Taken>
+) -> Option<Held>
     requires row { seat.old.row ≡ shared.now.phase.row }
-    requires job { (k : ℕ) → slice_get shared.now.threads k ≡ Some thread → slice_get shared.now.phase.jobs k ≡ Some job.job }
+    requires job { (k : ℕ) → slice_get shared.now.threads k ≡ Some thread → slice_get shared.now.phase.jobs k ≡ Some job.segment }
     requires base { cells_of job.base ≡ cells_of shared.now.phase.base }
-    requires going { job.done < job.job.left }
+    requires going { job.done < job.segment.left }
     ensures row { seat.new.row ≡ seat.old.row }
     ensures held { IfSome result (IsHeld shared.now.phase seat.new) }
 {
     let number = place_of(shared.threads(), thread)?;
     if draw_up_to(shared.phase(), seat, number) {
-        return Some(Taken { number, job });
+        return Some(Held { number, job });
     }
     None
 }

@@ -1,7 +1,8 @@
 //! The caller's side of the pool: gives the end of the needed segment, whoever executed it. May wait for a worker.
 ghost use Rattle.std.specs.Prelude.{◌≡◌, ◌<◌, ◌≤◌, IfOk, IfSome};
 ghost use Rattle.claim_table.specs.Logs.{most_seats};
-ghost use Rattle.token.specs.Point.{IsEndOf, need_at};
+ghost use Rattle.segment.specs.Ends.{IsEndOf};
+ghost use Rattle.token.specs.Point.{need_at};
 ghost use Rattle.token.specs.RunInTurn.{point_of};
 ghost use Rattle.token.specs.Serial.{IsAskedFor};
 ghost use Rattle.worker_pool.specs.Jobs.{IsBegunIn};
@@ -13,22 +14,19 @@ use crate::flags::Flags;
 use crate::line::{Line, MOST_OFFERS};
 use crate::of_run::OfRun;
 use crate::opening::share_out;
-use crate::segment_end::{job_of, segment_end};
 use claim_table::JOBS;
 use crossbeam_channel::bounded;
-use phase_jobs::{Gate, Progress, Underway};
+use phase_jobs::Gate;
+use segment::{Progress, SegmentEnd, Underway};
 use std::alloc::{AllocError, Global};
 use std::sync::{Arc, Wait};
-use token::{Need, Recorder, SegmentEnd, Serial, Work};
+use token::{Need, Recorder, Serial, Work};
 
 /// The number of the caller among the host threads of a run.
 const CALLER: u32 = 0;
 
 /// How many instructions of a job the caller executes alone before it shares its phase out.
 const FIRST: u64 = 4096;
-
-/// How many instructions of that job, which it begins anew then, it executes before the others are told.
-const BEGINNING: u64 = 1;
 
 /// How many phases are shared out at once after a job of `FIRST` instructions or more.
 const CREDIT: u32 = 16;
@@ -122,7 +120,7 @@ impl<B: OfRun + Send + Sync> Pool<B> {
         requires setup { (point_of serial.now).setup ≡ B.setup }
         requires asked { IsAskedFor serial.now }
         requires need { need_at (point_of serial.now) ≡ Need.Segment work.now }
-        ensures { IfOk result (IsEndOf (point_of serial.now).base work.now) }
+        ensures { IfOk result (IsEndOf (point_of serial.now).base work.now.segment) }
     {
         self.come_to(serial.phase());
         if self.board.is_none() {
@@ -132,7 +130,7 @@ impl<B: OfRun + Send + Sync> Pool<B> {
         }
         match self.awaited(rt, gate, serial.phase(), work.thread) {
             Some(end) => Ok(end),
-            None => work.run(serial.base()),
+            None => work.segment.run(serial.base()),
         }
     }
 
@@ -163,11 +161,11 @@ impl<B: OfRun + Send + Sync> Pool<B> {
         requires setup { (point_of serial.now).setup ≡ B.setup }
         requires asked { IsAskedFor serial.now }
         requires need { need_at (point_of serial.now) ≡ Need.Segment work.now }
-        ensures { IfOk result (λ end. IfSome end (IsEndOf (point_of serial.now).base work.now)) }
+        ensures { IfOk result (λ end. IfSome end (IsEndOf (point_of serial.now).base work.now.segment)) }
     {
         if self.line.is_none() || serial.list().len() < 2 {
             self.pass(gate);
-            return Ok(Some(work.run(serial.base())?));
+            return Ok(Some(work.segment.run(serial.base())?));
         }
         if self.credit > 0 {
             self.credit -= 1;
@@ -175,36 +173,17 @@ impl<B: OfRun + Send + Sync> Pool<B> {
                 return Ok(None);
             }
             self.pass(gate);
-            return Ok(Some(work.run(serial.base())?));
+            return Ok(Some(work.segment.run(serial.base())?));
         }
         self.pass(gate);
-        if let Some(end) = work.run_within(serial.base(), FIRST)? {
-            return Ok(Some(end));
-        }
-        self.credit = CREDIT;
-        self.share_begun(rt, serial, work)
-    }
-
-    /// Begins the job of a segment anew and shares its phase out. The segment's end, where that couldn't be done.
-    #[inline(never)]
-    fn share_begun<R: Wait, K: Recorder>(
-        &mut self,
-        rt: &R,
-        serial: &Serial<K>,
-        work: &Work,
-    ) -> Result<Option<SegmentEnd>, AllocError>
-        requires setup { (point_of serial.now).setup ≡ B.setup }
-        requires asked { IsAskedFor serial.now }
-        requires need { need_at (point_of serial.now) ≡ Need.Segment work.now }
-        ensures { IfOk result (λ end. IfSome end (IsEndOf (point_of serial.now).base work.now)) }
-    {
-        match Underway::begin(job_of(work), serial.base(), BEGINNING)? {
-            Progress::Over(end) => Ok(Some(segment_end(end))),
+        match Underway::begin(work.segment, serial.base(), FIRST)? {
+            Progress::Over(end) => Ok(Some(end)),
             Progress::GoesOn(job) => {
+                self.credit = CREDIT;
                 if self.share(rt, serial, work.thread, Some(job)) {
                     return Ok(None);
                 }
-                Ok(Some(work.run(serial.base())?))
+                Ok(Some(work.segment.run(serial.base())?))
             }
         }
     }

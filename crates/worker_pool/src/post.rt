@@ -1,10 +1,10 @@
 //! The end of a segment as a worker sends it, with the fact whose end it is.
-ghost use Rattle.std.specs.Prelude.{◌≡◌, ◌↔◌, None, Some, IsTrue};
-ghost use Rattle.worker_pool.specs.Posts.{IsEndIn, IsPost};
+ghost use Rattle.std.specs.Prelude.{◌≡◌, ◌↔◌, IsTrue};
+ghost use Rattle.worker_pool.specs.Posts.{IsPost};
 
 use crate::of_run::OfRun;
+use segment::SegmentEnd;
 use std::marker::{Model, PhantomData};
-use token::SegmentEnd;
 
 /// What a host thread tells of a job: the phase and the thread, and the end of the thread's segment there, or that
 /// none comes from this host thread.
@@ -31,27 +31,15 @@ impl<B: OfRun> Model for Post<B> {
 }
 
 impl<B: OfRun> Post<B> {
-    /// The end of a thread's segment in a phase.
-    pub fn ended(phase: u64, thread: u32, end: SegmentEnd) -> Self
-        requires { IsEndIn B.setup phase thread end }
-        ensures { result ≡ record { phase = phase; thread = thread; end = Some end } }
+    /// The end of a thread's segment in a phase, or none if it doesn't come from this host thread.
+    pub fn new(phase: u64, thread: u32, end: Option<SegmentEnd>) -> Self
+        requires { IsPost B.setup phase thread end }
+        ensures { result ≡ record { phase = phase; thread = thread; end = end } }
     {
         Post {
             phase,
             thread,
-            end: Some(end),
-            of: PhantomData,
-        }
-    }
-
-    /// That the end of a thread's segment in a phase doesn't come.
-    pub fn lost(phase: u64, thread: u32) -> Self
-        ensures { result ≡ record { phase = phase; thread = thread; end = None } }
-    {
-        Post {
-            phase,
-            thread,
-            end: None,
+            end,
             of: PhantomData,
         }
     }

@@ -1,19 +1,16 @@
 //! The jobs of a phase as the caller and its workers share them.
-ghost use Rattle.std.specs.Prelude.{◌≡◌, ◌<◌, ℕ, List, length, IfSome, OnSome, IfOk};
+ghost use Rattle.std.specs.Prelude.{◌≡◌, ◌<◌, Some, length, slice_get, IfSome};
 ghost use Rattle.claim_table.specs.Logs.{times};
-ghost use Rattle.claim_table.specs.declared.log.Log.{Log};
 ghost use Rattle.paged_memory.specs.Snapshot.{cells_of};
-ghost use Rattle.phase_jobs.specs.Outcome.{IsOutcome};
+ghost use Rattle.phase_jobs.specs.Slices.{IsEndOfJob, IsGoing};
 ghost use Rattle.worker_pool.specs.Jobs.{IsShared};
-ghost use Rattle.worker_pool.specs.Sharing.{IsHeld};
-ghost use Rattle.worker_pool.specs.Goings.{IsGoing};
+ghost use Rattle.worker_pool.specs.Sharing.{HasLed};
 
-use crate::going::Going;
 use crate::of_run::OfRun;
 use crate::post::Post;
-use crate::segment_end::segment_end;
 use claim_table::DrawSeat;
-use phase_jobs::{Drawn, Outcome, SharedJobs, Stage, Taken};
+use phase_jobs::SharedJobs;
+use segment::{Progress, SegmentEnd, Underway};
 use std::marker::{Model, PhantomData};
 
 /// A phase of a run whose jobs several host threads draw.
@@ -63,56 +60,40 @@ impl<B: OfRun> SharedPhase<B> {
         &self.phase
     }
 
-    /// Begins a job that the seat drew.
-    pub(crate) fn begin(&self, seat: &mut DrawSeat, number: u32) -> Going<B>
+    /// Begins a job that the seat drew. None if it has no end here: a lower job ends the run, or memory is refused.
+    pub(crate) fn begin(&self, seat: &mut DrawSeat, number: u32) -> Option<Progress>
         requires row { seat.old.row ≡ self.now.phase.row }
         requires job { number < length self.now.phase.jobs }
         requires drawn { 0 < times number seat.old.log.drawn }
         ensures row { seat.new.row ≡ seat.old.row }
-        ensures going { IsGoing self.now.phase seat.new result }
+        ensures led { HasLed self.now.phase seat.new number result }
     {
         match self.phase.begin(seat, number) {
-            Ok(Stage::GoesOn(taken)) => Going::On(taken),
-            Ok(Stage::Over(drawn)) => Going::Over(self.post_of(drawn)),
-            Err(_) => Going::Over(self.lost(number)),
+            Ok(slice) => slice,
+            Err(_) => None,
         }
     }
 
-    /// Goes on with a job that the seat drew.
-    pub(crate) fn go_on(&self, seat: &mut DrawSeat, taken: Taken) -> Going<B>
+    /// Goes on with a job that the seat drew. None if it has no end here: a lower job ends the run, or memory is refused.
+    pub(crate) fn go_on(&self, seat: &mut DrawSeat, number: u32, job: Underway) -> Option<Progress>
         requires row { seat.old.row ≡ self.now.phase.row }
-        requires held { IsHeld self.now.phase seat.old taken }
+        requires going { IsGoing self.now.phase.jobs (cells_of self.now.phase.base) number job }
+        requires drawn { 0 < times number seat.old.log.drawn }
         ensures row { seat.new.row ≡ seat.old.row }
-        ensures going { IsGoing self.now.phase seat.new result }
+        ensures led { HasLed self.now.phase seat.new number result }
     {
-        let number = taken.number;
-        match self.phase.go_on(seat, taken) {
-            Ok(Stage::GoesOn(taken)) => Going::On(taken),
-            Ok(Stage::Over(drawn)) => Going::Over(self.post_of(drawn)),
-            Err(_) => Going::Over(self.lost(number)),
+        match self.phase.go_on(seat, number, job) {
+            Ok(slice) => slice,
+            Err(_) => None,
         }
     }
 
-    /// What is told of a job that is over.
-    fn post_of(&self, drawn: Drawn) -> Post<B>
-        requires job { drawn.number < length self.now.phase.jobs }
-        requires outcome { (log : Log) × IsOutcome self.now.phase.jobs (cells_of self.now.phase.base) log drawn.number drawn.outcome }
+    /// What is told of a job: its end, or that none comes from this host thread.
+    pub(crate) fn post(&self, number: u32, end: Option<SegmentEnd>) -> Post<B>
+        requires job { number < length self.now.phase.jobs }
+        requires end { IfSome end (IsEndOfJob self.now.phase.jobs (cells_of self.now.phase.base) number) }
+        ensures { (result.phase ≡ self.now.number) × (slice_get self.now.threads number ≡ Some result.thread) × (result.end ≡ end) }
     {
-        let Drawn { number, outcome } = drawn;
-        match outcome {
-            Outcome::Ran(ran) => Post::ended(
-                self.number,
-                self.threads[number as usize],
-                segment_end(ran.into_end()),
-            ),
-            Outcome::Skipped => self.lost(number),
-        }
-    }
-
-    /// That the end of a job doesn't come.
-    fn lost(&self, number: u32) -> Post<B>
-        requires { number < length self.now.phase.jobs }
-    {
-        Post::lost(self.number, self.threads[number as usize])
+        Post::new(self.number, self.threads[number as usize], end)
     }
 }

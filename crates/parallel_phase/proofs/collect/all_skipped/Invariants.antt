@@ -1,5 +1,5 @@
 use Rattle.std.proofs.Common.{◌≡◌, length, All}
-use Rattle.phase_jobs.specs.declared.outcome.Outcome.TheVariants.{Skipped}
+use Rattle.parallel_phase.specs.declared.outcome.Outcome.TheVariants.{Skipped}
 use Rattle.parallel_phase.proofs.collect.all_skipped.Given as goal
 
 abbrev pub invariant-loop : goal.invariant-loop

@@ -1,5 +1,5 @@
 use Rattle.std.proofs.Common.{◌≡◌, ◌<◌, length, All}
-use Rattle.phase_jobs.specs.declared.drawn.Drawn.{Drawn}
+use Rattle.parallel_phase.specs.declared.drawn.Drawn.{Drawn}
 use Rattle.parallel_phase.specs.Outcomes.{filed}
 use Rattle.parallel_phase.proofs.collect.file.Given as goal
 

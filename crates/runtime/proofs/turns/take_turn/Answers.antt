@@ -1,6 +1,6 @@
 use Rattle.std.proofs.Common.{refl, sym, subst}
 use Rattle.guest_memory.specs.Memory.{Memory}
-use Rattle.token.specs.Point.{IsEndOf}
+use Rattle.segment.specs.Ends.{IsEndOf}
 use Rattle.token.specs.RunInTurn.{point_of}
 use Rattle.token.proofs.Needs.{segment_needed, keeper_needed}
 use Rattle.runtime.proofs.Needs.{ended_at}
@@ -13,7 +13,7 @@ turn-requires g c =
 pub turn-requires-in-Keeper : goal.turn-requires-in-Keeper
 turn-requires-in-Keeper g c =
     keeper_needed (point_of c.args.serial.now) c.in-Keeper.work c.in_ok-end-in-Keeper.end (sym c.in-Keeper.ensures.need)
-    (subst (λ (memory : Memory). IsEndOf memory c.in-Keeper.work c.in_ok-end-in-Keeper.end) c.now.ensures c.in_ok-end-in-Keeper.ensures)
+    (subst (λ (memory : Memory). IsEndOf memory c.in-Keeper.work.segment c.in_ok-end-in-Keeper.end) c.now.ensures c.in_ok-end-in-Keeper.ensures)
 
 pub returns-in-Ended-clause-moved : goal.returns-in-Ended-clause-moved
 returns-in-Ended-clause-moved g c = (ended_at (point_of c.args.serial.now) c.in-Ended.outcome c.in-Ended.ensures.need, refl)

@@ -6,7 +6,8 @@ use Rattle.claim_table.specs.Seat.{SeatState}
 use Rattle.token.specs.Point.{Point}
 use Rattle.token.specs.RunInTurn.{point_of}
 use Rattle.token.specs.Setup.{Setup}
-use Rattle.worker_pool.specs.Jobs.{SharedState, job_from, jobs_in}
+use Rattle.token.specs.Segments.{row_in, segment_in, segment_of}
+use Rattle.worker_pool.specs.Jobs.{SharedState, jobs_in}
 use Rattle.worker_pool.proofs.Ends.{jobs_everywhere}
 use Rattle.worker_pool.proofs.Seats.{all_of_row}
 use Rattle.worker_pool.proofs.opening.shared_phase.Goals as goal
@@ -16,12 +17,12 @@ new-requires g c =
     let point : Point = point_of c.args.serial.now in
     let bound = c.bound.ensures ∙ ap (λ (s : Setup). s.bound) c.requires.setup in
     let quantum = c.quantum.ensures ∙ ap (λ (s : Setup). s.quantum) c.requires.setup in
-    let given : c.in_ok-phase.phase.jobs ≡ map (job_from c.base_threads-2.result.now c.bound.result c.quantum.result) c.as_slice-2.result.now =
+    let given : c.in_ok-phase.phase.jobs ≡ map (λ thread. segment_of c.bound.result c.quantum.result (row_in c.base_threads-2.result.now thread)) c.as_slice-2.result.now =
     c.in_ok-phase.ensures.jobs.0 ∙ c.as_slice-3.ensures.value ∙ c.in_ok-jobs.ensures in
     let jobs : c.in_ok-phase.phase.jobs ≡ jobs_in g.B.OfRun.setup point.base_threads c.in_ok-threads.threads.items =
-    given ∙ (λ i. map (job_from (c.base_threads-2.ensures i) (bound i) (quantum i)) (c.as_slice-2.ensures.value i)) in
+    given ∙ (λ i. map (λ thread. segment_of (bound i) (quantum i) (row_in (c.base_threads-2.ensures i) thread)) (c.as_slice-2.ensures.value i)) in
     record {
-      as_many = sym (ap length jobs ∙ length-map c.in_ok-threads.threads.items (job_from point.base_threads g.B.OfRun.setup.bound g.B.OfRun.setup.quantum));
+      as_many = sym (ap length jobs ∙ length-map c.in_ok-threads.threads.items (segment_in g.B.OfRun.setup point.base_threads));
       jobs = jobs_everywhere g.B.OfRun.setup point c.requires.asked.0 _ _ _ _ c.requires.asked.1 c.requires.setup c.phase.ensures (c.in_ok-phase.ensures.jobs.1 ∙ c.base.ensures) jobs;
     }
 

@@ -6,7 +6,7 @@ use Rattle.claim_table.specs.Seat.{Row, SeatState}
 use Rattle.phase_jobs.specs.SharedJobs.{PhaseState}
 use Rattle.parallel_phase.specs.Events.{AreByEvents}
 use Rattle.parallel_phase.specs.Outcomes.{AreFates, filed}
-use Rattle.phase_jobs.specs.declared.outcome.Outcome.{Outcome}
+use Rattle.parallel_phase.specs.declared.outcome.Outcome.{Outcome}
 use Rattle.parallel_phase.proofs.Fates.{AreWorks, rows_of, drawn_inside, fates, filed_length, written_back, drawn_of}
 use Rattle.parallel_phase.proofs.Scheduling.{knows, scheduled}
 use Rattle.parallel_phase.proofs.phase.Phase.collect.Goals as goal

@@ -3,7 +3,7 @@ use Rattle.std.proofs.lemmas.Option.{slice_get-get_or}
 use Rattle.std.specs.Prelude.{slice_set}
 use Rattle.paged_memory.specs.Snapshot.{cells_of}
 use Rattle.parallel_phase.specs.Turns.{AreWaiting, IsResult}
-use Rattle.phase_jobs.specs.declared.outcome.Outcome.{Outcome}
+use Rattle.parallel_phase.specs.declared.outcome.Outcome.{Outcome}
 use Rattle.parallel_phase.proofs.Places.{taken_out}
 use Rattle.parallel_phase.proofs.phase.Phase.take_out.Goals as goal
 

@@ -5,4 +5,4 @@ use Rattle.schedule_core.proofs.Coming.{begins}
 use Rattle.schedule_core.proofs.running.Running.begin.Goals as goal
 
 pub returns-clause-running : goal.returns-clause-running
-returns-clause-running c = begins c.args.work _ _ (omega arith) (ap memory_of_pages c.open.ensures.pages ∙ sym (ap cells_of c.open.ensures.base))
+returns-clause-running c = begins c.args.work.segment _ _ (omega arith) (ap memory_of_pages c.open-view.ensures.pages ∙ sym (ap cells_of c.open-view.ensures.base))

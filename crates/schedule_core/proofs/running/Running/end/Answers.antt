@@ -7,6 +7,6 @@ use Rattle.schedule_core.proofs.running.Running.end.Goals as goal
 pub returns : goal.returns
 returns c =
     let run = c.args.self.now in
-    let come : HasCome run.work (memory_of run) run.hart (cells_of run.view) run.steps (Some c.args.stop) =
-    subst (λ stop. HasCome run.work (memory_of run) run.hart (cells_of run.view) run.steps stop) c.requires.stopped c.requires.running in
-    record { memory = cells_of run.view; patch = c.in_ok-patch.ensures; segment = rw c.count.ensures (is_segment _ _ _ _ _ _ come) }
+    let come : HasCome run.work.segment (memory_of run) run.hart (cells_of run.view) run.steps (Some c.args.stop) =
+    subst (λ stop. HasCome run.work.segment (memory_of run) run.hart (cells_of run.view) run.steps stop) c.requires.stopped c.requires.running in
+    record { memory = cells_of run.view; patch = c.in_ok-patch.ensures; segment_is = rw c.count.ensures (is_segment _ _ _ _ _ _ come) }

@@ -14,8 +14,8 @@ returns-in-Some-clause-ok c =
 
 pub overflow_add-self : goal.overflow_add-self
 overflow_add-self c =
-    let free : limit_at c.args.self.now.work c.args.self.now.steps ≡ None = sym c.limit.ensures ∙ c.in_default.is in
-    let left : c.args.self.now.steps < c.args.self.now.work.left = step_left c.args.self.now.work c.args.self.now.steps free c.requires.running.within in
+    let free : limit_at c.args.self.now.work.segment c.args.self.now.steps ≡ None = sym c.limit.ensures ∙ c.in_default.is in
+    let left : c.args.self.now.steps < c.args.self.now.work.segment.left = step_left c.args.self.now.work.segment c.args.self.now.steps free c.requires.running.within in
     let bounded = c.requires.running.bounded in
     omega arith
 

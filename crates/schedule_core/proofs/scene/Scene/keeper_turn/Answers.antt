@@ -1,6 +1,6 @@
 use Rattle.std.proofs.Common.{Some, subst}
 use Rattle.token.proofs.Needs.{keeper_needed}
-use Rattle.token.specs.Point.{IsEndOf}
+use Rattle.segment.specs.Ends.{IsEndOf}
 use Rattle.token.specs.RunInTurn.{point_of}
 use Rattle.guest_memory.specs.Memory.{Memory}
 use Rattle.schedule_core.proofs.Turning.{kept_desk, turn_done}
@@ -14,5 +14,5 @@ settle-requires-clause-desk c =
 pub returns-clause-ok : goal.returns-clause-ok
 returns-clause-ok c =
     let keepers : IsKeepers (point_at c.args.self.now) c.in-Some.running = subst (IsKeeper (point_at c.args.self.now)) c.in-Some.is c.requires.sound.keeper in
-    turn_done c.args.self.now c.settle.new.self c.turn.new.self c.phase-phase.result (Some c.in_ok-end.end) (keeper_needed (point_at c.args.self.now) c.in-Some.running.work c.in_ok-end.end keepers.need (subst (λ (memory : Memory). IsEndOf memory c.in-Some.running.work c.in_ok-end.end) keepers.memory c.in_ok-end.ensures))
+    turn_done c.args.self.now c.settle.new.self c.turn.new.self c.phase-phase.result (Some c.in_ok-end.end) (keeper_needed (point_at c.args.self.now) c.in-Some.running.work c.in_ok-end.end keepers.need (subst (λ (memory : Memory). IsEndOf memory c.in-Some.running.work.segment c.in_ok-end.end) keepers.memory c.in_ok-end.ensures))
     c.in_ok-turn.ensures.moved c.in_ok-turn.ensures.longer c.phase-phase.ensures c.settle.ensures.serial c.settle.ensures.keeper c.settle.ensures.counts

@@ -6,7 +6,7 @@ use Rattle.token.specs.Point.{patch_of}
 use Rattle.token.specs.RunInTurn.{point_of}
 use Rattle.token.specs.Serial.{IsLonger, IsNeeded}
 use Rattle.token.specs.declared.run_in_turn.RunInTurn.{RunInTurn}
-use Rattle.token.specs.declared.segment_end.SegmentEnd.{SegmentEnd}
+use Rattle.segment.specs.declared.segment_end.SegmentEnd.{SegmentEnd}
 use Rattle.token.proofs.LawfulTurn.{lawful, recorded_after}
 use Rattle.token.proofs.Longer.{longer}
 use Rattle.token.proofs.NextStep.{may_turn, needed_due}

@@ -1,0 +1,10 @@
+//! A job that a host thread drew and that goes on.
+use segment::Underway;
+
+/// A job that a host thread drew and that goes on.
+#[derive(Drop)]
+pub(crate) struct Held {
+    /// The job's number in its phase, from 0.
+    pub number: u32,
+    pub job: Underway,
+}
