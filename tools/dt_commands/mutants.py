@@ -6,10 +6,14 @@ refused only if that check names the function that it changes with a clause that
 proof files. Any other edit is tried alone, as `rt must-fail` does. An edit that isn't refused is a failure, and so is one that doesn't
 apply, read or compile. The status is 1 if anything failed.
 
-  tools/dt mutants            tries the crates whose sum differs from that in mutants.lock, and writes the lines of those that passed
-  tools/dt mutants CRATE..    tries these crates, and writes their lines
-  tools/dt mutants --all      tries every crate, and writes their lines
-  tools/dt mutants --gate     as .ci/run calls it, after rt ci: tries the crates whose sum differs, and writes nothing
+  tools/dt mutants                     tries the crates whose sum differs from that in mutants.lock, and writes the lines of those that passed
+  tools/dt mutants CRATE..             tries these crates, and writes their lines
+  tools/dt mutants --all               tries every crate, and writes their lines
+  tools/dt mutants --gate              as .ci/run calls it, after rt ci: tries the crates whose sum differs, and writes nothing
+  tools/dt mutants --gate --write ..   the same over what rt ci left, and writes the lines of those that passed
+
+Only a crate of which this call tried every edit, each refused, gets its line; one that failed loses it. Libraries that rt ci left before
+a source of theirs changed don't count: then the crate is proved first.
 
 Before a change lands, call it without words and commit mutants.lock: the gate then has nothing to try.
 """
@@ -20,7 +24,7 @@ import sys
 import time
 
 from dt_commands import kit, lanes
-from dt_commands.repository import TOP
+from dt_commands.repository import TOP, below
 from dt_mutants import lock, selftest
 from dt_mutants.edits import edits_of
 from dt_mutants.progress import Progress, processor_seconds
@@ -31,6 +35,7 @@ def arguments(parser):
     parser.add_argument("crates", nargs="*", metavar="CRATE", help="the crates to try")
     parser.add_argument("--all", action="store_true", help="try every crate that has mutants")
     parser.add_argument("--gate", action="store_true", help="try what differs from mutants.lock, over what rt ci left, and write nothing")
+    parser.add_argument("--write", action="store_true", help="with --gate: write the lines of the crates that passed, as without --gate")
     parser.add_argument("--lanes", type=int, metavar="N", help=lanes.HELP)
     parser.add_argument("--self-test", action="store_true", help="try the tool itself, on a crate made for it: about a minute")
     parser.add_argument("--save", metavar="FOLDER", help="write what each check printed to files in this folder")
@@ -44,6 +49,19 @@ def chosen(options, old, new):
     if options.crates:
         return [it for it in new if it in options.crates]
     return [it for it in new if options.all or old.get(it) != new[it]]
+
+
+def last_change(folder):
+    """Returns when a file of a folder, or what files are there, changed last, in nanoseconds; 0 if there is no such folder."""
+    times = [os.lstat(f"{at}/{it}").st_ctime_ns for at, _, names in os.walk(folder) for it in (".", *names)]
+    return max(times, default=0)
+
+
+def is_of_its_sources(name, rlib):
+    """Returns whether a library came into its place after all that it is made from: a second rt ci puts back what an earlier one left.
+    The time is that of its folder, since its files may be those of other checkouts too, by hard links."""
+    sources = [f"{TOP}/crates/{it}/{part}" for it in below(name) for part in lock.PARTS]
+    return os.stat(rlib).st_mtime_ns > max(map(last_change, sources))
 
 
 class Session:
@@ -75,10 +93,19 @@ class Session:
         lanes.tasks_in_lanes(lane_count, [(it, self.trials[it].begin) for it in order], self.ended)
         return self.summary(lane_count)
 
+    @property
+    def writes(self):
+        """Whether the lock may be written. The gate alone writes nothing."""
+        return self.options.write or not self.options.gate
+
+    def is_left(self, crate):
+        """Returns whether the crate may be tried over the libraries that rt ci left: they are of the sources as they are."""
+        is_there = self.options.gate and kit.has_foreign_libraries(crate)
+        return is_there and all(is_of_its_sources(it.name, it.rlib) for it in crate.below())
+
     def prepare(self, crate):
         """Has the crate proved, unless kept work or what rt ci left serves, and plans its rounds."""
-        is_left = self.options.gate and kit.has_foreign_libraries(crate)
-        if not kit.is_ready(crate) and not is_left:
+        if not kit.is_ready(crate) and not self.is_left(crate):
             self.progress.say(f"{crate.name}: proving it first, over kept work ({self.progress.so_far()} so far)")
             words = {"cwd": crate.folder, "stdin": subprocess.DEVNULL, "stdout": subprocess.PIPE, "stderr": subprocess.STDOUT}
             ran = subprocess.run(["rt", "check"], universal_newlines=True, errors="replace", **words)
@@ -117,8 +144,8 @@ class Session:
             self.write()
 
     def write(self):
-        """Writes the lock, without the lines of crates that have no mutants any more. The gate writes nothing."""
-        if not self.options.gate and self.lines != lock.read():
+        """Writes the lock, without the lines of crates that have no mutants any more."""
+        if self.writes and self.lines != lock.read():
             lock.write(self.lines)
 
     def summary(self, lane_count):
