@@ -5,7 +5,8 @@ and the samples, share/doc/dthreads the pages, and share/man/man1 the manual pag
 and may be moved as a whole. What an earlier call left below share/dthreads and share/doc/dthreads is replaced.
 
 The program is the one built here from the sources as they are, or the release if it is theirs; else build it first. If the compiler of
-guest programs is there, the C library is built, since a user may not write below PREFIX.
+guest programs is there, the C library is built, since a user may not write below PREFIX; what the checkout has built of it serves if no
+source of it changed since.
 """
 import os
 import shutil
@@ -21,8 +22,8 @@ BIN, SHARE, DOC, MAN = "bin", "share/dthreads", "share/doc/dthreads", "share/man
 # What of guest/ isn't the kit: its tests, the lists that a page is made from, and what was built.
 NOT_KIT = ("tests", "reference", "out")
 COMMANDS = ("dthreads-cc", "dthreads-c++", "dthreads-exec")
-# C++'s library, if guest/build-libstdcxx was done.
-LIBSTDCXX = "guest/out/libstdcxx"
+# C++'s library, if guest/build-libstdcxx was done, and C's, if a program was compiled here.
+LIBSTDCXX, LIBRARY = "guest/out/libstdcxx", "guest/out/libdthreads.a"
 PAGES = ("README.md", "LICENSE-APACHE", "LICENSE-MIT")
 
 
@@ -72,6 +73,10 @@ def install_kit(prefix):
     copy_folder(f"{TOP}/samples", f"{prefix}/{SHARE}/samples")
     if os.path.isdir(f"{TOP}/{LIBSTDCXX}"):
         shutil.copytree(f"{TOP}/{LIBSTDCXX}", f"{prefix}/{SHARE}/{LIBSTDCXX}")
+    if os.path.isfile(f"{TOP}/{LIBRARY}"):
+        # (all files keep their times, so dthreads-cc sees there as here whether it is older than a source)
+        os.makedirs(f"{prefix}/{SHARE}/guest/out", exist_ok=True)
+        shutil.copy2(f"{TOP}/{LIBRARY}", f"{prefix}/{SHARE}/{LIBRARY}")
     for name in COMMANDS:
         link(f"{prefix}/{SHARE}/guest/{name}", f"{prefix}/{BIN}/{name}")
     # (the kit looks for the program beside its folder)

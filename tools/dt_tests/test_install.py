@@ -5,8 +5,11 @@ import subprocess
 import tempfile
 import unittest
 
-from dt_commands import man_page, release
+from dt_commands import install, man_page, release
 from dt_commands.repository import TOP
+
+HAS_COMPILER = subprocess.run([f"{TOP}/guest/dthreads-cc", "--version"], stdout=subprocess.DEVNULL, stderr=subprocess.DEVNULL).returncode == 0
+NO_COMPILER = "the compiler of guest programs is missing"
 
 PAGE = """# Page
 
@@ -43,28 +46,90 @@ class ManPage(unittest.TestCase):
         self.assertEqual(ran.stderr, b"")
 
 
-class Installed(unittest.TestCase):
-    """A copy of the checkout with its release installs to a prefix; then the copy goes, and the prefix is moved."""
+class OfACopy(unittest.TestCase):
+    """Has a copy of the checkout but for its crates, whose release is of its sources, and installs from it to a prefix."""
+
+    is_long = True
 
     def setUp(self):
         room = tempfile.TemporaryDirectory()
         self.addCleanup(room.cleanup)
-        copy, first, self.prefix = f"{room.name}/copy", f"{room.name}/first", f"{room.name}/moved"
-        shutil.copytree(TOP, copy, symlinks=True, ignore=shutil.ignore_patterns(".git", "out", "__pycache__"))
-        self.release(copy)
-        self.ran = subprocess.run([f"{copy}/tools/dt", "install", first], stdout=subprocess.PIPE, stderr=subprocess.PIPE, text=True)
-        self.assertEqual(self.ran.returncode, 0, self.ran.stderr)
-        shutil.rmtree(copy)
-        os.rename(first, self.prefix)
+        self.copy, self.prefix = f"{room.name}/copy", f"{room.name}/prefix"
+        shutil.copytree(TOP, self.copy, symlinks=True, ignore=shutil.ignore_patterns(".git", "out", "__pycache__", "crates"))
+        os.makedirs(f"{self.copy}/crates/command/src")
+        self.release()
 
-    def release(self, copy):
-        """Has the copy's release be of its sources, whatever they are: its program is not what this tests."""
-        record = f"{copy}/{release.RECORD}"
-        listed = subprocess.run([f"{copy}/tools/list-sources"], stdout=subprocess.PIPE, check=True, text=True).stdout
+    def release(self):
+        """Has the copy's release be of its sources: of the one crate that the program has there, since it is not what this tests."""
+        with open(f"{self.copy}/crates.txt", "w", encoding="utf-8") as it:
+            it.write("command:\n")
+        with open(f"{self.copy}/crates/command/src/main.rt", "w", encoding="utf-8") as it:
+            it.write("//! The program.\n")
+        record = f"{self.copy}/{release.RECORD}"
+        listed = subprocess.run([f"{self.copy}/tools/list-sources"], stdout=subprocess.PIPE, check=True, text=True).stdout
         with open(record, encoding="utf-8") as it:
             version = it.readline()
         with open(record, "w", encoding="utf-8") as it:
             it.write(version + listed)
+
+    def install(self):
+        """Installs, and returns what was said."""
+        words = [f"{self.copy}/tools/dt", "install", self.prefix]
+        ran = subprocess.run(words, stdout=subprocess.PIPE, stderr=subprocess.PIPE, text=True)
+        self.assertEqual(ran.returncode, 0, ran.stderr)
+        return ran.stderr
+
+    def share(self, file):
+        return f"{self.prefix}/share/dthreads/{file}"
+
+
+class Library(OfACopy):
+    """The C library in a prefix. To be built in a moment, it has two of its sources alone."""
+
+    def setUp(self):
+        super().setUp()
+        for it in os.listdir(f"{self.copy}/guest/library"):
+            if it.endswith(".c") and it not in ("quick_exit.c", "status.c"):
+                os.remove(f"{self.copy}/guest/library/{it}")
+
+    def test_it_is_built_if_its_compiler_is_there(self):
+        said = self.install()
+        if "is missing" in said:
+            self.assertIn("the C library is not built: dthreads-cc: the package", said)
+        else:
+            self.assertTrue(os.path.isfile(self.share(install.LIBRARY)), said)
+
+    @unittest.skipUnless(HAS_COMPILER, NO_COMPILER)
+    def test_the_one_of_the_checkout_serves_as_long_as_no_source_of_it_changed(self):
+        os.makedirs(f"{self.copy}/guest/out")
+        with open(f"{self.copy}/{install.LIBRARY}", "w", encoding="utf-8") as it:
+            it.write("a library\n")
+        self.install()
+        with open(self.share(install.LIBRARY), "rb") as it:
+            self.assertEqual(it.read(), b"a library\n")
+        os.utime(f"{self.copy}/{install.LIBRARY}", (1, 1))
+        self.install()
+        with open(self.share(install.LIBRARY), "rb") as it:
+            self.assertEqual(it.read(8), b"!<arch>\n")
+
+
+class Installed(OfACopy):
+    """What is installed from a copy of the checkout; then the copy goes, and the prefix is moved."""
+
+    def setUp(self):
+        super().setUp()
+        self.take_library()
+        self.install()
+        shutil.rmtree(self.copy)
+        first, self.prefix = self.prefix, f"{self.prefix}-moved"
+        os.rename(first, self.prefix)
+
+    def take_library(self):
+        """Gives the copy the checkout's own C library, which is built if it isn't there: the next call of these tests has it then."""
+        ran = subprocess.run([f"{TOP}/guest/dthreads-cc", "--library"], stdout=subprocess.PIPE, stderr=subprocess.DEVNULL, text=True)
+        if ran.returncode == 0:
+            os.makedirs(f"{self.copy}/guest/out")
+            shutil.copy2(f"{ran.stdout.strip()}/libdthreads.a", f"{self.copy}/{install.LIBRARY}")
 
     def called(self, *words, **how):
         environment = {**os.environ, "PATH": f"{self.prefix}/bin:{os.environ['PATH']}"}
@@ -73,7 +138,7 @@ class Installed(unittest.TestCase):
 
     def test_it_works_from_any_folder(self):
         self.assertEqual(self.called("dthreads", "--version").stdout.split()[0], b"dthreads")
-        race = f"{self.prefix}/share/dthreads/samples/race"
+        race = self.share("samples/race")
         ran = self.called("dthreads", "run", f"{race}.elf", "--trace", "-")
         with open(f"{race}.trace", "rb") as it:
             self.assertEqual((ran.returncode, ran.stdout), (2, it.read()))
@@ -82,17 +147,17 @@ class Installed(unittest.TestCase):
         self.compiles()
 
     def executes_a_linked_sample(self):
-        ran = self.called("dthreads-exec", f"{self.prefix}/share/dthreads/samples/c/counter.elf", "--workers", "2")
+        ran = self.called("dthreads-exec", self.share("samples/c/counter.elf"), "--workers", "2")
         self.assertEqual((ran.returncode, ran.stdout, ran.stderr), (0, b"counter 2000 of 2000\n", b""))
 
     def compiles(self):
         """Compiles a small program, if the compiler is there; else dthreads-cc names the package."""
         elf = f"{self.prefix}/race.elf"
-        ran = self.called("dthreads-cc", "-O2", f"{self.prefix}/share/dthreads/samples/c/race.c", "-o", elf, text=True)
+        ran = self.called("dthreads-cc", "-O2", self.share("samples/c/race.c"), "-o", elf, text=True)
         if ran.returncode:
             self.assertRegex(ran.stderr, r"^dthreads-cc: the package \S+ is missing")
             return
-        self.assertTrue(os.path.exists(f"{self.prefix}/share/dthreads/guest/out/libdthreads.a"))
+        self.assertTrue(os.path.exists(self.share(install.LIBRARY)))
         self.assertEqual(self.called("dthreads", "run", elf).stdout, b"counter 1000 of 2000\n")
 
 
