@@ -3,14 +3,18 @@
 Generated are docs/CONFORMANCE.md as a whole, from tools/changes; docs/CRATES.md as a whole, from crates.txt and the first sentence of
 each crate root; the limits in docs/GUEST.md, from the definitions; the list of the definitions that the headline
 needs in docs/LAW.md, from the contracts of run, run_into, run_recorded and perform; and man/dthreads.1, from docs/CLI.md. Besides,
-each line of a block marked `antt` must be in the sources, so that no page quotes what isn't there, and each link must lead to a file
-and a heading.
+each line of a block marked `antt` must be in the sources, so that no page quotes what isn't there, each link must lead to a file
+and a heading, and the pages that are read as a whole have a size that they don't exceed.
 """
 import os
 import re
 
 from . import conformance_page, crate_pages, definitions, man_page, page_links
 from .repository import TOP
+
+
+# The pages that are read as a whole, and how many bytes each may have.
+LIMITS = {"README.md": 9_500, "docs/C.md": 7_168, "docs/DEBUGGING.md": 7_168}
 
 
 def read(page):
@@ -52,21 +56,28 @@ def misquoted():
     return found
 
 
+def too_long(limits, top=TOP):
+    """Returns the pages that have more bytes than these limits say, each with its size and its limit."""
+    sizes = {page: os.path.getsize(f"{top}/{page}") for page in limits if os.path.exists(f"{top}/{page}")}
+    over = {page: size for page, size in sizes.items() if size > limits[page]}
+    return [f"{page}: it has {size:,} bytes, and its limit is {limits[page]:,}: {size - limits[page]:,} too many" for page, size in over.items()]
+
+
 def differing():
     """Returns the pages whose generated parts differ from what they must be, with what they must be."""
     return {page: text for page, text in pages().items() if not os.path.exists(f"{TOP}/{page}") or read(page) != text}
 
 
 def told_wrong():
-    """Prints each wrong quotation and each broken link, and returns how many there are."""
-    wrong = [f"{it}: no source has this line" for it in misquoted()] + page_links.broken()
+    """Prints each wrong quotation, each broken link and each page that is too long, and returns how many there are."""
+    wrong = [f"{it}: no source has this line" for it in misquoted()] + page_links.broken() + too_long(LIMITS)
     for line in wrong:
         print(line)
     return len(wrong)
 
 
 def check(options):
-    """Compares the generated parts of the pages, their quotations and their links."""
+    """Compares the generated parts of the pages, their quotations, links and sizes."""
     differ, wrong = differing(), told_wrong()
     for page in differ:
         print(f"{page}: differs from what tools/dt write pages makes")

@@ -1,7 +1,8 @@
-"""The generated pages: the walk over definitions, and the order of the changes."""
+"""The pages: the walk over definitions, the order of the changes, links and sizes."""
+import tempfile
 import unittest
 
-from dt_commands import changes, crate_pages, definitions, page_links
+from dt_commands import changes, crate_pages, definitions, page_links, pages
 
 
 class Definitions(unittest.TestCase):
@@ -33,6 +34,16 @@ class Tables(unittest.TestCase):
 
     def test_each_change_can_be_made(self):
         self.assertEqual([it.name for it in changes.listed()], changes.names())
+
+
+class Sizes(unittest.TestCase):
+    def test_a_page_that_is_too_long_is_told_with_its_size_and_its_limit(self):
+        with tempfile.TemporaryDirectory() as top:
+            for name, size in (("one", 1000), ("two", 1001)):
+                with open(f"{top}/{name}.md", "w", encoding="utf-8") as it:
+                    it.write("." * size)
+            found = pages.too_long({"one.md": 1000, "two.md": 1000, "none.md": 1}, top)
+        self.assertEqual(found, ["two.md: it has 1,001 bytes, and its limit is 1,000: 1 too many"])
 
 
 class Links(unittest.TestCase):
