@@ -12,8 +12,8 @@ apply, read or compile. The status is 1 if anything failed.
   tools/dt mutants --gate              as .ci/run calls it, after rt ci: tries the crates whose sum differs, and writes nothing
   tools/dt mutants --gate --write ..   the same over what rt ci left, and writes the lines of those that passed
 
-Only a crate of which this call tried every edit, each refused, gets its line; one that failed loses it. Libraries that rt ci left before
-a source of theirs changed don't count: then the crate is proved first.
+Only a crate of which this call tried every edit, each refused, gets its line; one that failed loses it. Libraries that aren't of the
+sources as they are don't count as left by rt ci: then the crate is proved first.
 
 Before a change lands, call it without words and commit mutants.lock: the gate then has nothing to try.
 """
@@ -24,8 +24,8 @@ import sys
 import time
 
 from dt_commands import kit, lanes
-from dt_commands.repository import TOP, below
-from dt_mutants import lock, selftest
+from dt_commands.repository import TOP
+from dt_mutants import left, lock, selftest
 from dt_mutants.edits import edits_of
 from dt_mutants.progress import Progress, processor_seconds
 from dt_mutants.trials import Trial
@@ -49,19 +49,6 @@ def chosen(options, old, new):
     if options.crates:
         return [it for it in new if it in options.crates]
     return [it for it in new if options.all or old.get(it) != new[it]]
-
-
-def last_change(folder):
-    """Returns when a file of a folder, or what files are there, changed last, in nanoseconds; 0 if there is no such folder."""
-    times = [os.lstat(f"{at}/{it}").st_ctime_ns for at, _, names in os.walk(folder) for it in (".", *names)]
-    return max(times, default=0)
-
-
-def is_of_its_sources(name, rlib):
-    """Returns whether a library came into its place after all that it is made from: a second rt ci puts back what an earlier one left.
-    The time is that of its folder, since its files may be those of other checkouts too, by hard links."""
-    sources = [f"{TOP}/crates/{it}/{part}" for it in below(name) for part in lock.PARTS]
-    return os.stat(rlib).st_mtime_ns > max(map(last_change, sources))
 
 
 class Session:
@@ -98,14 +85,10 @@ class Session:
         """Whether the lock may be written. The gate alone writes nothing."""
         return self.options.write or not self.options.gate
 
-    def is_left(self, crate):
-        """Returns whether the crate may be tried over the libraries that rt ci left: they are of the sources as they are."""
-        is_there = self.options.gate and kit.has_foreign_libraries(crate)
-        return is_there and all(is_of_its_sources(it.name, it.rlib) for it in crate.below())
-
     def prepare(self, crate):
         """Has the crate proved, unless kept work or what rt ci left serves, and plans its rounds."""
-        if not kit.is_ready(crate) and not self.is_left(crate):
+        is_left = self.options.gate and left.serves(crate)
+        if not kit.is_ready(crate) and not is_left:
             self.progress.say(f"{crate.name}: proving it first, over kept work ({self.progress.so_far()} so far)")
             words = {"cwd": crate.folder, "stdin": subprocess.DEVNULL, "stdout": subprocess.PIPE, "stderr": subprocess.STDOUT}
             ran = subprocess.run(["rt", "check"], universal_newlines=True, errors="replace", **words)
