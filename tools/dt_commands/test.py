@@ -1,20 +1,31 @@
 """Runs every test of the crates, and every program against its wanted output, unproved: minutes in place of the gate's hours.
 
 It proves nothing: `.ci/run` is the verdict. Tests and programs are run as `rt ci` runs them, a program with its files data/, args,
-stdin, stdout and status, but compiled with checks in place of proofs, which makes them up to a hundred times slower. If its folder
-has a file args.unproved, a program is given these words in place of args; a file stdout.unproved then has a line `old:` and a line
-`new:`, the line of stdout that these words change and what it becomes. The crates that took the longest when they were last run here
-come first.
+stdin, stdout and status, but compiled with checks in place of proofs, which makes them up to a hundred times slower. So a crate's folder
+may have files that make less of its runs here, and here alone:
+
+  src.unproved       lines `file:`, `old:` and `new:`, as a mutant has them: other numbers in constants, such as how often a run is made
+  args.unproved      the words that its program is given in place of args
+  stdout.unproved    a line `old:` and a line `new:`: the line of stdout that these words change, and what it becomes
+  seconds.unproved   how many seconds its tests and its program take about
+
+The crates that take the longest come first: by what they took when they were last run here, or else by seconds.unproved. Those that have
+neither come before them.
 """
+import contextlib
 import os
 import re
+import shutil
 import sys
+import tempfile
 import time
+import types
 
 from dt_commands import lanes, toolchain
 from dt_commands.progress import minutes
-from dt_commands.repository import TOP, crates
+from dt_commands.repository import TOP, below, crates
 from dt_commands.texts import contents, first_difference
+from dt_mutants.edits import BadEdit, made, pairs_of, text_of
 
 # What is tested besides the crates, each by its own part of this command.
 PARTS = {"c-samples": "c_samples", "guest": "guest_tests", "manual": "manual_examples", "c-page": "c_page", "programs": "debian_programs"}
@@ -22,6 +33,8 @@ PARTS = {"c-samples": "c_samples", "guest": "guest_tests", "manual": "manual_exa
 TEST = re.compile(r"^\s*#\[test\]", re.M)
 VERDICT = re.compile(r"^test (\S+) \.\.\. (ok|FAILED)$")
 ENDED = re.compile(r"^run=ended status=(\d+) ", re.M)
+# A constant of a number or of a list of numbers, which is all that src.unproved may change.
+CONSTANT = re.compile(r"((?:pub )?const \w+: )[^=]+ = [\d_, \[\]]+;")
 # How much of what a test, or a crate that doesn't compile, says is shown.
 SHOWN = 12
 
@@ -72,6 +85,44 @@ def of_tests(said, status):
     return result
 
 
+def smaller(folder):
+    """Returns the texts of the sources that the crate's src.unproved changes, by their paths in its folder."""
+    file = f"{folder}/src.unproved"
+    if not os.path.isfile(file):
+        return {}
+    try:
+        pairs = pairs_of(text_of(file))
+        for _, old, new in pairs:
+            if not CONSTANT.fullmatch(old) or not new.startswith(CONSTANT.fullmatch(old)[1]) or not CONSTANT.fullmatch(new):
+                raise BadEdit(f"only the value of a constant may be another: {old}")
+        return made([types.SimpleNamespace(pairs=pairs, before=lambda path: text_of(f"{folder}/{path}"))])
+    except BadEdit as why:
+        raise SystemExit(f"{file}: {why}") from None
+
+
+@contextlib.contextmanager
+def as_unproved(folder):
+    """Gives the folder in which the crate is run: its own, or, if its src.unproved changes sources, one in a copy for this run."""
+    texts, (crates_folder, name) = smaller(folder), os.path.split(folder)
+    if not texts:
+        yield folder
+        return
+    unread = shutil.ignore_patterns("out", "proofs", "must-fail", "mutants")
+    with tempfile.TemporaryDirectory(prefix="dt-test-") as top:
+        for it in below(name):
+            shutil.copytree(f"{crates_folder}/{it}", f"{top}/crates/{it}", ignore=unread)
+        write(f"{top}/crates.txt", "".join(f"{it}: {' '.join(crates()[it])}\n" for it in below(name)))
+        for path, text in texts.items():
+            write(f"{top}/crates/{name}/{path}", text)
+        yield f"{top}/crates/{name}"
+
+
+def write(file, text):
+    os.makedirs(os.path.dirname(file), exist_ok=True)
+    with open(file, "w", encoding="utf-8") as it:
+        it.write(text)
+
+
 def wanted_of(folder):
     """Returns what a program must write, with the line changed that stdout.unproved names."""
     wanted, change = contents(f"{folder}/stdout") or b"", contents(f"{folder}/stdout.unproved")
@@ -105,6 +156,12 @@ def tried(folder, words, given=b""):
 
 def work(folder, seconds):
     """Runs the crate's tests and its program. Returns the results."""
+    with as_unproved(folder) as it:
+        return ran_in(it, seconds)
+
+
+def ran_in(folder, seconds):
+    """Runs the tests and the program of the crate in this folder."""
     found, limit = [], ["--seconds", str(seconds)]
     if has_tests(folder):
         begun = time.time()
@@ -121,16 +178,15 @@ def work(folder, seconds):
     return found
 
 
-def last_seconds(folder):
-    """Returns how long the crate took when it was last tested here, or, of one that wasn't, the number of bytes of its sources."""
-    text = contents(f"{folder}/out/test.seconds")
+def expected_seconds(folder):
+    """Returns how long the crate takes, by its last run here or by its seconds.unproved, or, if it has neither, the number of bytes of its
+    sources. It comes behind a number that says so, and the greatest begins first."""
+    text = contents(f"{folder}/out/test.seconds") or contents(f"{folder}/seconds.unproved")
     return (0, float(text)) if text else (1, sum(os.path.getsize(f"{folder}/src/{it}") for it in files_below(f"{folder}/src")))
 
 
 def keep_seconds(folder, results):
-    os.makedirs(f"{folder}/out", exist_ok=True)
-    with open(f"{folder}/out/test.seconds", "w", encoding="utf-8") as it:
-        it.write(f"{sum(it.seconds for it in results):.1f}\n")
+    write(f"{folder}/out/test.seconds", f"{sum(it.seconds for it in results):.1f}\n")
 
 
 def show(name, result):
@@ -155,7 +211,7 @@ def run(options):
         print(f"tools/dt test: {lacking[0]} is no crate with tests, and no program: {' '.join(sorted(every))}", file=sys.stderr)
         return 2
     toolchain.end_at_signals(lambda: print("interrupted", file=sys.stderr))
-    order = sorted(options.crates or every, key=lambda it: last_seconds(f"{TOP}/crates/{it}"), reverse=True)
+    order = sorted(options.crates or every, key=lambda it: expected_seconds(f"{TOP}/crates/{it}"), reverse=True)
     side_by_side, begun, totals = lanes.count(options.lanes), time.time(), {"passed": 0, "failed": 0, "crates": 0}
     print(f"testing {len(order)} crates unproved, {side_by_side} at a time", flush=True)
 

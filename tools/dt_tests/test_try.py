@@ -3,8 +3,10 @@ import os
 import sys
 import tempfile
 import unittest
+from unittest import mock
 
 from dt_commands import test, toolchain
+from dt_commands.repository import TOP, crates
 
 SAID = """tests: 3
 test tests::beyond ... FAILED
@@ -99,8 +101,59 @@ class Programs(unittest.TestCase):
             self.write(f"{name}/src/lib.rt", "")
             test.keep_seconds(f"{self.folder}/{name}", [test.Result("tests", seconds=seconds)])
         self.write("new/src/lib.rt", "//! New.\n")
-        found = sorted(["short", "new", "long"], key=lambda it: test.last_seconds(f"{self.folder}/{it}"), reverse=True)
-        self.assertEqual(found, ["new", "long", "short"])
+        self.write("said/src/lib.rt", "")
+        self.write("said/seconds.unproved", "40\n")
+        self.write("short/seconds.unproved", "400\n")
+        found = sorted(["short", "said", "new", "long"], key=lambda it: test.expected_seconds(f"{self.folder}/{it}"), reverse=True)
+        self.assertEqual(found, ["new", "long", "said", "short"])
+
+
+class SmallerNumbers(unittest.TestCase):
+    """What src.unproved changes, in a crate of one file, and of those that have it."""
+
+    def setUp(self):
+        room = tempfile.TemporaryDirectory()
+        self.addCleanup(room.cleanup)
+        self.folder = f"{room.name}/crates/small"
+        self.write("src/lib.rt", "const TIMES: u32 = 100;\nconst EACH: [u32; 2] = [1, 64];\nfn f() {}\n")
+        self.write("out/kept", "")
+
+    def write(self, name, text):
+        os.makedirs(os.path.dirname(f"{self.folder}/{name}"), exist_ok=True)
+        with open(f"{self.folder}/{name}", "w", encoding="utf-8") as it:
+            it.write(text)
+
+    def edit(self, *pairs):
+        self.write("src.unproved", "file: src/lib.rt\n" + "".join(f"old: {old}\nnew: {new}\n" for old, new in pairs))
+
+    def test_constants_have_other_values_in_a_copy(self):
+        self.edit(("const TIMES: u32 = 100;", "const TIMES: u32 = 5;"), ("const EACH: [u32; 2] = [1, 64];", "const EACH: [u32; 1] = [4];"))
+        with mock.patch.object(test, "below", lambda _: ["small"]), mock.patch.object(test, "crates", lambda: {"small": []}):
+            with test.as_unproved(self.folder) as copy:
+                self.assertNotEqual(copy, self.folder)
+                with open(f"{copy}/src/lib.rt", encoding="utf-8") as it:
+                    self.assertEqual(it.read(), "const TIMES: u32 = 5;\nconst EACH: [u32; 1] = [4];\nfn f() {}\n")
+                self.assertFalse(os.path.exists(f"{copy}/out"))
+        self.assertFalse(os.path.exists(copy))
+        with open(f"{self.folder}/src/lib.rt", encoding="utf-8") as it:
+            self.assertIn("u32 = 100;", it.read())
+
+    def test_without_it_the_crate_is_run_where_it_is(self):
+        with test.as_unproved(self.folder) as folder:
+            self.assertEqual(folder, self.folder)
+
+    def test_nothing_else_may_be_another(self):
+        for old, new in (("fn f() {}", "fn g() {}"), ("const TIMES: u32 = 100;", "const OTHER: u32 = 100;"), ("const TIMES: u32 = 100;", "// none;"),
+                         ("const TIMES: u32 = 100;", "const TIMES: u32 = 1; fn g() {}"), ("const TIMES: u32 = 7;", "const TIMES: u32 = 1;")):
+            self.edit((old, new))
+            with self.subTest(new), self.assertRaises(SystemExit):
+                test.smaller(self.folder)
+
+    def test_what_the_crates_have_is_of_their_texts_as_they_are(self):
+        folders = [f"{TOP}/crates/{it}" for it in crates()]
+        self.assertTrue([it for it in folders if test.smaller(it)])
+        for it in folders:
+            test.wanted_of(it)
 
 
 # A command rt that says how it was called, and what the pass over all sources would be.
