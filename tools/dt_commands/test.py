@@ -26,6 +26,7 @@ from dt_commands.progress import minutes
 from dt_commands.repository import TOP, below, crates
 from dt_commands.texts import contents, first_difference
 from dt_mutants.edits import BadEdit, made, pairs_of, text_of
+from dt_mutants.progress import processor_seconds
 
 # What is tested besides the crates, each by its own part of this command.
 PARTS = {"c-samples": "c_samples", "guest": "guest_tests", "manual": "manual_examples", "c-page": "c_page", "programs": "debian_programs"}
@@ -230,6 +231,6 @@ def run(options):
         print(f"{totals['crates']} of {len(order)} crates are done, and at work are {', '.join(names)} ({so_far} so far)", flush=True)
 
     lanes.crates_in_lanes(order, {}, side_by_side, lambda name, _: work(f"{TOP}/crates/{name}", options.seconds), tell, still)
-    print(f"nothing is proved by this; it took {minutes(time.time() - begun)}")
+    print(f"nothing is proved by this; it took {minutes(time.time() - begun)}, and {processor_seconds() / 60:.1f} processor minutes")
     print(f"{totals['passed']} passed, {totals['failed']} failed")
     return 1 if totals["failed"] else 0
