@@ -9,6 +9,8 @@ from dt_commands import install, man_page, release
 from dt_commands.repository import TOP
 
 HAS_COMPILER = subprocess.run([f"{TOP}/guest/dthreads-cc", "--version"], stdout=subprocess.DEVNULL, stderr=subprocess.DEVNULL).returncode == 0
+# What an installation reads nothing of.
+UNUSED = (".git", "out", "__pycache__", "crates", "changes", "dt_tests", "tests", "reference")
 NO_COMPILER = "the compiler of guest programs is missing"
 
 PAGE = """# Page
@@ -47,7 +49,7 @@ class ManPage(unittest.TestCase):
 
 
 class OfACopy(unittest.TestCase):
-    """Has a copy of the checkout but for its crates, whose release is of its sources, and installs from it to a prefix."""
+    """Has a copy of the checkout, whose release is of its sources, and installs from it to a prefix."""
 
     is_long = True
 
@@ -55,7 +57,7 @@ class OfACopy(unittest.TestCase):
         room = tempfile.TemporaryDirectory()
         self.addCleanup(room.cleanup)
         self.copy, self.prefix = f"{room.name}/copy", f"{room.name}/prefix"
-        shutil.copytree(TOP, self.copy, symlinks=True, ignore=shutil.ignore_patterns(".git", "out", "__pycache__", "crates"))
+        shutil.copytree(TOP, self.copy, symlinks=True, ignore=shutil.ignore_patterns(*UNUSED))
         os.makedirs(f"{self.copy}/crates/command/src")
         self.release()
 
