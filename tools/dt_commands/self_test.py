@@ -3,6 +3,7 @@
 A test is run in a process of its own lane, so that none sees what another one changed in the modules. Tests of classes with `is_long`
 come first. A test that is skipped is counted as such.
 """
+import contextlib
 import multiprocessing
 import os
 import sys
@@ -45,18 +46,35 @@ def done(at):
     return wrong, bool(result.skipped)
 
 
+def begin(lane_count):
+    """Begins the tests in so many processes, which are forks of this one, before it has a second thread. Returns the pool and of each test
+    its future and its name, or no pool on a machine without the shared memory that it needs."""
+    try:
+        pool = futures.ProcessPoolExecutor(lane_count, multiprocessing.get_context("fork"))
+    except (ImportError, NotImplementedError, OSError):
+        return None, {}
+    return pool, {pool.submit(done, at): TESTS[at].id() for at in range(len(TESTS))}
+
+
+def ends(lane_count):
+    """Runs the tests, in lanes where that can be. Yields of each, as it ends, what `done` returned."""
+    pool, begun = begin(lane_count)
+    with Progress("tests", len(TESTS)) as progress, pool or contextlib.nullcontext():
+        for it in futures.as_completed(begun):
+            progress.done += 1
+            progress.at = ", ".join([name for one, name in begun.items() if one.running()][:lane_count])
+            yield it.result()
+        for at in progress.each([] if pool else range(len(TESTS)), lambda at: TESTS[at].id()):
+            yield done(at)
+
+
 def run_all(lane_count):
-    """Runs the tests in so many processes, and returns what failed, and how many were skipped."""
+    """Runs the tests, and returns what failed, and how many were skipped."""
     failed, skipped = [], 0
-    with futures.ProcessPoolExecutor(lane_count, multiprocessing.get_context("fork")) as pool:
-        begun = {pool.submit(done, at): TESTS[at].id() for at in range(len(TESTS))}
-        with Progress("tests", len(TESTS)) as progress:
-            for it in futures.as_completed(begun):
-                wrong, is_skipped = it.result()
-                for text in wrong:
-                    print(f"FAILED: {text}", flush=True)
-                failed, skipped, progress.done = failed + wrong, skipped + is_skipped, progress.done + 1
-                progress.at = ", ".join([begun[one] for one in begun if one.running()][:lane_count])
+    for wrong, is_skipped in ends(lane_count):
+        for text in wrong:
+            print(f"FAILED: {text}", flush=True)
+        failed, skipped = failed + wrong, skipped + is_skipped
     return failed, skipped
 
 

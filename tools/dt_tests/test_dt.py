@@ -6,7 +6,9 @@ import io
 import os
 import unittest
 from collections import namedtuple
+from unittest import mock
 
+from dt_commands import self_test
 from dt_commands.repository import TOP
 
 PARTS = {
@@ -75,6 +77,46 @@ class Words(unittest.TestCase):
 
     def test_a_part_is_called(self):
         self.assertIn("breaks of the layers", ran("check", "layers").stdout)
+
+
+class Sample(unittest.TestCase):
+    """Tests of which it is known what comes of each. No loader finds them by their names."""
+
+    def passes(self):
+        pass
+
+    def fails(self):
+        for it in (1, 2, 3):
+            with self.subTest(it):
+                self.assertEqual(it, 2)
+
+    def stops(self):
+        raise KeyError("no such thing")
+
+    @unittest.expectedFailure
+    def passes_and_was_to_fail(self):
+        pass
+
+    @unittest.skip("it is not for this machine")
+    def is_skipped(self):
+        self.fail()
+
+
+class SelfTest(unittest.TestCase):
+    def outcomes(self, begin=self_test.begin):
+        names = ["passes", "fails", "stops", "passes_and_was_to_fail", "is_skipped"]
+        with mock.patch.object(self_test, "TESTS", [Sample(it) for it in names]), mock.patch.object(self_test, "begin", begin):
+            with contextlib.redirect_stdout(io.StringIO()) as out:
+                failed, skipped = self_test.run_all(2)
+        self.assertEqual(out.getvalue().count("FAILED: "), 4)
+        found = {name: sum(it.startswith(f"{name} ") for it in failed) for name in names}
+        self.assertEqual((found, skipped), ({"passes": 0, "fails": 2, "stops": 1, "passes_and_was_to_fail": 1, "is_skipped": 0}, 1))
+
+    def test_what_fails_in_another_process_is_told(self):
+        self.outcomes()
+
+    def test_without_such_processes_the_tests_run_all_the_same(self):
+        self.outcomes(begin=lambda _: (None, {}))
 
 
 if __name__ == "__main__":
