@@ -9,7 +9,7 @@ from dt_commands import install, man_page, release
 from dt_commands.repository import TOP
 
 HAS_COMPILER = subprocess.run([f"{TOP}/guest/dthreads-cc", "--version"], stdout=subprocess.DEVNULL, stderr=subprocess.DEVNULL).returncode == 0
-# What an installation reads nothing of.
+# What no installation reads.
 UNUSED = (".git", "out", "__pycache__", "crates", "changes", "dt_tests", "tests", "reference")
 NO_COMPILER = "the compiler of guest programs is missing"
 
