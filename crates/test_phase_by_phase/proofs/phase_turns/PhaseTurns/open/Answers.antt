@@ -5,7 +5,8 @@ use Rattle.paged_memory.specs.Snapshot.{cells_of}
 use Rattle.token.specs.Point.{Point}
 use Rattle.token.specs.RunInTurn.{point_of}
 use Rattle.token.specs.Setup.{Setup}
-use Rattle.worker_pool.specs.Jobs.{job_from, jobs_in}
+use Rattle.token.specs.Segments.{row_in, segment_of}
+use Rattle.worker_pool.specs.Jobs.{jobs_in}
 use Rattle.worker_pool.proofs.Ends.{jobs_everywhere}
 use Rattle.test_phase_by_phase.proofs.phase_turns.PhaseTurns.open.Goals as goal
 
@@ -15,7 +16,7 @@ invariant_of-result g c =
     let bound = c.bound.ensures ∙ ap (λ (s : Setup). s.bound) c.requires in
     let quantum = c.quantum.ensures ∙ ap (λ (s : Setup). s.quantum) c.requires in
     let jobs : c.in_ok-jobs.jobs.items ≡ jobs_in g.B.OfRun.setup point.base_threads c.in_ok-threads.threads.items =
-    c.in_ok-jobs.ensures ∙ (λ i. map (job_from (c.base_threads-2.ensures i) (bound i) (quantum i)) (c.as_slice-2.ensures.value i)) in
+    c.in_ok-jobs.ensures ∙ (λ i. map (λ thread. segment_of (bound i) (quantum i) (row_in (c.base_threads-2.ensures i) thread)) (c.as_slice-2.ensures.value i)) in
     let memory : cells_of c.in_ok-base.base ≡ point.base = ap memory_of_pages c.in_ok-base.ensures ∙ c.base.ensures in
     record {
       setup_is = c.requires;
