@@ -1,0 +1,2 @@
+pub mod EscapesEnd
+pub mod Values

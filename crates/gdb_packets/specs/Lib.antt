@@ -1,0 +1,5 @@
+pub mod Digits
+pub mod Escapes
+pub mod Frames
+pub mod Numbers
+pub mod Requests

@@ -1,0 +1,5 @@
+pub mod Advancing
+pub mod ByteMaps
+pub mod Merged
+pub mod Positions
+pub mod Turning
