@@ -1,2 +1,1 @@
-pub mod Debugs
 pub mod Replays

@@ -1,4 +1,3 @@
-pub mod Answer
 pub mod Config
 pub mod Faults
 pub mod Recorded

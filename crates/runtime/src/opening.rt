@@ -2,8 +2,7 @@
 ghost use Rattle.runtime.specs.Run.{Opens};
 
 use crate::config::Config;
-use crate::open_fault::OpenFault;
-use crate::refusal::Refusal;
+use crate::run_fault::RunFault;
 use elf32_reader::{ElfFault, Image, read};
 use run_limits::MAX_INPUT;
 use std::alloc::Global;
@@ -14,18 +13,18 @@ pub(crate) fn open(
     elf: &[u8],
     input: &[u8],
     config: &Config,
-) -> Result<Image, OpenFault>
+) -> Result<Image, RunFault>
     ensures { Opens elf.now input.now config.now result }
 {
     if !config.is_valid() {
-        return Err(OpenFault::Refused(Refusal::BadConfig));
+        return Err(RunFault::BadConfig);
     }
     if input.len() > MAX_INPUT {
-        return Err(OpenFault::Refused(Refusal::InputTooLarge));
+        return Err(RunFault::InputTooLarge);
     }
     match read(alloc, elf) {
         Ok(image) => Ok(image),
-        Err(ElfFault::OutOfMemory) => Err(OpenFault::OutOfMemory),
-        Err(fault) => Err(OpenFault::Refused(Refusal::Elf(fault))),
+        Err(ElfFault::OutOfMemory) => Err(RunFault::OutOfMemory),
+        Err(fault) => Err(RunFault::Elf(fault)),
     }
 }

@@ -1,2 +1,0 @@
-pub mod EscapesEnd
-pub mod Values

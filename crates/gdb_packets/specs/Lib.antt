@@ -1,5 +1,0 @@
-pub mod Digits
-pub mod Escapes
-pub mod Frames
-pub mod Numbers
-pub mod Requests

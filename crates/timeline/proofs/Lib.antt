@@ -1,5 +1,0 @@
-pub mod Advancing
-pub mod ByteMaps
-pub mod Merged
-pub mod Positions
-pub mod Turning

@@ -1,8 +1,0 @@
-/* Counts for ever. */
-volatile unsigned count;
-
-int main(void)
-{
-    for (;;)
-        count++;
-}
