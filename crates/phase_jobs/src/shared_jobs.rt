@@ -151,7 +151,6 @@ impl SharedJobs {
     /// Notes a job that the seat drew if it is over and the run ends by it.
     fn note(&self, seat: &mut DrawSeat, number: u32, progress: &Progress)
         requires row { seat.old.row ≡ self.now.row }
-        requires job { number < length self.now.jobs }
         requires drawn { 0 < times number seat.old.log.drawn }
         ensures { seat.new ≡ noted_by progress.now seat.old number }
     {

@@ -7,6 +7,7 @@ use segment::Segment;
 pub struct Work {
     /// The thread's number.
     pub thread: u32,
+    /// What is to be executed, and how far it may go.
     pub segment: Segment,
 }
 

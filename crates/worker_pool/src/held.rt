@@ -6,5 +6,6 @@ use segment::Underway;
 pub(crate) struct Held {
     /// The job's number in its phase, from 0.
     pub number: u32,
+    /// How far it has come.
     pub job: Underway,
 }
