@@ -77,12 +77,15 @@ SECTIONS
         . += SIZEOF(.tdata) + SIZEOF(.tbss) + ALIGNOF(.tbss);
     } :data
 
+    /* Of the compiler's libraries only the frames are kept. A debugger then steps over their functions, as the packages
+       lack the sources, and still finds the way out of them. */
+    .debug_frame 0 : { *(.debug_frame) }
+    /DISCARD/ : { */libc.a:*(.debug_*) */libgcc.a:*(.debug_*) }
     .stab 0 : { *(.stab) }
     .debug_aranges 0 : { *(.debug_aranges) }
     .debug_info 0 : { *(.debug_info .gnu.linkonce.wi.*) }
     .debug_abbrev 0 : { *(.debug_abbrev) }
     .debug_line 0 : { *(.debug_line .debug_line.*) }
-    .debug_frame 0 : { *(.debug_frame) }
     .debug_str 0 : { *(.debug_str) }
     .debug_line_str 0 : { *(.debug_line_str) }
     .debug_loc 0 : { *(.debug_loc) }

@@ -1,6 +1,16 @@
 # Where threads begin. The machine gives a new thread sp, a0 and a1 alone, so gp and tp are set here.
 #include "offsets.h"
 
+    .cfi_sections .debug_frame
+
+# Begins a routine that nobody called: a debugger's list of callers ends there.
+    .macro outermost routine
+    .globl \routine
+\routine:
+    .cfi_startproc
+    .cfi_undefined ra
+    .endm
+
     .macro load_gp
     .option push
     .option norelax
@@ -9,34 +19,33 @@
     .endm
 
     .section .text.start, "ax"
-    .globl _start
-_start:
+    outermost _start
     load_gp
     la tp, __tls_first
     call dthreads_first
+    .cfi_endproc
 
 # The entry if guest/dthreads-exec started the run: the note of the file has its address.
-    .globl dthreads_start_packed
-dthreads_start_packed:
+    outermost dthreads_start_packed
     load_gp
     la tp, __tls_first
     call dthreads_first_packed
+    .cfi_endproc
 
 # A thread of the library: a0 is its record, which has its stack and its thread-local block.
-    .globl dthreads_thread_entry
-dthreads_thread_entry:
+    outermost dthreads_thread_entry
     load_gp
     mv s0, a0
-again:
+.Lagain:
     lw sp, THREAD_STACK(s0)
     lw tp, THREAD_BLOCK(s0)
     mv a0, s0
     call dthreads_thread_run
+    .cfi_endproc
 
 # A thread that has ended waits for the next start routine, without a stack: a0 is its record, a1 its condition, a2 the
 # place that counts who waits for it. It holds the monitor when it comes and when it is woken.
-    .globl dthreads_thread_park
-dthreads_thread_park:
+    outermost dthreads_thread_park
     mv s0, a0
     mv s1, a1
     mv s2, a2
@@ -52,53 +61,95 @@ dthreads_thread_park:
     li a0, MONITOR_MUTEX
     li a7, 6
     ecall
-    j again
+    j .Lagain
+    .cfi_endproc
 
 # A thread that dthreads_create made: at a0 stand its routine, its argument and its thread-local block.
-    .globl dthreads_plain_entry
-dthreads_plain_entry:
+    outermost dthreads_plain_entry
     load_gp
     lw tp, 8(a0)
     call dthreads_plain_run
+    .cfi_endproc
 
-# What the assembler is told to call in place of FENCE: all registers stay.
+# What the assembler is told to call in place of FENCE: all registers stay. The caller kept its ra 12 bytes above its sp, see
+# dthreads/prelude.h. So a debugger finds there what ra is in the caller; where the call returns to is column 64, which stands for
+# no register.
     .macro kept routine
+    .cfi_startproc
+    .cfi_return_column 64
+    .cfi_register 64, ra
+    .cfi_offset ra, 12
     addi sp, sp, -80
+    .cfi_adjust_cfa_offset 80
     sw ra, 0(sp)
+    .cfi_rel_offset 64, 0
     sw t0, 4(sp)
+    .cfi_rel_offset t0, 4
     sw t1, 8(sp)
+    .cfi_rel_offset t1, 8
     sw t2, 12(sp)
+    .cfi_rel_offset t2, 12
     sw t3, 16(sp)
+    .cfi_rel_offset t3, 16
     sw t4, 20(sp)
+    .cfi_rel_offset t4, 20
     sw t5, 24(sp)
+    .cfi_rel_offset t5, 24
     sw t6, 28(sp)
+    .cfi_rel_offset t6, 28
     sw a0, 32(sp)
+    .cfi_rel_offset a0, 32
     sw a1, 36(sp)
+    .cfi_rel_offset a1, 36
     sw a2, 40(sp)
+    .cfi_rel_offset a2, 40
     sw a3, 44(sp)
+    .cfi_rel_offset a3, 44
     sw a4, 48(sp)
+    .cfi_rel_offset a4, 48
     sw a5, 52(sp)
+    .cfi_rel_offset a5, 52
     sw a6, 56(sp)
+    .cfi_rel_offset a6, 56
     sw a7, 60(sp)
+    .cfi_rel_offset a7, 60
     call \routine
     lw ra, 0(sp)
+    .cfi_register 64, ra
     lw t0, 4(sp)
+    .cfi_restore t0
     lw t1, 8(sp)
+    .cfi_restore t1
     lw t2, 12(sp)
+    .cfi_restore t2
     lw t3, 16(sp)
+    .cfi_restore t3
     lw t4, 20(sp)
+    .cfi_restore t4
     lw t5, 24(sp)
+    .cfi_restore t5
     lw t6, 28(sp)
+    .cfi_restore t6
     lw a0, 32(sp)
+    .cfi_restore a0
     lw a1, 36(sp)
+    .cfi_restore a1
     lw a2, 40(sp)
+    .cfi_restore a2
     lw a3, 44(sp)
+    .cfi_restore a3
     lw a4, 48(sp)
+    .cfi_restore a4
     lw a5, 52(sp)
+    .cfi_restore a5
     lw a6, 56(sp)
+    .cfi_restore a6
     lw a7, 60(sp)
+    .cfi_restore a7
     addi sp, sp, 80
+    .cfi_adjust_cfa_offset -80
     ret
+    .cfi_endproc
     .endm
 
     .section .text.fence, "ax"

@@ -13,7 +13,7 @@ import re
 from .repository import TOP
 
 # The sections of the product, in the order of their layers.
-PRODUCT = ["ground", "machine", "memory", "calls", "law", "hands", "schedules", "records", "program"]
+PRODUCT = ["ground", "machine", "memory", "calls", "law", "hands", "schedules", "debugging", "records", "program"]
 # The sections beside the product, with the prefix of their crates.
 BESIDE = {"data": "data_", "tests": "test_", "tools": "tool_"}
 SECTIONS = [*PRODUCT, *BESIDE]

@@ -24,6 +24,7 @@ HANDED_ON = {
     ("crates/elf32_reader/src/reader.rt", "Err(_) => Err(ElfFault::OutOfMemory),"),
     ("crates/command_requests/src/arguments.rt", ".map_err(|_| Failure::OutOfMemory),"),
     ("crates/command_disasm/src/listings.rt", "Err(_) => Err(Failure::OutOfMemory),"),
+    ("crates/timeline/src/motion.rt", "Err(_) => Err(AllocError),"),
 }
 
 # Lines that say so where no host could have the time: a run of 2^63 turns, or of 2^62 turns and changed bytes.

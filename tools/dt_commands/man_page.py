@@ -31,13 +31,15 @@ never on the host's scheduling.
 FOOT = r'''.SH SEE ALSO
 The pages in share/doc/dthreads/docs:
 GUEST.md on the guest machine, C.md on programs in C,
-PROVED.md on what is proved.
+DEBUGGING.md on debugging in gdb, PROVED.md on what is proved.
 .PP
 .BR dthreads\-cc ,
 .B dthreads\-c++
 and
 .B dthreads\-exec
-compile and run programs in C and C++.
+compile and run programs in C and C++;
+.B dthreads\-gdb
+debugs them.
 '''
 
 

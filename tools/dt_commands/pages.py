@@ -2,14 +2,15 @@
 
 Generated are docs/CONFORMANCE.md as a whole, from tools/changes; docs/CRATES.md as a whole, from crates.txt and the first sentence of
 each crate root; the limits in docs/GUEST.md, from the definitions; the list of the definitions that the headline
-needs in docs/LAW.md, from the contracts of run, run_into, run_recorded and perform; and man/dthreads.1, from docs/CLI.md. Besides,
+needs in docs/LAW.md, from the contracts of run, run_into, run_recorded and perform; the transcripts in docs/DEBUGGING.md, from the
+sessions of guest/tests/gdb; and man/dthreads.1, from docs/CLI.md. Besides,
 each line of a block marked `antt` must be in the sources, so that no page quotes what isn't there, each link must lead to a file
 and a heading, and the pages that are read as a whole have a size that they don't exceed.
 """
 import os
 import re
 
-from . import conformance_page, crate_pages, definitions, man_page, page_links
+from . import conformance_page, crate_pages, debugging_page, definitions, man_page, page_links
 from .repository import TOP
 
 
@@ -37,6 +38,7 @@ def pages():
     return {
         "docs/CONFORMANCE.md": conformance_page.page(),
         "docs/CRATES.md": crate_pages.page(),
+        debugging_page.PAGE: debugging_page.page(),
         "docs/GUEST.md": with_part("docs/GUEST.md", "limits", crate_pages.limits()),
         "docs/LAW.md": with_part("docs/LAW.md", "definitions", definitions.listed()),
         man_page.FILE: man_page.page(),

@@ -29,7 +29,10 @@ from dt_mutants.edits import BadEdit, made, pairs_of, text_of
 from dt_mutants.progress import processor_seconds
 
 # What is tested besides the crates, each by its own part of this command.
-PARTS = {"c-samples": "c_samples", "guest": "guest_tests", "manual": "manual_examples", "c-page": "c_page", "programs": "debian_programs"}
+PARTS = {
+    "c-samples": "c_samples", "guest": "guest_tests", "manual": "manual_examples", "c-page": "c_page", "programs": "debian_programs",
+    "gdb": "gdb_sessions",
+}
 
 TEST = re.compile(r"^\s*#\[test\]", re.M)
 VERDICT = re.compile(r"^test (\S+) \.\.\. (ok|FAILED)$")

@@ -5,24 +5,18 @@ use Rattle.disassembler.specs.Listings.{listing_of}
 use Rattle.elf32_reader.specs.Segments.{image_of}
 use Rattle.elf32_reader.specs.Refusals.{first_refusal}
 use Rattle.elf32_reader.specs.Format.{file_limit}
-use Rattle.command_requests.specs.Reading.{AreRead, IsAt}
+use Rattle.command_requests.specs.Reading.{AreRead, IsUnreadAt}
 use Rattle.command_requests.specs.declared.failure.Failure.{Failure}
-use Rattle.command_requests.specs.declared.failure.Failure.TheVariants.{NotText, OneFile, OutsideRange, ElfRefused, InputTooLarge, CannotRead, CannotWrite, OutOfMemory}
+use Rattle.command_requests.specs.declared.failure.Failure.TheVariants.{ElfRefused, CannotWrite}
 use Rattle.command_requests.specs.declared.target.Target.TheVariants.{StandardOutput}
 
 -- What the listing of the file at a path answers: a text whose bytes are that of the image which the file's bytes describe, or
--- their first refusal.
+-- their first refusal; or the file couldn't be read.
 abbrev pub Lists : {A : Type 0} → (A → List ℕ) → List ℕ → Option (List ℕ) → Result A Failure → Type 0
 Lists bytes_of path content (Ok text) =
     (elf : List ℕ) × AreRead file_limit content elf × (first_refusal elf ≡ None) × (bytes_of text ≡ listing_of (image_of elf))
 Lists bytes_of path content (Err (ElfRefused fault)) = (elf : List ℕ) × AreRead file_limit content elf × (first_refusal elf ≡ Some fault)
-Lists bytes_of path content (Err (CannotRead target)) = IsAt path target
-Lists bytes_of path content (Err OutOfMemory) = Unit {0}
-Lists bytes_of path content (Err OutsideRange) = ⊥
-Lists bytes_of path content (Err InputTooLarge) = ⊥
-Lists bytes_of path content (Err NotText) = ⊥
-Lists bytes_of path content (Err (OneFile one other)) = ⊥
-Lists bytes_of path content (Err (CannotWrite target)) = ⊥
+Lists bytes_of path content (Err failure) = IsUnreadAt path failure
 
 -- The listing of the file at a path was put after what standard output held before.
 abbrev pub IsListed : Option (List ℕ) → Option (List ℕ) → Option (List ℕ) → Type 0

@@ -3,7 +3,6 @@ use Rattle.std.proofs.Common.{◌≡◌, inr, ℕ, Option, Result, Ok, Err, List
 use Rattle.std.proofs.lemmas.Bool.{and_parts, leb-true}
 use Rattle.std.specs.Io.KnownBytes.{Appends}
 use Rattle.std.specs.Option.{option_map_or}
-use Rattle.output_files.specs.Content.{Content}
 use Rattle.runtime.specs.Config.{is_valid}
 use Rattle.run_limits.specs.Limits as limit
 use Rattle.runtime.specs.Span.{is_span}
@@ -13,7 +12,7 @@ use Rattle.token.specs.Setup.{Setup}
 use Rattle.token.specs.declared.outcome.RunOutcome.{RunOutcome}
 use Rattle.command_replay.specs.Replayed.{IsCut, IsReplayed}
 use Rattle.command_replay.specs.declared.replay_failure.ReplayFailure.{ReplayFailure}
-use Rattle.command_line.specs.Replays.{AreOf, Replays}
+use Rattle.command_line.specs.Replays.{AreOf, ReplayRequest, Replays}
 
 -- an accepted configuration has 1 to 64 workers
 pub few_workers : (config : Config) → is_valid config ≡ true → (config.workers ≤ limit.workers) × (0 < config.workers)
@@ -24,9 +23,9 @@ few_workers config is =
     (leb-true config.workers limit.workers last.1, leb-true 1 config.workers first.1)
 
 -- what a run that was opened with these events answers is what the replay answers
-pub replays : (files : Content) (input output output' : Option (List ℕ)) (path schedule : List ℕ) (config : Config) (setup : Setup) (events : List Event)
-    (answer : Result (Option RunOutcome) ReplayFailure) → AreOf files input path schedule config setup events
-    → IfOk answer (λ ended. (text : List ℕ) × IsReplayed setup config.workers events ended text × Appends output output' text)
-    → IfErr answer (IsCut setup config.workers events output output') → Replays files input output output' path schedule config answer
-replays files input output output' path schedule config setup events (Ok ended) are replayed cut = (setup, events, replayed.0, are, replayed.1, replayed.2)
-replays files input output output' path schedule config setup events (Err failure) are replayed cut = inr (setup, events, are, cut)
+pub replays : (request : ReplayRequest) (output output' : Option (List ℕ)) (setup : Setup) (events : List Event)
+    (answer : Result (Option RunOutcome) ReplayFailure) → AreOf request setup events
+    → IfOk answer (λ ended. (text : List ℕ) × IsReplayed setup request.config.workers events ended text × Appends output output' text)
+    → IfErr answer (IsCut setup request.config.workers events output output') → Replays request output output' answer
+replays request output output' setup events (Ok ended) are replayed cut = (setup, events, replayed.0, are, replayed.1, replayed.2)
+replays request output output' setup events (Err failure) are replayed cut = inr (setup, events, are, cut)

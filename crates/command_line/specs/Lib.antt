@@ -1,1 +1,2 @@
+pub mod Debugs
 pub mod Replays

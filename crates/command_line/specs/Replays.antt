@@ -18,40 +18,55 @@ use Rattle.command_replay.specs.declared.replay_failure.ReplayFailure.{ReplayFai
 use Rattle.command_replay.specs.declared.replay_failure.ReplayFailure.TheVariants.{Plain}
 use Rattle.command_run.specs.Serves.{IsRefused}
 
+-- a replay that is asked for: of the file and the schedule at two paths, on what there is to read of standard input, with the files' content
+pub record ReplayRequest : Type 0 where
+  pub files : Content
+  pub path : List ℕ
+  pub schedule : List ℕ
+  pub input : Option (List ℕ)
+  pub config : Config
+
+-- such a replay, over these files
+abbrev pub asked : {F : Type 0} → (F → Content) → F → List ℕ → List ℕ → Option (List ℕ) → Config → ReplayRequest
+asked content files path schedule input config = record { files = content files; path = path; schedule = schedule; input = input; config = config }
+
+-- the bytes of the program's file, and the guest's input
+pub record GivenBytes : Type 0 where
+  pub elf : List ℕ
+  pub input : List ℕ
+
 -- the file and the input were read, and the input is within its limit
-pub record AreGiven (content input : Option (List ℕ)) (elf given : List ℕ) : Type 0 where
-  pub elf_read : AreRead file_limit content elf
-  pub given_read : AreRead limit.input input given
-  pub few : length given ≤ limit.input
+pub record AreGiven (content input : Option (List ℕ)) (given : GivenBytes) : Type 0 where
+  pub elf_read : AreRead file_limit content given.elf
+  pub input_read : AreRead limit.input input given.input
+  pub few : length given.input ≤ limit.input
 
 -- why the file and the input weren't read so
 abbrev pub IsUngiven : List ℕ → Option (List ℕ) → Failure → Type 0
 IsUngiven path input failure =
     IsUnread path failure ⊎ ((failure ≡ InputTooLarge) × ((given : List ℕ) × AreRead limit.input input given × (limit.input < length given)))
 
--- A setup and some events are those of the file and the schedule at two paths and of the input, which nothing refuses.
-pub record AreOf (files : Content) (input : Option (List ℕ)) (path schedule : List ℕ) (config : Config) (setup : Setup) (events : List Event) : Type 0 where
-  pub elf : List ℕ
-  pub given : List ℕ
-  pub read : AreGiven (files path) input elf given
-  pub scheduled : AreScheduled (files schedule) events
-  pub accepted : IsAccepted elf given config
-  pub setup_is : setup ≡ setup_from elf given config
+-- a setup and some events are those of what a replay is asked for, which nothing refuses
+pub record AreOf (request : ReplayRequest) (setup : Setup) (events : List Event) : Type 0 where
+  pub given : GivenBytes
+  pub read : AreGiven (request.files request.path) request.input given
+  pub scheduled : AreScheduled (request.files request.schedule) events
+  pub accepted : IsAccepted given.elf given.input request.config
+  pub setup_is : setup ≡ setup_from given.elf given.input request.config
 
 -- Why no replay begins, by what is looked at in turn: the file and the input, the schedule, and whether the file is a program.
-abbrev pub IsUnopened : Content → Option (List ℕ) → List ℕ → List ℕ → Config → ReplayFailure → Type 0
-IsUnopened files input path schedule config failure =
-    ((plain : Failure) × (failure ≡ Plain plain) × IsUngiven path input plain)
-    ⊎ (((elf : List ℕ) × (given : List ℕ) × AreGiven (files path) input elf given × IsUnscheduled schedule (files schedule) failure)
-    ⊎ ((elf : List ℕ) × (given : List ℕ) × (events : List Event) × (plain : Failure) × AreGiven (files path) input elf given × AreScheduled (files schedule) events
-    × (failure ≡ Plain plain) × IsRefused elf given config plain))
+abbrev pub IsUnopened : ReplayRequest → ReplayFailure → Type 0
+IsUnopened request failure =
+    ((plain : Failure) × (failure ≡ Plain plain) × IsUngiven request.path request.input plain)
+    ⊎ (((given : GivenBytes) × AreGiven (request.files request.path) request.input given × IsUnscheduled request.schedule (request.files request.schedule) failure)
+    ⊎ ((given : GivenBytes) × (events : List Event) × (plain : Failure) × AreGiven (request.files request.path) request.input given
+    × AreScheduled (request.files request.schedule) events × (failure ≡ Plain plain) × IsRefused given.elf given.input request.config plain))
 
 -- What a replay answers: how the run ended, or that it hasn't, with the trace of all the events' turns after what standard output held. Or it
 -- never began and nothing was printed, or it was cut.
-abbrev pub Replays : Content → (input output output' : Option (List ℕ)) → (path schedule : List ℕ) → Config → Result (Option RunOutcome) ReplayFailure → Type 0
-Replays files input output output' path schedule config (Ok ended) =
-    (setup : Setup) × (events : List Event) × (text : List ℕ) × AreOf files input path schedule config setup events
-    × IsReplayed setup config.workers events ended text × Appends output output' text
-Replays files input output output' path schedule config (Err failure) =
-    (IsUnopened files input path schedule config failure × (output' ≡ output))
-    ⊎ ((setup : Setup) × (events : List Event) × AreOf files input path schedule config setup events × IsCut setup config.workers events output output' failure)
+abbrev pub Replays : ReplayRequest → (output output' : Option (List ℕ)) → Result (Option RunOutcome) ReplayFailure → Type 0
+Replays request output output' (Ok ended) =
+    (setup : Setup) × (events : List Event) × (text : List ℕ) × AreOf request setup events × IsReplayed setup request.config.workers events ended text × Appends output output' text
+Replays request output output' (Err failure) =
+    (IsUnopened request failure × (output' ≡ output))
+    ⊎ ((setup : Setup) × (events : List Event) × AreOf request setup events × IsCut setup request.config.workers events output output' failure)

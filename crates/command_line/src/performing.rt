@@ -1,15 +1,16 @@
 //! Performs the arguments of a command line over any files and streams, and gives the status.
-ghost use Rattle.std.specs.Prelude.{◌+◌, ◌-◌, ◌^◌, ◌<◌};
+ghost use Rattle.std.specs.Prelude.{◌⊎◌, ◌+◌, ◌-◌, ◌^◌, ◌<◌};
 ghost use Rattle.output_files.specs.Taken.{TakesAtMost};
 ghost use Rattle.run_limits.specs.Limits as limit;
+ghost use Rattle.command_line.specs.Debugs.{IsDebug};
 
 use crate::config::config_of;
-use crate::replaying::replay;
+use crate::given_input::{replay_given, run_given};
+use command_debug::{Debugging, conclude_debugging, debug_file};
 use command_disasm::{conclude_listing, disasm};
 use command_outputs::conclude;
 use command_replay::conclude_replay;
 use command_requests::{Request, asked};
-use command_run::run_file;
 use output_files::Files;
 use runtime::WriteSink;
 use std::alloc::Global;
@@ -20,7 +21,7 @@ use std::thread::Threads;
 
 /// Does what the arguments of a command line ask for, the program's name being the first, and answers
 /// the status that the program ends with. Where writing to `stderr` fails, the status stays.
-pub fn perform<H: Threads + Wait + Sync, S: AsStr, F: Files, R: Read, W: Write, E: Write>(
+pub fn perform<H: Threads + Wait + Sync, S: AsStr, F: Files, R: Read + Send, W: Write, E: Write>(
     rt: &H,
     alloc: Global,
     arguments: &[S],
@@ -30,24 +31,43 @@ pub fn perform<H: Threads + Wait + Sync, S: AsStr, F: Files, R: Read, W: Write, 
     stderr: &mut E,
 ) -> u8
     requires { stdout.old.failures < 2 ^ 64 - 1 }
-    ensures { TakesAtMost (limit.input + 1) (R.remaining stdin.old) (R.remaining stdin.new) }
 {
     match asked(alloc, arguments, &mut stdout.writer, stderr) {
-        Ok(Request::Disasm { file }) => conclude_listing(
+        Ok(request) => perform_request(rt, alloc, request, files, stdin, stdout, stderr),
+        Err(status) => status,
+    }
+}
+
+/// Does what a command line asks for, and answers the status that the program ends with. Only a debugging may read all of
+/// `stdin`.
+pub fn perform_request<H: Threads + Wait + Sync, F: Files, R: Read + Send, W: Write, E: Write>(
+    rt: &H,
+    alloc: Global,
+    request: Request<'_>,
+    files: &mut F,
+    stdin: &mut R,
+    stdout: &mut WriteSink<W>,
+    stderr: &mut E,
+) -> u8
+    requires { stdout.old.failures < 2 ^ 64 - 1 }
+    ensures { IsDebug request.entry ⊎ TakesAtMost (limit.input + 1) (R.remaining stdin.old) (R.remaining stdin.new) }
+{
+    match request {
+        Request::Disasm { file } => conclude_listing(
             disasm(alloc, file, files, &mut stdout.writer),
             stderr,
         ),
-        Ok(
-            Request::Replay {
-                file,
-                schedule,
-                numbers,
-            },
-        ) => conclude_replay(
-            replay(
+        Request::Replay {
+            file,
+            schedule,
+            input,
+            numbers,
+        } => conclude_replay(
+            replay_given(
                 alloc,
                 file,
                 schedule,
+                input,
                 &config_of(numbers),
                 files,
                 stdin,
@@ -55,17 +75,34 @@ pub fn perform<H: Threads + Wait + Sync, S: AsStr, F: Files, R: Read, W: Write, 
             ),
             stderr,
         ),
-        Ok(
-            Request::Run {
-                file,
-                numbers,
-                records,
-            },
-        ) => conclude(
-            run_file(
+        Request::Debug {
+            file,
+            input,
+            numbers,
+            turn,
+        } => conclude_debugging(
+            debug_file(
+                rt,
+                alloc,
+                &Debugging { file, input, turn },
+                &config_of(numbers),
+                files,
+                stdin,
+                &mut stdout.writer,
+            ),
+            stderr,
+        ),
+        Request::Run {
+            file,
+            input,
+            numbers,
+            records,
+        } => conclude(
+            run_given(
                 rt,
                 alloc,
                 file,
+                input,
                 &config_of(numbers),
                 &records,
                 files,
@@ -74,6 +111,5 @@ pub fn perform<H: Threads + Wait + Sync, S: AsStr, F: Files, R: Read, W: Write, 
             ),
             stderr,
         ),
-        Err(status) => status,
     }
 }

@@ -3,7 +3,7 @@ ghost use Rattle.std.specs.Prelude.{◌≡◌, ◌+◌, IfErr, IfOk};
 ghost use Rattle.output_files.specs.Taken.{TakesAtMost};
 ghost use Rattle.run_limits.specs.Limits as limit;
 ghost use Rattle.token.specs.RunInTurn.{point_of};
-ghost use Rattle.command_line.specs.Replays.{AreGiven, AreOf, IsUngiven, IsUnopened, Replays};
+ghost use Rattle.command_line.specs.Replays.{AreGiven, AreOf, IsUngiven, IsUnopened, Replays, asked};
 
 use command_replay::{Opened, ReplayFailure, go_through, read_events};
 use command_requests::{Failure, Target};
@@ -33,8 +33,8 @@ pub(crate) fn replay<'a, F: Files, R: Read, W: Write>(
     stdout: &mut W,
 ) -> Result<Option<RunOutcome>, ReplayFailure<'a>>
     ensures input { TakesAtMost (limit.input + 1) (R.remaining stdin.old) (R.remaining stdin.new) }
-    ensures answer { Replays (F.content files.now) (R.remaining stdin.old) (W.contents stdout.old) (W.contents stdout.new)
-        file.now schedule.now config.now result }
+    ensures answer { Replays (asked F.content files.now file.now schedule.now (R.remaining stdin.old) config.now)
+        (W.contents stdout.old) (W.contents stdout.new) result }
 {
     let opened = open_replay(alloc, file, schedule, config, files, stdin)?;
     go_through(alloc, opened, config.workers, stdout)
@@ -50,9 +50,10 @@ fn open_replay<'a, F: Files, R: Read>(
     stdin: &mut R,
 ) -> Result<Opened, ReplayFailure<'a>>
     ensures input { TakesAtMost (limit.input + 1) (R.remaining stdin.old) (R.remaining stdin.new) }
-    ensures opened { IfOk result (λ opened. AreOf (F.content files.now) (R.remaining stdin.old) file.now schedule.now config.now (point_of opened.start).setup opened.events.items) }
+    ensures opened { IfOk result (λ opened. AreOf (asked F.content files.now file.now schedule.now (R.remaining stdin.old) config.now)
+        (point_of opened.start).setup opened.events.items) }
     ensures start { IfOk result (λ opened. (point_of opened.start).done ≡ 0) }
-    ensures failed { IfErr result (IsUnopened (F.content files.now) (R.remaining stdin.old) file.now schedule.now config.now) }
+    ensures failed { IfErr result (IsUnopened (asked F.content files.now file.now schedule.now (R.remaining stdin.old) config.now)) }
 {
     let given = read_given(alloc, file, files, stdin)?;
     let events = read_events(alloc, schedule, files)?;
@@ -68,7 +69,8 @@ fn read_given<'a, F: Files, R: Read>(
     stdin: &mut R,
 ) -> Result<Given, Failure<'a>>
     ensures input { TakesAtMost (limit.input + 1) (R.remaining stdin.old) (R.remaining stdin.new) }
-    ensures given { IfOk result (λ given. AreGiven (F.content files.now file.now) (R.remaining stdin.old) given.elf.items given.input.items) }
+    ensures given { IfOk result (λ given. AreGiven (F.content files.now file.now) (R.remaining stdin.old)
+        (record { elf = given.elf.items; input = given.input.items })) }
     ensures failed { IfErr result (IsUngiven file.now (R.remaining stdin.old)) }
 {
     let elf = match files.read(alloc, file, FILE_LIMIT) {

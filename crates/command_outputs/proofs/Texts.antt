@@ -1,9 +1,10 @@
 -- The texts of a run, one after the other.
-use Rattle.std.proofs.Common.{◌≡◌, ℕ, Option, Some, None, Result, Ok, Err, List, OnOk, IfOk, IsOk, IfSome, IfErr, IsSome, is_some, ap, inr, refl, subst, sym, ◌∙◌, []}
+use Rattle.std.proofs.Common.{◌≡◌, ℕ, Option, Some, None, Result, Ok, Err, List, OnOk, IfOk, IsOk, IfSome, IfErr, IsSome, is_some, ap, inr, refl, subst, sym, ◌∙◌, [], ◌++◌, append-nil}
 use Rattle.std.proofs.KnownBytes.{Appends-trans}
 use Rattle.std.specs.Io.KnownBytes.{Appends}
 use Rattle.output_files.specs.Content.{Content, Has}
-use Rattle.guest_memory.specs.Memory.{Memory}
+use Rattle.paged_memory.specs.Snapshot.{cells_of}
+use Rattle.command_outputs.specs.declared.ended.Ended.{Ended}
 use Rattle.run_digest.specs.Recording.{Digests}
 use Rattle.run_digest.specs.Texts.{digest_text}
 use Rattle.run_digest.specs.declared.digest_recorder.DigestRecorder.{DigestRecorder}
@@ -13,13 +14,12 @@ use Rattle.sharing_report.specs.Texts.{text_of as report_text_of}
 use Rattle.sharing_report.specs.declared.page_row.PageRow.{PageRow}
 use Rattle.sharing_report.specs.declared.sharing_recorder.SharingRecorder.{SharingRecorder}
 use Rattle.token.specs.Change.{Change}
-use Rattle.token.specs.declared.outcome.RunOutcome.{RunOutcome}
 use Rattle.token.specs.declared.turn.Turn.{Turn}
 use Rattle.tracer.specs.Recording.{Traces}
 use Rattle.tracer.specs.TraceText.{text_of as trace_text_of}
 use Rattle.tracer.specs.declared.trace_recorder.TraceRecorder.{TraceRecorder}
 use Rattle.command_requests.specs.Destination.{IsApart, IsFiled, KeepsButFileOf, KeepsButPartFor, Prints}
-use Rattle.command_outputs.specs.Records.{AreOut, AreOutLast, AreTextsOf, AreUnwritten, AreUnwrittenLast, IsReportOf, IsUnwrittenTo, KeepsButMade, KeepsUnlessPrinted, Texts}
+use Rattle.command_outputs.specs.Records.{AreMadeWritten, AreUnwritten, AreUnwrittenLast, AreWritten, IsPut, IsReportOf, IsUnwrittenTo, KeepsButMade, KeepsUnlessPrinted, Left, left_by}
 use Rattle.command_requests.specs.declared.destination.Destination.{Destination}
 use Rattle.command_requests.specs.declared.destination.Destination.TheVariants.{StandardOutput, File}
 use Rattle.command_requests.specs.declared.failure.Failure.{Failure}
@@ -76,8 +76,9 @@ abbrev pub MakesReport : Option SharingRecorder → List ℕ → Type 0
 MakesReport sharing text = IfSome sharing (λ sharing. (changes : List Change) → Shares sharing changes → AreInOrder changes → IsReportOf changes text)
 
 -- what makes the text of the digest
-abbrev pub MakesDigest : RunOutcome → List ℕ → Memory → Option DigestRecorder → List ℕ → Type 0
-MakesDigest ends output memory digest text = IfSome digest (λ digest. (turns : List Turn) → Digests digest turns → text ≡ digest_text ends output memory (trace_text_of turns))
+abbrev pub MakesDigest : Ended → Option DigestRecorder → List ℕ → Type 0
+MakesDigest end digest text =
+    IfSome digest (λ digest. (turns : List Turn) → Digests digest turns → text ≡ digest_text end.outcome end.output.items (cells_of end.memory) (trace_text_of turns))
 
 report_is : (destination : Option Destination) (sharing : Option SharingRecorder) (text : List ℕ) (changes : List Change) → is_some sharing ≡ is_some destination
     → MakesReport sharing text → IfSome sharing (λ sharing. Shares sharing changes) → AreInOrder changes → IsSome destination → IsReportOf changes text
@@ -85,12 +86,12 @@ report_is None sharing text changes same makes shares order is = cc
 report_is (Some destination) None text changes same makes shares order is = cc
 report_is (Some destination) (Some sharing) text changes same makes shares order is = makes changes shares order
 
-digest_is : (destination : Option Destination) (digest : Option DigestRecorder) (text : List ℕ) (turns : List Turn) (ends : RunOutcome) (output : List ℕ) (memory : Memory)
-    → is_some digest ≡ is_some destination → MakesDigest ends output memory digest text → IfSome digest (λ digest. Digests digest turns) → IsSome destination
-    → text ≡ digest_text ends output memory (trace_text_of turns)
-digest_is None digest text turns ends output memory same makes digests is = cc
-digest_is (Some destination) None text turns ends output memory same makes digests is = cc
-digest_is (Some destination) (Some digest) text turns ends output memory same makes digests is = makes turns digests
+digest_is : (destination : Option Destination) (digest : Option DigestRecorder) (text : List ℕ) (turns : List Turn) (end : Ended)
+    → is_some digest ≡ is_some destination → MakesDigest end digest text → IfSome digest (λ digest. Digests digest turns) → IsSome destination
+    → text ≡ digest_text end.outcome end.output.items (cells_of end.memory) (trace_text_of turns)
+digest_is None digest text turns end same makes digests is = cc
+digest_is (Some destination) None text turns end same makes digests is = cc
+digest_is (Some destination) (Some digest) text turns end same makes digests is = makes turns digests
 
 -- the text of the report was made of a recorder's rows
 pub report_made : {X E : Type 0} (bytes : X → List ℕ) (sharing : Option SharingRecorder) (one : SharingRecorder) (rows : List PageRow) (result : Result X E) → sharing ≡ Some one
@@ -100,83 +101,86 @@ report_made bytes sharing one rows (Err refused) is shares made = tt
 report_made bytes sharing one rows (Ok text) is shares made =
     subst (λ (all : Option SharingRecorder). MakesReport all (bytes text)) (sym is) (λ changes has order. (rows, shares changes has order, made))
 
+ends_here : (old new : Option (List ℕ)) (bytes : List ℕ) → Appends old new bytes → Appends old new (bytes ++ [])
+ends_here old new bytes sent = subst (λ (all : List ℕ). Appends old new all) (sym (append-nil bytes)) sent
+
 module _ {X E : Type 0} (bytes : X → List ℕ) (tells : Type 0) (records : Records) (sharing : Option SharingRecorder) (digest : Option DigestRecorder)
-    (ends : RunOutcome) (output : List ℕ) (memory : Memory) (now new : Content) (old mid last : Option (List ℕ)) where
+    (end : Ended) (now new : Content) (old mid last : Option (List ℕ)) where
   -- report and digest are where they are to be
   pub made_out : {T : Type 0} (first second : Result X E) (result : Result T Failure)
       → is_some sharing ≡ is_some records.report → is_some digest ≡ is_some records.digest
-      → IsOk first → IfOk first (λ text. MakesReport sharing (bytes text))
-      → IfOk first (λ text. IsFiled records.report (bytes text) now) → IfOk first (λ text. Prints tells records.report (bytes text) old mid)
-      → IfOk second (λ text. MakesDigest ends output memory digest (bytes text)) → KeepsButFileOf records.digest now new
-      → OnOk result (IsOk second) → OnOk result (IfOk second (λ text. IsFiled records.digest (bytes text) new))
-      → OnOk result (IfOk second (λ text. Prints tells records.digest (bytes text) mid last))
+      → IsOk first → IfOk first (λ text. MakesReport sharing (bytes text)) → IfOk first (λ text. IsPut tells records.report (bytes text) now old mid)
+      → IfOk second (λ text. MakesDigest end digest (bytes text)) → KeepsButFileOf records.digest now new
+      → OnOk result (IsOk second) → OnOk result (IfOk second (λ text. IsPut tells records.digest (bytes text) new mid last))
       → OnOk result ((turns : List Turn) (changes : List Change) → IfSome sharing (λ sharing. Shares sharing changes) → IfSome digest (λ digest. Digests digest turns)
-      → AreInOrder changes → (texts : Texts) × (texts.trace ≡ trace_text_of turns) × AreTextsOf records turns changes ends output memory texts
-      × AreOutLast tells records texts new old last)
-  made_out (Err refused) second result same_report same_digest made makes filed prints makes_digest kept made_digest digest_filed digest_prints = cc
-  made_out (Ok text) second (Err failure) same_report same_digest made makes filed prints makes_digest kept made_digest digest_filed digest_prints = tt
-  made_out (Ok text) (Err refused) (Ok value) same_report same_digest made makes filed prints makes_digest kept made_digest digest_filed digest_prints =
+      → AreInOrder changes → AreMadeWritten tells records (left_by turns changes end) new old last)
+  made_out (Err refused) second result same_report same_digest made makes put makes_digest kept made_digest put_digest = cc
+  made_out (Ok text) second (Err failure) same_report same_digest made makes put makes_digest kept made_digest put_digest = tt
+  made_out (Ok text) (Err refused) (Ok value) same_report same_digest made makes put makes_digest kept made_digest put_digest =
       let told : IsOk {T = X} {E = E} (Err refused) = made_digest in cc
-  made_out (Ok text) (Ok other) (Ok value) same_report same_digest made makes filed prints makes_digest kept made_digest digest_filed digest_prints =
+  made_out (Ok text) (Ok other) (Ok value) same_report same_digest made makes put makes_digest kept made_digest put_digest =
       λ turns changes shares digests order. (
         record { trace = trace_text_of turns; report = bytes text; digest = bytes other },
         refl,
         record {
           trace = λ is. refl;
           report = λ is. report_is records.report sharing (bytes text) changes same_report makes shares order is;
-          digest = λ is. digest_is records.digest digest (bytes other) turns ends output memory same_digest makes_digest digests is;
+          digest = λ is. digest_is records.digest digest (bytes other) turns end same_digest makes_digest digests is;
         },
         record {
-          filed = (λ apart. still_filed records.report records.digest (bytes text) now new kept filed apart, digest_filed);
-          printed_after = λ can. Appends-trans old mid last _ _ (prints can.0) (digest_prints can.1);
+          filed = (λ apart. still_filed records.report records.digest (bytes text) now new kept put.filed apart.0, (λ apart. put_digest.filed, tt));
+          printed_after = λ can. Appends-trans old mid last _ _ (put.printed_after can.0) (ends_here mid last _ (put_digest.printed_after can.1.0));
         },
       )
 
   -- the report is where it is to be, and the digest isn't
   pub made_left : {T : Type 0} (first : Result X E) (result : Result T Failure) → is_some sharing ≡ is_some records.report
-      → IsOk first → IfOk first (λ text. MakesReport sharing (bytes text)) → IfOk first (λ text. IsFiled records.report (bytes text) now)
-      → IfOk first (λ text. Prints tells records.report (bytes text) old mid) → KeepsButFileOf records.digest now new
+      → IsOk first → IfOk first (λ text. MakesReport sharing (bytes text)) → IfOk first (λ text. IsPut tells records.report (bytes text) now old mid)
+      → KeepsButFileOf records.digest now new
       → IfErr result (IsUnwrittenTo records.digest) → IfErr result (λ _. KeepsUnlessPrinted records.digest mid last)
       → IfErr result (λ failure. (changes : List Change) → IfSome sharing (λ sharing. Shares sharing changes) → AreInOrder changes
       → AreUnwrittenLast tells records changes new old last failure)
-  made_left (Err refused) result same made makes filed prints others failed kept = cc
-  made_left (Ok text) (Ok value) same made makes filed prints others failed kept = tt
-  made_left (Ok text) (Err failure) same made makes filed prints others failed kept =
+  made_left (Err refused) result same made makes put others failed kept = cc
+  made_left (Ok text) (Ok value) same made makes put others failed kept = tt
+  made_left (Ok text) (Err failure) same made makes put others failed kept =
       λ changes shares order. inr (record {
         report = bytes text;
         is_report = λ is. report_is records.report sharing (bytes text) changes same makes shares order is;
-        filed = λ apart. still_filed records.report records.digest (bytes text) now new others filed apart;
+        filed = λ apart. still_filed records.report records.digest (bytes text) now new others put.filed apart;
         between = mid;
-        printed_before = prints;
+        printed_before = put.printed_after;
         digest = record { why = failed; kept = kept };
       })
 
 -- all texts are where they are to be
-pub all_out : (tells : Type 0) (records : Records) (turns : List Turn) (changes : List Change) (ends : RunOutcome) (output : List ℕ) (memory : Memory) (texts : Texts)
-    (now new : Content) (old mid last : Option (List ℕ)) → IsFiled records.trace (trace_text_of turns) now → Prints tells records.trace (trace_text_of turns) old mid
-    → KeepsButMade records now new → texts.trace ≡ trace_text_of turns → AreTextsOf records turns changes ends output memory texts → AreOutLast tells records texts new mid last
-    → (texts : Texts) × AreTextsOf records turns changes ends output memory texts × AreOut tells records texts new old last
-all_out tells records turns changes ends output memory texts now new old mid last filed prints kept trace are out = (
-  texts,
-  are,
-  record {
-    filed = (
-      λ report digest. subst (λ (text : List ℕ). IsFiled records.trace text new) (sym trace) (still_there records.trace records _ now new kept filed report digest),
-      out.filed,
-    );
-    printed_after = λ can.
-        Appends-trans old mid last _ _ (subst (λ (text : List ℕ). Prints tells records.trace text old mid) (sym trace) prints can.0) (out.printed_after can.1);
-  },
-)
+pub all_out : (tells : Type 0) (records : Records) (left : Left) (now new : Content) (old mid last : Option (List ℕ))
+    → IsPut tells records.trace (trace_text_of left.turns) now old mid → KeepsButMade records now new → AreMadeWritten tells records left new mid last
+    → AreWritten tells records left new old last
+all_out tells records left now new old mid last put kept made =
+    let texts = made.0 in
+    let out = made.3 in (
+      texts,
+      made.2,
+      record {
+        filed = (
+          λ apart.
+              subst (λ (text : List ℕ). IsFiled records.trace text new) (sym made.1)
+              (still_there records.trace records _ now new kept put.filed apart.0 apart.1.0),
+          out.filed,
+        );
+        printed_after = λ can.
+            Appends-trans old mid last _ _ (subst (λ (text : List ℕ). Prints tells records.trace text old mid) (sym made.1) put.printed_after can.0) (out.printed_after can.1);
+      },
+    )
 
 -- the trace is where it is to be, and not each other text
 pub trace_out : (tells : Type 0) (records : Records) (turns : List Turn) (changes : List Change) (failure : Failure) (old now new : Content) (out mid out' : Option (List ℕ))
-    → IsFiled records.trace (trace_text_of turns) now → Prints tells records.trace (trace_text_of turns) out mid → KeepsButMade records now new
+    → IsPut tells records.trace (trace_text_of turns) now out mid → KeepsButMade records now new
     → AreUnwrittenLast tells records changes new mid out' failure → AreUnwritten tells records turns changes old new out out' failure
-trace_out tells records turns changes failure old now new out mid out' filed prints kept left = inr (record {
-  filed = λ report digest. still_there records.trace records _ now new kept filed report digest;
+trace_out tells records turns changes failure old now new out mid out' put kept left = inr (record {
+  filed = λ report digest. still_there records.trace records _ now new kept put.filed report digest;
   between = mid;
-  printed_before = prints;
+  printed_before = put.printed_after;
   others = left;
 })
 

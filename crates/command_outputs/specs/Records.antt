@@ -1,8 +1,9 @@
 -- What becomes of the texts that a run leaves beside its outcome.
-use Rattle.std.specs.Prelude.{◌≡◌, ◌≢◌, ◌⊎◌, ℕ, Option, Some, List, [], ◌++◌, IsNone, IsSome}
+use Rattle.std.specs.Prelude.{◌≡◌, ◌≢◌, ◌⊎◌, ℕ, Option, Some, List, [], ◌∷◌, ◌++◌, IfErr, IsNone, IsSome, Result}
 use Rattle.std.specs.Io.KnownBytes.{Appends}
 use Rattle.output_files.specs.Content.{Content}
 use Rattle.guest_memory.specs.Memory.{Memory}
+use Rattle.paged_memory.specs.Snapshot.{cells_of}
 use Rattle.run_digest.specs.Texts.{digest_text}
 use Rattle.sharing_report.specs.Sharing.{IsSharing}
 use Rattle.sharing_report.specs.Texts.{text_of as report_text_of}
@@ -11,11 +12,12 @@ use Rattle.token.specs.Change.{Change}
 use Rattle.token.specs.declared.outcome.RunOutcome.{RunOutcome}
 use Rattle.token.specs.declared.turn.Turn.{Turn}
 use Rattle.tracer.specs.TraceText.{text_of as trace_text_of}
-use Rattle.command_requests.specs.Destination.{Carries, CanPrint, IsApart, IsFileOf, IsFiled, IsPartFor, IsTargetOf, Prints, printed_to}
+use Rattle.command_requests.specs.Destination.{Carries, CanPrint, IsApart, IsFileOf, IsFiled, IsPartFor, IsTargetOf, KeepsButFileOf, Prints, printed_to}
 use Rattle.command_requests.specs.declared.destination.Destination.{Destination}
 use Rattle.command_requests.specs.declared.destination.Destination.TheVariants.{StandardOutput}
 use Rattle.command_requests.specs.declared.failure.Failure.{Failure}
-use Rattle.command_requests.specs.declared.failure.Failure.TheVariants.{NotText, OneFile, OutsideRange, ElfRefused, InputTooLarge, CannotRead, CannotWrite, OutOfMemory}
+use Rattle.command_requests.specs.declared.failure.Failure.TheVariants.{CannotWrite, OutOfMemory}
+use Rattle.command_outputs.specs.declared.ended.Ended.{Ended}
 use Rattle.command_outputs.specs.declared.made_outputs.MadeOutputs.{MadeOutputs}
 use Rattle.command_outputs.specs.declared.outputs.Outputs.{Outputs}
 use Rattle.command_requests.specs.declared.records.Records.{Records}
@@ -28,12 +30,7 @@ NamesNone records = IsNone records.trace × IsNone records.report × IsNone reco
 abbrev pub IsUnwrittenTo : Option Destination → Failure → Type 0
 IsUnwrittenTo destination (CannotWrite target) = IsTargetOf destination target
 IsUnwrittenTo destination OutOfMemory = Unit {0}
-IsUnwrittenTo destination (CannotRead target) = ⊥
-IsUnwrittenTo destination OutsideRange = ⊥
-IsUnwrittenTo destination InputTooLarge = ⊥
-IsUnwrittenTo destination (ElfRefused fault) = ⊥
-IsUnwrittenTo destination NotText = ⊥
-IsUnwrittenTo destination (OneFile one other) = ⊥
+IsUnwrittenTo destination other = ⊥
 
 -- why one of the texts didn't get to its destination
 abbrev pub IsUnwritten : Records → Failure → Type 0
@@ -63,60 +60,91 @@ pub record Texts : Type 0 where
   pub report : List ℕ
   pub digest : List ℕ
 
+-- what a run left: its turns, what they changed, how it ended, its output and its memory
+pub record Left : Type 0 where
+  pub turns : List Turn
+  pub changes : List Change
+  pub ends : RunOutcome
+  pub output : List ℕ
+  pub memory : Memory
+
+-- what a run left that had these turns, which made these changes, and that ended so
+abbrev pub left_by : List Turn → List Change → Ended → Left
+left_by turns changes end = record { turns = turns; changes = changes; ends = end.outcome; output = end.output.items; memory = cells_of end.memory }
+
 -- the report of the sharing of these changes
 abbrev pub IsReportOf : List Change → List ℕ → Type 0
 IsReportOf changes text = (rows : List PageRow) × IsSharing changes rows × (text ≡ report_text_of rows)
 
--- They are those of a run with these turns, which made these changes, and that ended so, with this output and this memory. A text that
--- isn't wanted is nowhere.
-pub record AreTextsOf (records : Records) (turns : List Turn) (changes : List Change) (ends : RunOutcome) (output : List ℕ) (memory : Memory) (texts : Texts) : Type 0 where
-  pub trace : IsSome records.trace → texts.trace ≡ trace_text_of turns
-  pub report : IsSome records.report → IsReportOf changes texts.report
-  pub digest : IsSome records.digest → texts.digest ≡ digest_text ends output memory (trace_text_of turns)
+-- They are those of what a run left. A text that isn't wanted is nowhere.
+pub record AreTextsOf (records : Records) (left : Left) (texts : Texts) : Type 0 where
+  pub trace : IsSome records.trace → texts.trace ≡ trace_text_of left.turns
+  pub report : IsSome records.report → IsReportOf left.changes texts.report
+  pub digest : IsSome records.digest → texts.digest ≡ digest_text left.ends left.output left.memory (trace_text_of left.turns)
 
--- what the texts that are made at the end add to standard output
-abbrev pub printed_last : Records → Texts → List ℕ
-printed_last records texts = printed_to records.report texts.report ++ printed_to records.digest texts.digest
+-- a text, and where it is to go, if it is wanted
+pub record Placed : Type 0 where
+  pub destination : Option Destination
+  pub text : List ℕ
 
--- what the texts add to standard output
-abbrev pub printed : Records → Texts → List ℕ
-printed records texts = printed_to records.trace texts.trace ++ printed_last records texts
+-- the texts that are made at the end of a run, in the order in which they are written
+abbrev pub made : Records → Texts → List Placed
+made records texts = record { destination = records.report; text = texts.report } ∷ record { destination = records.digest; text = texts.digest } ∷ []
+
+-- all texts of a run, the trace first
+abbrev pub placed : Records → Texts → List Placed
+placed records texts = record { destination = records.trace; text = texts.trace } ∷ made records texts
+
+-- what texts add to standard output
+abbrev pub printed : List Placed → List ℕ
+printed [] = []
+printed (first ∷ others) = printed_to first.destination first.text ++ printed others
 
 -- what is told of the outputs is told of each that is to be printed
-abbrev pub CanPrintLast : Type 0 → Records → Type 0
-CanPrintLast tells records = CanPrint tells records.report × CanPrint tells records.digest
+abbrev pub CanPrintAll : Type 0 → List Placed → Type 0
+CanPrintAll tells [] = Unit {0}
+CanPrintAll tells (first ∷ others) = CanPrint tells first.destination × CanPrintAll tells others
 
-abbrev pub CanPrintAll : Type 0 → Records → Type 0
-CanPrintAll tells records = CanPrint tells records.trace × CanPrintLast tells records
+-- none of these texts takes a file's place or puts its part there
+abbrev pub IsApartFrom : Option Destination → List Placed → Type 0
+IsApartFrom destination [] = Unit {0}
+IsApartFrom destination (first ∷ others) = IsApart destination first.destination × IsApartFrom destination others
 
--- the file for the trace holds it, unless a later text takes its place or puts its part there
-abbrev pub HasTrace : Records → List ℕ → Content → Type 0
-HasTrace records text content = IsApart records.trace records.report → IsApart records.trace records.digest → IsFiled records.trace text content
+-- each file that is named holds its text, unless a later text takes its place or puts its part there
+abbrev pub AreFiled : List Placed → Content → Type 0
+AreFiled [] content = Unit {0}
+AreFiled (first ∷ others) content = (IsApartFrom first.destination others → IsFiled first.destination first.text content) × AreFiled others content
 
--- and so the file for the report
-abbrev pub HasReport : Records → List ℕ → Content → Type 0
-HasReport records text content = IsApart records.report records.digest → IsFiled records.report text content
+-- The texts are where they are to be: in their files, and after what standard output held.
+pub record AreOut (tells : Type 0) (texts : List Placed) (content : Content) (old new : Option (List ℕ)) : Type 0 where
+  pub filed : AreFiled texts content
+  pub printed_after : CanPrintAll tells texts → Appends old new (printed texts)
 
--- each file that is named holds its text
-abbrev pub AreFiledLast : Records → Texts → Content → Type 0
-AreFiledLast records texts content = HasReport records texts.report content × IsFiled records.digest texts.digest content
+-- there are texts of what a run left, and each is where it is to be
+abbrev pub AreWritten : Type 0 → Records → Left → Content → (old new : Option (List ℕ)) → Type 0
+AreWritten tells records left content old new = (texts : Texts) × AreTextsOf records left texts × AreOut tells (placed records texts) content old new
 
-abbrev pub AreFiled : Records → Texts → Content → Type 0
-AreFiled records texts content = HasTrace records texts.trace content × AreFiledLast records texts content
-
--- The texts that are made at the end are where they are to be: in their files, and after what standard output held.
-pub record AreOutLast (tells : Type 0) (records : Records) (texts : Texts) (content : Content) (old new : Option (List ℕ)) : Type 0 where
-  pub filed : AreFiledLast records texts content
-  pub printed_after : CanPrintLast tells records → Appends old new (printed_last records texts)
-
--- and so is each text
-pub record AreOut (tells : Type 0) (records : Records) (texts : Texts) (content : Content) (old new : Option (List ℕ)) : Type 0 where
-  pub filed : AreFiled records texts content
-  pub printed_after : CanPrintAll tells records → Appends old new (printed records texts)
+-- of those that are made at the end, beside a trace that was written
+abbrev pub AreMadeWritten : Type 0 → Records → Left → Content → (old new : Option (List ℕ)) → Type 0
+AreMadeWritten tells records left content old new =
+    (texts : Texts) × (texts.trace ≡ trace_text_of left.turns) × AreTextsOf records left texts × AreOut tells (made records texts) content old new
 
 -- standard output is as it was, unless a text was to be printed there
 abbrev pub KeepsUnlessPrinted : Option Destination → (old new : Option (List ℕ)) → Type 0
 KeepsUnlessPrinted destination old new = destination ≢ Some StandardOutput → new ≡ old
+
+-- A text is where it is to be: in its file, or after what standard output held.
+pub record IsPut (tells : Type 0) (destination : Option Destination) (text : List ℕ) (content : Content) (old new : Option (List ℕ)) : Type 0 where
+  pub filed : IsFiled destination text content
+  pub printed_after : Prints tells destination text old new
+
+-- What a write of a text for a destination leaves as it was, whether or not it gets there, and why it doesn't.
+pub record LeavesOthers {F T : Type 0} (content : F → Content) (destination : Option Destination) (result : Result T Failure) (files files' : F)
+    (old new : Option (List ℕ)) : Type 0 where
+  pub others : KeepsButFileOf destination (content files) (content files')
+  pub unnamed : IsNone destination → files' ≡ files
+  pub failed : IfErr result (IsUnwrittenTo destination)
+  pub kept : IfErr result (λ failure. KeepsUnlessPrinted destination old new)
 
 -- A text didn't get to its destination, and printed nothing if it wasn't to be printed.
 pub record Misses (destination : Option Destination) (old new : Option (List ℕ)) (failure : Failure) : Type 0 where
@@ -127,7 +155,7 @@ pub record Misses (destination : Option Destination) (old new : Option (List ℕ
 pub record DigestMisses (tells : Type 0) (records : Records) (changes : List Change) (content : Content) (old new : Option (List ℕ)) (failure : Failure) : Type 0 where
   pub report : List ℕ
   pub is_report : IsSome records.report → IsReportOf changes report
-  pub filed : HasReport records report content
+  pub filed : IsApart records.report records.digest → IsFiled records.report report content
   pub between : Option (List ℕ)
   pub printed_before : Prints tells records.report report old between
   pub digest : Misses records.digest between new failure
@@ -146,7 +174,7 @@ pub record TraceMisses (records : Records) (files files' : Content) (old new : O
 
 -- The trace is where it is to be, and then not each of the other texts got to its destination.
 pub record OthersMiss (tells : Type 0) (records : Records) (turns : List Turn) (changes : List Change) (content : Content) (old new : Option (List ℕ)) (failure : Failure) : Type 0 where
-  pub filed : HasTrace records (trace_text_of turns) content
+  pub filed : IsApart records.trace records.report → IsApart records.trace records.digest → IsFiled records.trace (trace_text_of turns) content
   pub between : Option (List ℕ)
   pub printed_before : Prints tells records.trace (trace_text_of turns) old between
   pub others : AreUnwrittenLast tells records changes content between new failure

@@ -70,7 +70,8 @@ pub fn abandon<F: Files>(records: &Records<'_>, outputs: Outputs<F::Output>, fil
 
 /// Takes away what was begun for the texts that are made when a run has ended.
 pub fn abandon_made<F: Files>(records: &Records<'_>, made: MadeOutputs<F::Output>, files: &mut F)
-    ensures kept { (path : List ℕ) → ¬ IsPartFor records.now.report path → ¬ IsPartFor records.now.digest path → F.content files.new path ≡ F.content files.old path }
+    ensures kept { (path : List ℕ) → ¬ IsPartFor records.now.report path → ¬ IsPartFor records.now.digest path
+        → F.content files.new path ≡ F.content files.old path }
     ensures unnamed { NamesNone records.now → files.new ≡ files.old }
 {
     abandon_output(records.report, made.report, files);

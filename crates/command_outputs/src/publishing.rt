@@ -10,9 +10,9 @@ ghost use Rattle.token.specs.Change.{Change};
 ghost use Rattle.token.specs.declared.turn.Turn.{Turn as TurnRecord};
 ghost use Rattle.tracer.specs.Recording.{Traces};
 ghost use Rattle.tracer.specs.TraceText.{text_of as trace_text_of};
-ghost use Rattle.command_requests.specs.Destination.{Carries, IsFiled, KeepsButFileOf, Prints};
+ghost use Rattle.command_requests.specs.Destination.{Carries};
 ghost use Rattle.command_outputs.specs.Recorders.{AreFor, AreTold};
-ghost use Rattle.command_outputs.specs.Records.{AreBegunLast, AreOut, AreOutLast, AreTextsOf, AreUnwritten, AreUnwrittenLast, IsReportOf, IsUnwrittenTo, KeepsButMade, KeepsUnlessPrinted, NamesNone, Texts};
+ghost use Rattle.command_outputs.specs.Records.{AreBegunLast, AreMadeWritten, AreUnwritten, AreUnwrittenLast, AreWritten, IsPut, IsReportOf, IsUnwrittenTo, KeepsButMade, LeavesOthers, NamesNone, left_by};
 
 use crate::ended::Ended;
 use crate::made_outputs::MadeOutputs;
@@ -39,11 +39,12 @@ pub fn write_records<'a, F: Files, W: Write>(
 ) -> Result<(), Failure<'a>>
     requires wanted { AreFor records.now recorders }
     requires begun { AreBegunLast F.Output.contents records.now made }
-    ensures out { OnOk result ((turns : List TurnRecord) (changes : List Change) → AreTold F.Output.contents recorders turns changes → AreInOrder changes
-        → (texts : Texts) × AreTextsOf records.now turns changes end.outcome end.output.items (cells_of end.memory) texts
-        × AreOut (Tells F.Output.contents) records.now texts (F.content files.new) (W.contents writer.old) (W.contents writer.new)) }
+    ensures out { OnOk result ((turns : List TurnRecord) (changes : List Change) → AreTold F.Output.contents recorders turns changes
+        → AreInOrder changes → AreWritten (Tells F.Output.contents) records.now (left_by turns changes end)
+        (F.content files.new) (W.contents writer.old) (W.contents writer.new)) }
     ensures unnamed { NamesNone records.now → files.new ≡ files.old }
-    ensures failed { IfErr result (λ failure. (turns : List TurnRecord) (changes : List Change) → AreTold F.Output.contents recorders turns changes → AreInOrder changes
+    ensures failed { IfErr result (λ failure. (turns : List TurnRecord) (changes : List Change)
+        → AreTold F.Output.contents recorders turns changes → AreInOrder changes
         → AreUnwritten (Tells F.Output.contents) records.now turns changes (F.content files.old) (F.content files.new)
         (W.contents writer.old) (W.contents writer.new) failure) }
 {
@@ -75,13 +76,16 @@ fn write_made<'a, F: Files, W: Write>(
     requires report { is_some sharing ≡ is_some records.now.report }
     requires digest { is_some digest ≡ is_some records.now.digest }
     requires begun { AreBegunLast F.Output.contents records.now made }
-    ensures out { OnOk result ((turns : List TurnRecord) (changes : List Change) → IfSome sharing (λ sharing. Shares sharing changes) → IfSome digest (λ digest. Digests digest turns)
-        → AreInOrder changes → (texts : Texts) × (texts.trace ≡ trace_text_of turns) × AreTextsOf records.now turns changes end.outcome end.output.items (cells_of end.memory) texts
-        × AreOutLast (Tells F.Output.contents) records.now texts (F.content files.new) (W.contents writer.old) (W.contents writer.new)) }
+    ensures out { OnOk result ((turns : List TurnRecord) (changes : List Change)
+        → IfSome sharing (λ sharing. Shares sharing changes) → IfSome digest (λ digest. Digests digest turns) → AreInOrder changes
+        → AreMadeWritten (Tells F.Output.contents) records.now (left_by turns changes end)
+        (F.content files.new) (W.contents writer.old) (W.contents writer.new)) }
     ensures others { KeepsButMade records.now (F.content files.old) (F.content files.new) }
     ensures unnamed { NamesNone records.now → files.new ≡ files.old }
-    ensures failed { IfErr result (λ failure. (changes : List Change) → IfSome sharing (λ sharing. Shares sharing changes) → AreInOrder changes
-        → AreUnwrittenLast (Tells F.Output.contents) records.now changes (F.content files.new) (W.contents writer.old) (W.contents writer.new) failure) }
+    ensures failed { IfErr result (λ failure. (changes : List Change)
+        → IfSome sharing (λ sharing. Shares sharing changes) → AreInOrder changes
+        → AreUnwrittenLast (Tells F.Output.contents) records.now changes
+        (F.content files.new) (W.contents writer.old) (W.contents writer.new) failure) }
 {
     let text = report_of(alloc, &sharing);
     match write_text(records.report, made.report, text, files, writer) {
@@ -98,7 +102,8 @@ fn write_made<'a, F: Files, W: Write>(
 
 /// The text of the report, where it is wanted.
 fn report_of(alloc: Global, sharing: &Option<SharingRecorder>) -> Result<String, AllocError>
-    ensures { IfOk result (λ text. IfSome sharing.now (λ sharing. (changes : List Change) → Shares sharing changes → AreInOrder changes → IsReportOf changes (string_bytes text))) }
+    ensures { IfOk result (λ text. IfSome sharing.now (λ sharing.
+        (changes : List Change) → Shares sharing changes → AreInOrder changes → IsReportOf changes (string_bytes text))) }
 {
     match sharing {
         Some(sharing) => report_text(alloc, &sharing.rows()?),
@@ -129,14 +134,10 @@ fn write_trace<'a, F: Files, W: Write>(
     writer: &mut W,
 ) -> Result<(), Failure<'a>>
     requires { is_some recorder ≡ is_some destination }
-    ensures filed { OnOk result ((turns : List TurnRecord) → IfSome recorder (λ recorder. Traces F.Output.contents recorder turns)
-        → IsFiled destination.entry (trace_text_of turns) (F.content files.new)) }
-    ensures printed { OnOk result ((turns : List TurnRecord) → IfSome recorder (λ recorder. Traces F.Output.contents recorder turns)
-        → Prints (Tells F.Output.contents) destination.entry (trace_text_of turns) (W.contents writer.old) (W.contents writer.new)) }
-    ensures others { KeepsButFileOf destination.entry (F.content files.old) (F.content files.new) }
-    ensures unnamed { IsNone destination.entry → files.new ≡ files.old }
-    ensures failed { IfErr result (IsUnwrittenTo destination.entry) }
-    ensures kept { IfErr result (λ _. KeepsUnlessPrinted destination.entry (W.contents writer.old) (W.contents writer.new)) }
+    ensures put { OnOk result ((turns : List TurnRecord) → IfSome recorder (λ recorder. Traces F.Output.contents recorder turns)
+        → IsPut (Tells F.Output.contents) destination.entry (trace_text_of turns)
+        (F.content files.new) (W.contents writer.old) (W.contents writer.new)) }
+    ensures left { LeavesOthers F.content destination.entry result files.old files.new (W.contents writer.old) (W.contents writer.new) }
 {
     let Some(recorder) = recorder else {
         return Ok(());
@@ -169,12 +170,9 @@ fn write_text<'a, F: Files, W: Write>(
 ) -> Result<(), Failure<'a>>
     requires { Carries F.Output.contents destination output [] }
     ensures made { OnOk result (IsOk text) }
-    ensures filed { OnOk result (IfOk text (λ text. IsFiled destination.entry (string_bytes text) (F.content files.new))) }
-    ensures printed { OnOk result (IfOk text (λ text. Prints (Tells F.Output.contents) destination.entry (string_bytes text) (W.contents writer.old) (W.contents writer.new))) }
-    ensures others { KeepsButFileOf destination.entry (F.content files.old) (F.content files.new) }
-    ensures unnamed { IsNone destination.entry → files.new ≡ files.old }
-    ensures failed { IfErr result (IsUnwrittenTo destination.entry) }
-    ensures kept { IfErr result (λ _. KeepsUnlessPrinted destination.entry (W.contents writer.old) (W.contents writer.new)) }
+    ensures put { OnOk result (IfOk text (λ text.
+        IsPut (Tells F.Output.contents) destination.entry (string_bytes text) (F.content files.new) (W.contents writer.old) (W.contents writer.new))) }
+    ensures left { LeavesOthers F.content destination.entry result files.old files.new (W.contents writer.old) (W.contents writer.new) }
 {
     let text = match text {
         Ok(text) => text,
@@ -201,11 +199,10 @@ fn put<'a, F: Files, W: Write>(
     writer: &mut W,
 ) -> Result<(), Failure<'a>>
     requires { Has F.Output.contents output [] }
-    ensures filed { OnOk result (IsFiled (Some destination.entry) (string_bytes text.now) (F.content files.new)) }
-    ensures printed { OnOk result (Prints (Tells F.Output.contents) (Some destination.entry) (string_bytes text.now) (W.contents writer.old) (W.contents writer.new)) }
-    ensures others { KeepsButFileOf (Some destination.entry) (F.content files.old) (F.content files.new) }
-    ensures failed { IfErr result (IsUnwrittenTo (Some destination.entry)) }
-    ensures kept { IfErr result (λ _. KeepsUnlessPrinted (Some destination.entry) (W.contents writer.old) (W.contents writer.new)) }
+    ensures put { OnOk result (IsPut (Tells F.Output.contents) (Some destination.entry) (string_bytes text.now)
+        (F.content files.new) (W.contents writer.old) (W.contents writer.new)) }
+    ensures left { LeavesOthers F.content (Some destination.entry) result files.old files.new
+        (W.contents writer.old) (W.contents writer.new) }
 {
     let mut output = output;
     match write_whole(destination, &mut output, text.as_bytes()) {
@@ -240,13 +237,9 @@ pub fn publish<'a, F: Files, W: Write>(
     files: &mut F,
     writer: &mut W,
 ) -> Result<(), Failure<'a>>
-    ensures filed { OnOk result ((text : List ℕ) → Carries F.Output.contents destination.entry output text → IsFiled destination.entry text (F.content files.new)) }
-    ensures printed { OnOk result ((text : List ℕ) → Carries F.Output.contents destination.entry output text
-        → Prints (Tells F.Output.contents) destination.entry text (W.contents writer.old) (W.contents writer.new)) }
-    ensures others { KeepsButFileOf destination.entry (F.content files.old) (F.content files.new) }
-    ensures unnamed { IsNone destination.entry → files.new ≡ files.old }
-    ensures failed { IfErr result (IsUnwrittenTo destination.entry) }
-    ensures kept { IfErr result (λ _. KeepsUnlessPrinted destination.entry (W.contents writer.old) (W.contents writer.new)) }
+    ensures put { OnOk result ((text : List ℕ) → Carries F.Output.contents destination.entry output text
+        → IsPut (Tells F.Output.contents) destination.entry text (F.content files.new) (W.contents writer.old) (W.contents writer.new)) }
+    ensures left { LeavesOthers F.content destination.entry result files.old files.new (W.contents writer.old) (W.contents writer.new) }
 {
     let Some(output) = output else {
         return Ok(());

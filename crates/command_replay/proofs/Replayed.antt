@@ -42,8 +42,7 @@ all_replayed start before after old new workers events ended output output' same
         after = after;
         new = new;
         begins = begins start before old workers same done opened;
-        happened = happened;
-        outcome = outcome;
+        comes = (happened, outcome);
         trace = traced start.setup after printed.0 kept printed.1;
       },
       printed.2,
@@ -66,19 +65,14 @@ cut_at start before after old new workers events place fault failure output outp
         after = after;
         new = new;
         begins = begins start before old workers same done opened;
-        refused = refused;
+        comes = refused;
         trace = traced start.setup after printed.0 kept printed.1;
       },
       printed.2,
     )
 
 -- the trace wasn't printed
-cut_unprinted : (setup : Setup) (workers : ℕ) (events : List Event) (failure : Failure) (given : ReplayFailure) (output output' : Option (List ℕ))
-    → IsUnprinted output output' failure → given ≡ Plain failure → IsCut setup workers events output output' given
-cut_unprinted setup workers events failure given output output' (inl failed) is = inr (inl (is ∙ ap Plain failed))
-cut_unprinted setup workers events failure given output output' (inr refused) is = inr (inr (is ∙ ap Plain refused.0, refused.1))
-
 pub unprinted : (setup : Setup) (workers : ℕ) (events : List Event) (failure : Failure) (answer : Result (Option RunOutcome) ReplayFailure) (output output' : Option (List ℕ))
     → IsUnprinted output output' failure → IsErrAnd answer (λ given. given ≡ Plain failure) → IfErr answer (IsCut setup workers events output output')
 unprinted setup workers events failure (Ok ended) output output' failed given = tt
-unprinted setup workers events failure (Err given) output output' failed is = cut_unprinted setup workers events failure given output output' failed is
+unprinted setup workers events failure (Err given) output output' failed is = inr (failure, is, failed)

@@ -41,30 +41,27 @@ IsPrinted point output output' = (text : List ℕ) × IsTraceAt point.setup poin
 abbrev pub IsUnprinted : (output output' : Option (List ℕ)) → Failure → Type 0
 IsUnprinted output output' failure = (failure ≡ CannotWrite StandardOutput) ⊎ ((failure ≡ OutOfMemory) × (output' ≡ output))
 
--- All of the events happen one after another, the run has ended so or hasn't, and this is the trace.
-pub record IsReplayed (setup : Setup) (workers : ℕ) (events : List Event) (ended : Option RunOutcome) (text : List ℕ) : Type 0 where
+-- A replay from where nothing has happened to some point, which it comes to so, and this is the trace.
+pub record IsReplay (setup : Setup) (workers : ℕ) (Comes : Point → Tally → Point → Tally → Type 0) (text : List ℕ) : Type 0 where
   pub before : Point
   pub old : Tally
   pub after : Point
   pub new : Tally
   pub begins : IsBeginning setup workers before old
-  pub happened : HappenInTurn before old events after new
-  pub outcome : IsOutcome after ended
+  pub comes : Comes before old after new
   pub trace : IsTraceAt setup after text
 
--- The events before a place happen, the one at it is refused or memory runs out for it, and this is the trace.
-pub record IsReplayedTo (setup : Setup) (workers : ℕ) (events : List Event) (place : ℕ) (fault : EventFault) (text : List ℕ) : Type 0 where
-  pub before : Point
-  pub old : Tally
-  pub after : Point
-  pub new : Tally
-  pub begins : IsBeginning setup workers before old
-  pub refused : IsRefusedAt before old events place fault after new
-  pub trace : IsTraceAt setup after text
+-- all of the events happen one after another, and the run has ended so or hasn't
+abbrev pub IsReplayed : Setup → ℕ → List Event → Option RunOutcome → List ℕ → Type 0
+IsReplayed setup workers events ended text = IsReplay setup workers (λ before old after new. HappenInTurn before old events after new × IsOutcome after ended) text
+
+-- the events before a place happen, and the one at it is refused or memory runs out for it
+abbrev pub IsReplayedTo : Setup → ℕ → List Event → ℕ → EventFault → List ℕ → Type 0
+IsReplayedTo setup workers events place fault text = IsReplay setup workers (λ before old after new. IsRefusedAt before old events place fault after new) text
 
 -- Why not all of the events happened or their trace wasn't printed, and what was printed: an event was refused, and the trace was printed;
--- or standard output failed; or memory was refused with nothing printed.
+-- or it wasn't printed.
 abbrev pub IsCut : Setup → ℕ → List Event → (output output' : Option (List ℕ)) → ReplayFailure → Type 0
 IsCut setup workers events output output' failure =
     ((place : ℕ) × (fault : EventFault) × (text : List ℕ) × (failure ≡ failure_at place fault) × IsReplayedTo setup workers events place fault text × Appends output output' text)
-    ⊎ ((failure ≡ Plain (CannotWrite StandardOutput)) ⊎ ((failure ≡ Plain OutOfMemory) × (output' ≡ output)))
+    ⊎ ((plain : Failure) × (failure ≡ Plain plain) × IsUnprinted output output' plain)

@@ -2,8 +2,8 @@
 use Rattle.std.specs.Prelude.{◌≡◌, ◌⊎◌, ℕ, Option, List}
 use Rattle.schedule.specs.declared.event.Event.{Event}
 use Rattle.schedule_text.specs.Text.{IsFirstBadLine, IsText}
-use Rattle.command_requests.specs.Reading.{AreRead, IsAt}
-use Rattle.command_requests.specs.declared.failure.Failure.TheVariants.{CannotRead, OutOfMemory}
+use Rattle.command_requests.specs.Reading.{AreRead, IsUnreadAt}
+use Rattle.command_requests.specs.declared.failure.Failure.{Failure}
 use Rattle.command_replay.specs.declared.replay_failure.ReplayFailure.{ReplayFailure}
 use Rattle.command_replay.specs.declared.replay_failure.ReplayFailure.TheVariants.{Plain, NotAnEvent}
 
@@ -20,6 +20,5 @@ pub record AreScheduled (content : Option (List ℕ)) (events : List Event) : Ty
 -- why it wasn't: it can't be read or has more bytes, or memory was refused, or a line is no event
 abbrev pub IsUnscheduled : List ℕ → Option (List ℕ) → ReplayFailure → Type 0
 IsUnscheduled path content failure =
-    (failure ≡ Plain OutOfMemory)
-    ⊎ (((target : _) × (failure ≡ Plain (CannotRead target)) × IsAt path target)
-    ⊎ ((text : List ℕ) × (line : ℕ) × (failure ≡ NotAnEvent line) × AreRead schedule_limit content text × IsFirstBadLine text line))
+    ((plain : Failure) × (failure ≡ Plain plain) × IsUnreadAt path plain)
+    ⊎ ((text : List ℕ) × (line : ℕ) × (failure ≡ NotAnEvent line) × AreRead schedule_limit content text × IsFirstBadLine text line)

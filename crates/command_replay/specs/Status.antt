@@ -7,20 +7,17 @@ use Rattle.command_requests.specs.Status.{failure_status}
 use Rattle.command_requests.specs.declared.failure.Failure.TheVariants.{OutOfMemory}
 use Rattle.command_outputs.specs.Status.{outcome_status}
 use Rattle.command_replay.specs.declared.replay_failure.ReplayFailure.{ReplayFailure}
-use Rattle.command_replay.specs.declared.replay_failure.ReplayFailure.TheVariants.{Plain, NotAnEvent, Refused}
+use Rattle.command_replay.specs.declared.replay_failure.ReplayFailure.TheVariants.{Plain, Refused}
 
 -- the failure that a refused event is, by its place in the list of events: lines are counted from 1
 abbrev pub failure_at : ℕ → EventFault → ReplayFailure
-failure_at place event.NoWorker = Refused (place + 1) event.NoWorker
-failure_at place event.NotEnabled = Refused (place + 1) event.NotEnabled
-failure_at place event.Ended = Refused (place + 1) event.Ended
 failure_at place event.OutOfMemory = Plain OutOfMemory
+failure_at place fault = Refused (place + 1) fault
 
 -- the status after a failure: 124 where it is the schedule's
 abbrev pub replay_failure_status : ReplayFailure → ℕ
 replay_failure_status (Plain failure) = failure_status failure
-replay_failure_status (NotAnEvent line) = 124
-replay_failure_status (Refused line fault) = 124
+replay_failure_status other = 124
 
 -- the status after a replay: that of the run's outcome, or 122 where the run hasn't ended
 abbrev pub replay_status : Result (Option RunOutcome) ReplayFailure → ℕ

@@ -58,9 +58,11 @@ pub fn go_through<'a, W: Write>(
 ) -> Result<Option<RunOutcome>, ReplayFailure<'a>>
     requires few { workers ≤ limit.workers }
     requires some { 0 < workers }
-    ensures replayed { IfOk result (λ ended. (text : List ℕ) × IsReplayed (point_of opened.start).setup workers opened.events.items ended text
+    ensures replayed { IfOk result (λ ended. (text : List ℕ)
+        × IsReplayed (point_of opened.start).setup workers opened.events.items ended text
         × Appends (W.contents stdout.old) (W.contents stdout.new) text) }
-    ensures cut { IfErr result (IsCut (point_of opened.start).setup workers opened.events.items (W.contents stdout.old) (W.contents stdout.new)) }
+    ensures cut { IfErr result (IsCut (point_of opened.start).setup workers opened.events.items
+        (W.contents stdout.old) (W.contents stdout.new)) }
 {
     let mut world = World::of_start(alloc, opened.start, workers)?;
     let applied = world.apply_all(opened.events.as_slice());

@@ -1,7 +1,7 @@
 -- What was read of a file or of standard input, and why it was not.
 use Rattle.std.specs.Prelude.{◌≡◌, ◌⊎◌, ℕ, ◌+◌, Option, List, IfSome, take}
 use Rattle.command_requests.specs.declared.failure.Failure.{Failure}
-use Rattle.command_requests.specs.declared.failure.Failure.TheVariants.{NotText, OneFile, OutsideRange, ElfRefused, InputTooLarge, CannotRead, CannotWrite, OutOfMemory}
+use Rattle.command_requests.specs.declared.failure.Failure.TheVariants.{CannotRead, OutOfMemory}
 use Rattle.command_requests.specs.declared.target.Target.{Target}
 use Rattle.command_requests.specs.declared.target.Target.TheVariants.{Path, StandardInput, StandardOutput}
 
@@ -15,13 +15,12 @@ IsAt path StandardOutput = ⊥
 abbrev pub AreRead : ℕ → Option (List ℕ) → List ℕ → Type 0
 AreRead limit known bytes = IfSome known (λ all. bytes ≡ take (limit + 1) all)
 
+-- the bytes of the file at a path could not be read
+abbrev pub IsUnreadAt : List ℕ → Failure → Type 0
+IsUnreadAt path (CannotRead target) = IsAt path target
+IsUnreadAt path OutOfMemory = Unit {0}
+IsUnreadAt path other = ⊥
+
 -- the bytes of a file or of the input could not be read
 abbrev pub IsUnread : List ℕ → Failure → Type 0
-IsUnread path (CannotRead target) = IsAt path target ⊎ (target ≡ StandardInput)
-IsUnread path OutOfMemory = Unit {0}
-IsUnread path OutsideRange = ⊥
-IsUnread path InputTooLarge = ⊥
-IsUnread path (ElfRefused fault) = ⊥
-IsUnread path NotText = ⊥
-IsUnread path (OneFile one other) = ⊥
-IsUnread path (CannotWrite target) = ⊥
+IsUnread path failure = IsUnreadAt path failure ⊎ (failure ≡ CannotRead StandardInput)

@@ -1,14 +1,17 @@
-use Rattle.std.specs.Prelude.{ℕ}
+-- The status after a failure.
+use Rattle.std.specs.Prelude.{ℕ, Bool, true, false, if◌then◌else◌}
 use Rattle.command_requests.specs.declared.failure.Failure.{Failure}
-use Rattle.command_requests.specs.declared.failure.Failure.TheVariants.{NotText, OneFile, OutsideRange, ElfRefused, InputTooLarge, CannotRead, CannotWrite, OutOfMemory}
+use Rattle.command_requests.specs.declared.failure.Failure.TheVariants.{NotText, OneFile, OutsideRange, ElfRefused, OutOfMemory}
 
--- the status after a failure: 2 for wrong arguments, and else 123 to 125
+-- whether a failure is one of the arguments
+abbrev pub is_of_arguments : Failure → Bool
+is_of_arguments NotText = true
+is_of_arguments (OneFile one twin) = true
+is_of_arguments OutsideRange = true
+is_of_arguments other = false
+
+-- the status after a failure: 123 for a file that is no program, 125 where memory ran out, 2 for wrong arguments, and else 124
 abbrev pub failure_status : Failure → ℕ
-failure_status NotText = 2
-failure_status (OneFile _ _) = 2
-failure_status OutsideRange = 2
-failure_status (ElfRefused _) = 123
-failure_status InputTooLarge = 124
-failure_status (CannotRead _) = 124
-failure_status (CannotWrite _) = 124
+failure_status (ElfRefused fault) = 123
 failure_status OutOfMemory = 125
+failure_status other = if is_of_arguments other then 2 else 124

@@ -31,6 +31,7 @@ fn command_line<'a>(alloc: Global) -> Result<Command<'a>, AllocError> {
         .subcommand_required(true)
         .disable_help_subcommand(true)
         .subcommand(run_command(alloc)?)?
+        .subcommand(debug_command(alloc)?)?
         .subcommand(disasm_command(alloc)?)?
         .subcommand(replay_command(alloc)?)
 }
@@ -39,8 +40,18 @@ fn run_command<'a>(alloc: Global) -> Result<Command<'a>, AllocError> {
     let command = Command::new(alloc, "run")
         .about("Run a program, with standard input as its input")
         .arg(file(alloc))?
+        .arg(input(alloc, "The program's input [default: standard input]"))?
         .arg(workers(alloc).default_value("4"))?;
     with_records(limited(command, alloc)?, alloc)
+}
+
+fn debug_command<'a>(alloc: Global) -> Result<Command<'a>, AllocError> {
+    let command = Command::new(alloc, "debug")
+        .about("Debug a program with gdb, forwards and backwards, on standard input and output")
+        .arg(file(alloc))?
+        .arg(input(alloc, "The program's input [default: empty]"))?
+        .arg(turn(alloc))?;
+    limited(command, alloc)
 }
 
 fn disasm_command<'a>(alloc: Global) -> Result<Command<'a>, AllocError> {
@@ -54,6 +65,7 @@ fn replay_command<'a>(alloc: Global) -> Result<Command<'a>, AllocError> {
         .about("Apply a schedule to a program and print the trace")
         .arg(file(alloc))?
         .arg(schedule(alloc))?
+        .arg(input(alloc, "The program's input [default: standard input]"))?
         .arg(workers(alloc).required(true))?;
     limited(command, alloc)
 }
@@ -81,6 +93,22 @@ fn file<'a>(alloc: Global) -> Arg<'a> {
     Arg::new(alloc, "FILE")
         .required(true)
         .help("The program, an ELF file")
+}
+
+fn input<'a>(alloc: Global, help: &'a str) -> Arg<'a> {
+    Arg::new(alloc, "input")
+        .long("input")
+        .value_name("FILE")
+        .help(help)
+}
+
+fn turn<'a>(alloc: Global) -> Arg<'a> {
+    Arg::new(alloc, "turn")
+        .long("turn")
+        .value_name("N")
+        .value_parser(value_parser!(u64).range(1..=MAX_BOUND as i64))
+        .default_value("1")
+        .help("The turn at whose start gdb finds the program")
 }
 
 fn schedule<'a>(alloc: Global) -> Arg<'a> {
@@ -123,6 +151,7 @@ fn requested<'a>(matches: &ArgMatches<'a>) -> Option<Request<'a>> {
     match matches.subcommand()? {
         ("run", run) => Some(Request::Run {
             file: run.get_str("FILE")?,
+            input: run.get_str("input"),
             numbers: numbers_of(run)?,
             records: Records {
                 trace: run.get_str("trace").map(Destination::named),
@@ -130,12 +159,23 @@ fn requested<'a>(matches: &ArgMatches<'a>) -> Option<Request<'a>> {
                 digest: run.get_str("digest").map(Destination::named),
             },
         }),
+        ("debug", debug) => Some(Request::Debug {
+            file: debug.get_str("FILE")?,
+            input: debug.get_str("input"),
+            numbers: Numbers {
+                bound: debug.get_one("bound")?,
+                quantum: debug.get_one("quantum"),
+                workers: 1,
+            },
+            turn: debug.get_one("turn")?,
+        }),
         ("disasm", disasm) => Some(Request::Disasm {
             file: disasm.get_str("FILE")?,
         }),
         ("replay", replay) => Some(Request::Replay {
             file: replay.get_str("FILE")?,
             schedule: replay.get_str("SCHEDULE")?,
+            input: replay.get_str("input"),
             numbers: numbers_of(replay)?,
         }),
         _ => None,

@@ -8,6 +8,8 @@ pub enum Request<'a> {
     /// Run the program of a file.
     Run {
         file: &'a str,
+        /// The file of the guest's input, which is standard input where there is none.
+        input: Option<&'a str>,
         numbers: Numbers,
         records: Records<'a>,
     },
@@ -15,10 +17,21 @@ pub enum Request<'a> {
     Disasm {
         file: &'a str,
     },
+    /// Debug the program of a file, with gdb on standard input and output.
+    Debug {
+        file: &'a str,
+        /// The file of the guest's input, which is empty where there is none.
+        input: Option<&'a str>,
+        numbers: Numbers,
+        /// The turn at whose start gdb finds the program, from 1.
+        turn: u64,
+    },
     /// Apply the events of a schedule to the program of a file.
     Replay {
         file: &'a str,
         schedule: &'a str,
+        /// The file of the guest's input, which is standard input where there is none.
+        input: Option<&'a str>,
         numbers: Numbers,
     },
 }

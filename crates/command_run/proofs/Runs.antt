@@ -1,5 +1,5 @@
 -- What a run answers, put together of its parts.
-use Rattle.std.proofs.Common.{◌≡◌, ◌∙◌, inl, inr, ℕ, Option, Some, None, Result, Ok, Err, List, IfOk, refl, subst, sym}
+use Rattle.std.proofs.Common.{◌≡◌, ◌⊎◌, ◌∙◌, inl, inr, ℕ, Option, Some, None, Result, Ok, Err, List, IfOk, refl, subst, sym}
 use Rattle.std.proofs.KnownBytes.{Appends-trans}
 use Rattle.std.specs.Io.KnownBytes.{Appends}
 use Rattle.std.specs.Result.{IsErrAnd}
@@ -7,28 +7,28 @@ use Rattle.output_files.specs.Content.{Content}
 use Rattle.guest_memory.specs.Memory.{Memory}
 use Rattle.paged_memory.specs.Snapshot.{cells_of}
 use Rattle.runtime.proofs.Prefixes.{appends_prefix}
-use Rattle.runtime.specs.Faults.{IsUnderWay}
+use Rattle.runtime.proofs.OneReport.{answer_so, one_answer}
 use Rattle.runtime.specs.Recorded.{Ends, EndsOrRecords, IsRecordedEnd, Recording}
-use Rattle.runtime.specs.Sending.{AppendsPrefix, SendsEnd, SendsPrefix}
+use Rattle.runtime.specs.Sending.{AppendsPrefix, SendsPrefix}
 use Rattle.runtime.specs.declared.config.Config.{Config}
 use Rattle.runtime.specs.declared.run_end.RunEnd.{RunEnd}
-use Rattle.runtime.specs.declared.run_fault.RunFault.{RunFault}
-use Rattle.runtime.specs.declared.run_fault.RunFault.TheVariants as run
+use Rattle.runtime.specs.declared.interruption.Interruption.{Interruption}
+use Rattle.runtime.specs.declared.interruption.Interruption.TheVariants as stop
 use Rattle.sharing_report.specs.Recording.{AreInOrder}
 use Rattle.token.proofs.ChangesInOrder.{phases_ascend, thread_numbers_small}
 use Rattle.token.specs.Change.{Change}
 use Rattle.token.specs.History.{History, changes_of, turns_of}
-use Rattle.token.specs.Law.{Determinism}
+use Rattle.token.specs.Law.{Determinism, Progress}
 use Rattle.token.specs.Legal.{IsLegal}
 use Rattle.token.specs.RunInTurn.{point_of}
 use Rattle.token.specs.Setup.{Setup}
 use Rattle.token.specs.declared.outcome.RunOutcome.{RunOutcome}
 use Rattle.token.specs.declared.run_in_turn.RunInTurn.{RunInTurn}
 use Rattle.token.specs.declared.turn.Turn.{Turn}
-use Rattle.command_run.specs.Failure.{failure_of_run}
-use Rattle.command_outputs.specs.Records.{AreOut, AreTextsOf, AreUnwritten, IsUnwritten, KeepsButParts, Texts}
+use Rattle.command_run.specs.Failure.{failure_of_interruption}
+use Rattle.command_outputs.specs.Records.{AreTextsOf, AreUnwritten, AreWritten, IsUnwritten, KeepsButParts, Left, Texts}
 use Rattle.command_outputs.specs.Recorders.{AreFor, AreSame}
-use Rattle.command_run.specs.Serves.{AreRun, ComesTo, Concludes, IsBegun, IsOpenedFrom, IsStopped, LeavesTexts, RunsInto}
+use Rattle.command_run.specs.Serves.{AreOneFile, AreRun, Concludes, Host, IsBegun, IsOpenedFrom, IsStopped, IsUnrun, LeavesTexts, RunRequest, RunsInto}
 use Rattle.command_requests.specs.declared.destination.Destination.{Destination}
 use Rattle.command_requests.specs.declared.failure.Failure.{Failure}
 use Rattle.command_requests.specs.declared.records.Records.{Records}
@@ -48,30 +48,22 @@ begun content input config start Is opened is = (opened.0, opened.1, opened.2, o
 -- an end that some recorder has recorded, by another one that has recorded the same
 pub ends_as : {R Q : Type 0} (records : Recording R) (others : Recording Q) (setup : Setup) (end : RunEnd) (recorder : R) (other : Q)
     → ((turns : List Turn) (changes : List Change) → records recorder turns changes → others other turns changes) → Ends records setup end recorder → Ends others setup end other
-ends_as records others setup end recorder other tells ends = record {
-  some = (ends.some.0, ends.some.1, same_end ends.some.0 ends.some.2);
-  every = λ history complete. same_end history (ends.every history complete);
-}
+ends_as records others setup end recorder other tells ends = answer_so setup (IsRecordedEnd records setup end recorder) (IsRecordedEnd others setup end other) same_end ends
   where
-    same_end : (history : History) → IsRecordedEnd records setup history end recorder → IsRecordedEnd others setup history end other
+    same_end : (history : History) → IsRecordedEnd records setup end recorder history → IsRecordedEnd others setup end other history
     same_end history is = record { ends = is.ends; output = is.output; memory = is.memory; recorded = tells (turns_of history) (changes_of history) is.recorded }
 
 -- the changes of a legal history come in order
 pub in_order : (setup : Setup) (history : History) → IsLegal setup history → AreInOrder (changes_of history)
 in_order setup history legal = record { phases = phases_ascend setup history legal; threads = thread_numbers_small setup history legal }
 
--- why a run was stopped, by the fault of the run
-pub stopped_by : (trace : Option Destination) (setup : Setup) (fault : RunFault) (old new : Option (List ℕ)) → IsUnderWay fault → SendsEnd setup (Err fault) old new
-    → IsStopped trace setup old new (failure_of_run trace fault)
-stopped_by trace setup (run.Elf fault) old new under sent = absurd under
-stopped_by trace setup run.BadConfig old new under sent = absurd under
-stopped_by trace setup run.InputTooLarge old new under sent = absurd under
-stopped_by None setup run.OutOfMemory old new under sent = sent
-stopped_by None setup run.WriteFailed old new under sent = (inl refl, sent)
-stopped_by None setup run.RecordFailed old new under sent = (inl refl, sent)
-stopped_by (Some trace) setup run.OutOfMemory old new under sent = sent
-stopped_by (Some trace) setup run.WriteFailed old new under sent = (inl refl, sent)
-stopped_by (Some trace) setup run.RecordFailed old new under sent = (inr refl, sent)
+-- why a run was stopped
+pub stopped_by : (trace : Option Destination) (setup : Setup) (interruption : Interruption) (old new : Option (List ℕ)) → SendsPrefix setup old new
+    → IsStopped trace setup old new (failure_of_interruption trace interruption)
+stopped_by trace setup stop.OutOfMemory old new sent = (inl refl, sent)
+stopped_by trace setup stop.WriteFailed old new sent = (inr (inl refl), sent)
+stopped_by None setup stop.RecordFailed old new sent = (inr (inl refl), sent)
+stopped_by (Some trace) setup stop.RecordFailed old new sent = (inr (inr refl), sent)
 
 -- the output of a run that came to its end is a prefix of its history's
 pub all_sent : {R : Type 0} (records : Recording R) (setup : Setup) (end : RunEnd) (recorder : R) (old new : Option (List ℕ)) → Ends records setup end recorder
@@ -79,62 +71,58 @@ pub all_sent : {R : Type 0} (records : Recording R) (setup : Setup) (end : RunEn
 all_sent records setup end recorder old new ends sent =
     (ends.some.0, ends.some.1.legal, subst (λ (output : List ℕ). AppendsPrefix output old new) (sym ends.some.2.output) (appends_prefix end.output.items old new sent))
 
+-- what a run left that had these turns and changes, and this end
+abbrev left_with : List Turn → List Change → RunEnd → Left
+left_with turns changes end = record { turns = turns; changes = changes; ends = end.outcome; output = end.output.items; memory = cells_of end.memory }
+
 module _ {R : Type 0} (told : Recording R) (tells : Type 0) (records : Records) (setup : Setup) (end : RunEnd) (recorders : R)
-    (files now new : Content) (out mid out' : Option (List ℕ)) (ends : Ends told setup end recorders) where
+    (before after : Host) (now : Content) (mid : Option (List ℕ)) (ends : Ends told setup end recorders) where
   abbrev history : History
   history = ends.some.0
 
-  leaves_texts : (texts : Texts) → AreTextsOf records (turns_of history) (changes_of history) end.outcome end.output.items (cells_of end.memory) texts
-      → LeavesTexts setup history records end.outcome end.output.items texts
+  leaves_texts : (texts : Texts) → AreTextsOf records (left_with (turns_of history) (changes_of history) end) texts
+      → LeavesTexts setup records end.outcome end.output.items texts history
   leaves_texts texts are = record {
     ends_so = ends.some.2.ends;
     output_is = ends.some.2.output;
     texts_are =
-        subst (λ (memory : Memory). AreTextsOf records (turns_of history) (changes_of history) end.outcome end.output.items memory texts) (sym ends.some.2.memory) are;
-  }
-
-  -- each complete history is this one
-  comes_to : Determinism → (texts : Texts) → AreTextsOf records (turns_of history) (changes_of history) end.outcome end.output.items (cells_of end.memory) texts
-      → ComesTo setup records end.outcome end.output.items texts
-  comes_to one texts are = record {
-    some = (history, ends.some.1, leaves_texts texts are);
-    every = λ other complete.
-        subst (λ (it : History). LeavesTexts setup it records end.outcome end.output.items texts)
-        (one.answer setup history other end.outcome end.outcome ends.some.1.legal complete.legal ends.some.2.ends (ends.every other complete).ends).0
-        (leaves_texts texts are);
+        subst (λ (memory : Memory). AreTextsOf records (record { turns = turns_of history; changes = changes_of history; ends = end.outcome; output = end.output.items; memory = memory }) texts)
+        (sym ends.some.2.memory) are;
   }
 
   -- the run came to its end, and its texts are where they are to be
-  pub concludes_well : Determinism → Appends out mid end.output.items
+  pub concludes_well : Determinism → Progress → Appends before.output mid end.output.items
       → ((turns : List Turn) (changes : List Change) → told recorders turns changes → AreInOrder changes
-      → (texts : Texts) × AreTextsOf records turns changes end.outcome end.output.items (cells_of end.memory) texts × AreOut tells records texts new mid out')
-      → Concludes tells records files new out out' setup (Ok end.outcome)
-  concludes_well one sent has =
+      → AreWritten tells records (left_with turns changes end) after.files mid after.output)
+      → Concludes tells records before after setup (Ok end.outcome)
+  concludes_well one goes sent has =
       let made = has (turns_of history) (changes_of history) ends.some.2.recorded (in_order setup history ends.some.1.legal) in (
         end.output.items,
         made.0,
-        comes_to one made.0 made.1,
+        one_answer setup history end.outcome (LeavesTexts setup records end.outcome end.output.items made.0) one goes ends.some.1.legal ends.some.2.ends (leaves_texts made.0 made.1),
         made.2.filed,
-        λ can. Appends-trans out mid out' _ _ sent (made.2.printed_after can),
+        λ can. Appends-trans before.output mid after.output _ _ sent (made.2.printed_after can),
       )
 
-  unwritten_since : (turns : List Turn) (changes : List Change) (failure : Failure) → KeepsButParts records files now
-      → AreUnwritten tells records turns changes now new mid out' failure → AreUnwritten tells records turns changes files new mid out' failure
+  unwritten_since : (turns : List Turn) (changes : List Change) (failure : Failure) → KeepsButParts records before.files now
+      → AreUnwritten tells records turns changes now after.files mid after.output failure
+      → AreUnwritten tells records turns changes before.files after.files mid after.output failure
   unwritten_since turns changes failure kept (inl left) =
       inl (record { trace = left.trace; others = λ path file trace report digest. left.others path file trace report digest ∙ kept path trace report digest })
   unwritten_since turns changes failure kept (inr left) = inr left
 
   -- the run came to its end, and one of its texts isn't where it is to be
-  pub concludes_left_out : (failure : Failure) (answer : Result RunOutcome Failure) → KeepsButParts records files now → Appends out mid end.output.items
-      → ((turns : List Turn) (changes : List Change) → told recorders turns changes → AreInOrder changes → AreUnwritten tells records turns changes now new mid out' failure)
-      → IsErrAnd answer (λ given. given ≡ failure) → Concludes tells records files new out out' setup answer
+  pub concludes_left_out : (failure : Failure) (answer : Result RunOutcome Failure) → KeepsButParts records before.files now → Appends before.output mid end.output.items
+      → ((turns : List Turn) (changes : List Change) → told recorders turns changes → AreInOrder changes
+      → AreUnwritten tells records turns changes now after.files mid after.output failure)
+      → IsErrAnd answer (λ given. given ≡ failure) → Concludes tells records before after setup answer
   concludes_left_out failure answer kept sent left given =
-      handed_on (λ (given : Result RunOutcome Failure). Concludes tells records files new out out' setup given) failure answer
+      handed_on (λ (given : Result RunOutcome Failure). Concludes tells records before after setup given) failure answer
       (inr (record {
         history = history;
         complete = ends.some.1;
         between = mid;
-        put_out = subst (λ (output : List ℕ). Appends out mid output) (sym ends.some.2.output) sent;
+        put_out = subst (λ (output : List ℕ). Appends before.output mid output) (sym ends.some.2.output) sent;
         unwritten =
             unwritten_since (turns_of history) (changes_of history) failure kept
             (left (turns_of history) (changes_of history) ends.some.2.recorded (in_order setup history ends.some.1.legal));
@@ -147,30 +135,45 @@ but_parts_twice records old now new first second = λ path trace report digest. 
 
 -- the output of a text couldn't be begun, and nothing was put out
 pub concludes_unbegun : (tells : Type 0) (records : Records) (setup : Setup) (files now : Content) (out : Option (List ℕ)) (failure : Failure) (answer : Result RunOutcome Failure)
-    → KeepsButParts records files now → IsUnwritten records failure → IsErrAnd answer (λ given. given ≡ failure) → Concludes tells records files now out out setup answer
+    → KeepsButParts records files now → IsUnwritten records failure → IsErrAnd answer (λ given. given ≡ failure)
+    → Concludes tells records (record { files = files; output = out }) (record { files = now; output = out }) setup answer
 concludes_unbegun tells records setup files now out failure answer kept unwritten given =
-    handed_on (λ (given : Result RunOutcome Failure). Concludes tells records files now out out setup given) failure answer (inl (inl (unwritten, refl), kept)) given
+    handed_on (λ (given : Result RunOutcome Failure). Concludes tells records (record { files = files; output = out }) (record { files = now; output = out }) setup given) failure answer
+    (inl (inl (unwritten, refl), kept)) given
 
 -- what another recorder has recorded of a run that has an end
-pub if_ended : {R Q : Type 0} (records : Recording R) (others : Recording Q) (setup : Setup) (result : Result RunEnd RunFault) (recorder : R) (other : Q)
+pub if_ended : {R Q : Type 0} (records : Recording R) (others : Recording Q) (setup : Setup) (result : Result RunEnd Interruption) (recorder : R) (other : Q)
     → ((turns : List Turn) (changes : List Change) → records recorder turns changes → others other turns changes) → EndsOrRecords records setup result recorder
     → IfOk result (λ end. Ends others setup end other)
 if_ended records others setup (Ok end) recorder other tells ends = ends_as records others setup end recorder other tells ends
-if_ended records others setup (Err fault) recorder other tells ends = tt
+if_ended records others setup (Err interruption) recorder other tells ends = tt
 
 -- what follows from what was recorded of it
-pub if_recorded : {R : Type 0} (records : Recording R) (setup : Setup) (result : Result RunEnd RunFault) (recorder : R) (Is : Type 0)
+pub if_recorded : {R : Type 0} (records : Recording R) (setup : Setup) (result : Result RunEnd Interruption) (recorder : R) (Is : Type 0)
     → ((turns : List Turn) (changes : List Change) → records recorder turns changes → Is) → EndsOrRecords records setup result recorder → IfOk result (λ end. Is)
 if_recorded records setup (Ok end) recorder Is follows ends = follows (turns_of ends.some.0) (changes_of ends.some.0) ends.some.2.recorded
-if_recorded records setup (Err fault) recorder Is follows ends = tt
+if_recorded records setup (Err interruption) recorder Is follows ends = tt
 
 -- the same recorders are there for the same texts
 pub still_for : {O : Type 0} (records : Records) (recorders others : TextRecorders O) → AreFor records recorders → AreSame recorders others → AreFor records others
 still_for records recorders others are same = record { trace = same.trace ∙ are.trace; report = same.sharing ∙ are.report; digest = same.digest ∙ are.digest }
 
 -- a run that was begun answers what it concludes with
-pub runs_to : (tells : Type 0) (files files' : Content) (input out out' : Option (List ℕ)) (path : List ℕ) (config : Config) (records : Records) (start : RunInTurn)
-    (answer : Result RunOutcome Failure) → AreRun (files path) input (IsOpenedFrom config start) → Concludes tells records files files' out out' (point_of start).setup answer
-    → RunsInto tells files files' input out out' path config records answer
-runs_to tells files files' input out out' path config records start answer opened concluded =
-    inl (begun (files path) input config start (λ setup. Concludes tells records files files' out out' setup answer) opened concluded)
+pub runs_to : (tells : Type 0) (request : RunRequest) (before after : Host) (start : RunInTurn) (answer : Result RunOutcome Failure)
+    → AreRun (before.files request.path) request.input (IsOpenedFrom request.config start) → Concludes tells request.records before after (point_of start).setup answer
+    → RunsInto tells request before after answer
+runs_to tells request before after start answer opened concluded =
+    inl (begun (before.files request.path) request.input request.config start (λ setup. Concludes tells request.records before after setup answer) opened concluded)
+
+-- no run of the file began
+pub runs_unbegun : (tells : Type 0) (request : RunRequest) (before after : Host) (failure : Failure) (answer : Result RunOutcome Failure)
+    → IsUnrun request.path (before.files request.path) request.input request.config failure → after.files ≡ before.files → after.output ≡ before.output
+    → IsErrAnd answer (λ given. given ≡ failure) → RunsInto tells request before after answer
+runs_unbegun tells request before after failure answer unrun files output given = inr (record {
+  why =
+      handed_on
+      (λ (given : Result RunOutcome Failure). IsErrAnd given (λ failure. AreOneFile failure ⊎ IsUnrun request.path (before.files request.path) request.input request.config failure))
+      failure answer (inr unrun) given;
+  files_kept = files;
+  output_kept = output;
+})

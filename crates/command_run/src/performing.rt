@@ -32,8 +32,10 @@ pub fn run_file<'a, H: Threads + Wait + Sync, F: Files, R: Read, W: Write>(
 ) -> Result<RunOutcome, Failure<'a>>
     requires { stdout.old.failures < 2 ^ 64 - 1 }
     ensures input { TakesAtMost (limit.input + 1) (R.remaining stdin.old) (R.remaining stdin.new) }
-    ensures answer { RunsInto (Tells F.Output.contents) (F.content files.old) (F.content files.new) (R.remaining stdin.old)
-        (W.contents stdout.old.writer) (W.contents stdout.new.writer) file.now config.now records.now result }
+    ensures answer { RunsInto (Tells F.Output.contents)
+        (record { path = file.now; input = R.remaining stdin.old; config = config.now; records = records.now })
+        (record { files = F.content files.old; output = W.contents stdout.old.writer })
+        (record { files = F.content files.new; output = W.contents stdout.new.writer }) result }
     ensures unnamed { NamesNone records.now → files.new ≡ files.old }
 {
     if let Some((one, other)) = named_twice(alloc, file, records, files)? {
@@ -55,8 +57,9 @@ fn run_opened_file<'a, H: Threads + Wait + Sync, F: Files, W: Write>(
 ) -> Result<RunOutcome, Failure<'a>>
     requires output { (point_of start).state.output ≡ [] }
     requires failures { stdout.old.failures < 2 ^ 64 - 1 }
-    ensures answer { Concludes (Tells F.Output.contents) records.now (F.content files.old) (F.content files.new)
-        (W.contents stdout.old.writer) (W.contents stdout.new.writer) (point_of start).setup result }
+    ensures answer { Concludes (Tells F.Output.contents) records.now
+        (record { files = F.content files.old; output = W.contents stdout.old.writer })
+        (record { files = F.content files.new; output = W.contents stdout.new.writer }) (point_of start).setup result }
     ensures unnamed { NamesNone records.now → files.new ≡ files.old }
 {
     one_history();

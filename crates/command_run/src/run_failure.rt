@@ -3,30 +3,32 @@ ghost use Rattle.std.specs.Prelude.{◌≡◌};
 ghost use Rattle.command_run.specs.Failure as spec;
 
 use command_requests::{Destination, Failure, Target};
-use elf32_reader::ElfFault;
-use runtime::RunFault;
+use runtime::{Interruption, Refusal};
 
-/// The failure that a fault of a run is whose trace goes to this destination, where there is one.
-pub(crate) fn failure_of_run<'a>(fault: RunFault, trace: Option<Destination<'a>>) -> Failure<'a>
-    ensures { result ≡ spec.failure_of_run trace.entry fault }
+/// The failure that a refusal is.
+pub(crate) fn failure_of_refusal<'a>(refusal: Refusal) -> Failure<'a>
+    ensures { result ≡ spec.failure_of_refusal refusal }
 {
-    match trace {
-        Some(trace) if fault == RunFault::RecordFailed => Failure::CannotWrite(trace.target()),
-        _ => failure_of(fault),
+    match refusal {
+        Refusal::BadConfig => Failure::OutsideRange,
+        Refusal::InputTooLarge => Failure::InputTooLarge,
+        Refusal::Elf(fault) => Failure::ElfRefused(fault),
     }
 }
 
-/// The failure that a fault of a run without a trace is.
-pub(crate) fn failure_of<'a>(fault: RunFault) -> Failure<'a>
-    ensures { result ≡ spec.failure_of fault }
+/// The failure of a run that was stopped so, and whose trace goes to this destination, where there is one.
+pub(crate) fn failure_of_interruption<'a>(
+    interruption: Interruption,
+    trace: Option<Destination<'a>>,
+) -> Failure<'a>
+    ensures { result ≡ spec.failure_of_interruption trace.entry interruption }
 {
-    match fault {
-        RunFault::Elf(ElfFault::OutOfMemory) | RunFault::OutOfMemory => Failure::OutOfMemory,
-        RunFault::Elf(fault) => Failure::ElfRefused(fault),
-        RunFault::BadConfig => Failure::OutsideRange,
-        RunFault::InputTooLarge => Failure::InputTooLarge,
-        RunFault::WriteFailed | RunFault::RecordFailed => {
-            Failure::CannotWrite(Target::StandardOutput)
-        }
+    match interruption {
+        Interruption::OutOfMemory => Failure::OutOfMemory,
+        Interruption::WriteFailed => Failure::CannotWrite(Target::StandardOutput),
+        Interruption::RecordFailed => match trace {
+            Some(trace) => Failure::CannotWrite(trace.target()),
+            None => Failure::CannotWrite(Target::StandardOutput),
+        },
     }
 }

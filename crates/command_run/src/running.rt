@@ -2,21 +2,21 @@
 ghost use Rattle.std.specs.Prelude.{◌≡◌, ◌+◌, ◌-◌, ◌^◌, ◌<◌, [], IfErr, IfOk, is_some};
 ghost use Rattle.std.specs.Io.KnownBytes.{Appends};
 ghost use Rattle.output_files.specs.Taken.{TakesAtMost};
-ghost use Rattle.runtime.specs.Faults.{IsUnderWay};
 ghost use Rattle.run_limits.specs.Limits as limit;
 ghost use Rattle.runtime.specs.Recorded.{Ends};
-ghost use Rattle.runtime.specs.Sending.{SendsEnd};
+ghost use Rattle.runtime.specs.Sending.{SendsSoFar};
 ghost use Rattle.token.specs.RunInTurn.{point_of};
 ghost use Rattle.command_outputs.specs.Recorders.{AreSame, AreTold};
 ghost use Rattle.command_run.specs.Serves.{AreRun, IsOpenedFrom, IsRefused, IsStopped, IsUnrun};
 
-use crate::run_failure::{failure_of, failure_of_run};
+use crate::run_failure::{failure_of_interruption, failure_of_refusal};
 use command_outputs::TextRecorders;
 use command_requests::{Destination, Failure, Target};
 use elf32_reader::FILE_LIMIT;
 use output_files::{Files, read_upto};
 use runtime::{
-    Both, Config, MAX_INPUT, OpenGate, RecordedRun, RunEnd, Start, WriteSink, open_run, run_opened,
+    Both, Config, Interruption, MAX_INPUT, OpenFault, OpenGate, RecordedRun, RunEnd, Start,
+    WriteSink, open_run, run_opened,
 };
 use std::alloc::Global;
 use std::io::{Read, Write};
@@ -71,7 +71,8 @@ pub fn open_bytes<'a>(
 {
     match open_run(alloc, elf, input, config) {
         Ok(start) => Ok(start),
-        Err(fault) => Err(failure_of(fault)),
+        Err(OpenFault::Refused(refusal)) => Err(failure_of_refusal(refusal)),
+        Err(OpenFault::OutOfMemory) => Err(Failure::OutOfMemory),
     }
 }
 
@@ -92,7 +93,8 @@ pub fn run_start<'a, H: Threads + Wait + Sync, O: Write, W: Write>(
     ensures ended { IfOk result.result (λ end. Ends (AreTold O.contents) (point_of start).setup end result.recorders) }
     ensures same { IfOk result.result (λ _. AreSame recorders result.recorders) }
     ensures sent { IfOk result.result (λ end. Appends (W.contents stdout.old.writer) (W.contents stdout.new.writer) end.output.items) }
-    ensures stopped { IfErr result.result (IsStopped trace.entry (point_of start).setup (W.contents stdout.old.writer) (W.contents stdout.new.writer)) }
+    ensures stopped { IfErr result.result (IsStopped trace.entry (point_of start).setup
+        (W.contents stdout.old.writer) (W.contents stdout.new.writer)) }
 {
     let run = run_wanted::<Brand, Brand, Brand, _, _, _>(
         rt, alloc, start, workers, recorders, stdout,
@@ -103,7 +105,7 @@ pub fn run_start<'a, H: Threads + Wait + Sync, O: Write, W: Write>(
             Ok(()) => Ok(end),
             Err(_) => Err(Failure::CannotWrite(Target::StandardOutput)),
         },
-        Err(fault) => Err(failure_of_run(fault, trace)),
+        Err(interruption) => Err(failure_of_interruption(interruption, trace)),
     };
     RunAttempt {
         result,
@@ -119,7 +121,7 @@ fn run_wanted<T: IsWanted, S: IsWanted, D: IsWanted, H: Threads + Wait + Sync, O
     workers: u32,
     recorders: TextRecorders<O>,
     stdout: &mut WriteSink<W>,
-) -> RecordedRun<TextRecorders<O>>
+) -> RecordedRun<TextRecorders<O>, Interruption>
     requires output { (point_of start).state.output ≡ [] }
     requires failures { stdout.old.failures < 2 ^ 64 - 1 }
     requires none { AreTold O.contents recorders [] [] }
@@ -128,8 +130,7 @@ fn run_wanted<T: IsWanted, S: IsWanted, D: IsWanted, H: Threads + Wait + Sync, O
     requires digest { is_some recorders.digest ≡ D.is_wanted }
     ensures ended { IfOk result.result (λ end. Ends (AreTold O.contents) (point_of start).setup end result.recorder) }
     ensures same { IfOk result.result (λ _. AreSame recorders result.recorder) }
-    ensures sent { SendsEnd (point_of start).setup result.result (W.contents stdout.old.writer) (W.contents stdout.new.writer) }
-    ensures fault { IfErr result.result IsUnderWay }
+    ensures sent { SendsSoFar (point_of start).setup result.result (W.contents stdout.old.writer) (W.contents stdout.new.writer) }
 {
     let all = Both {
         first: Wanted::<T, _>::new(recorders.trace),

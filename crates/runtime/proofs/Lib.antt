@@ -1,6 +1,6 @@
 pub mod Needs
 pub mod OneReport
 pub mod Prefixes
-pub mod Refused
 pub mod Sent
+pub mod Stops
 pub mod Valid

@@ -1,4 +1,4 @@
--- The end of one complete history is that of every one, and so is its report.
+-- The answer of one complete history is that of every one: of an end, and of its report.
 use Rattle.std.proofs.Common.{◌≡◌, Option, Some, None, List, refl, ◌∙◌, ap, sym, subst}
 use Rattle.call_table.specs.State.{State}
 use Rattle.paged_memory.specs.Snapshot.{cells_of}
@@ -14,8 +14,9 @@ use Rattle.token.specs.Serial.{HasRecorded}
 use Rattle.token.specs.declared.kept.Kept.{Kept}
 use Rattle.token.specs.declared.outcome.RunOutcome.{RunOutcome}
 use Rattle.token.specs.declared.run_in_turn.RunInTurn.{RunInTurn}
+use Rattle.runtime.specs.Answer.{HasAnswer, IsComplete}
 use Rattle.runtime.specs.Recorded.{Ends, IsRecordedEnd, Recording}
-use Rattle.runtime.specs.Reports.{IsAnswerOf, IsComplete, Reports}
+use Rattle.runtime.specs.Reports.{IsAnswerOf, Reports}
 use Rattle.runtime.specs.declared.report.Report.{Report}
 use Rattle.runtime.specs.declared.run_end.RunEnd.{RunEnd}
 
@@ -27,12 +28,19 @@ same_history setup history other ends None one goes legal is complete found =
 same_history setup history other ends (Some other_ends) one goes legal is complete found =
     (one.answer setup history other ends other_ends legal complete.legal is found).0
 
-one_end : {R : Type 0} → (records : Recording R) (setup : Setup) (history : History) (end : RunEnd) (recorder : R) → Determinism → Progress → IsLegal setup history
-    → IsRecordedEnd records setup history end recorder → Ends records setup end recorder
-one_end records setup history end recorder one goes legal answer = record {
-  some = (history, record { legal = legal; last = λ step follows. goes.ends setup history step end.outcome legal answer.ends follows }, answer);
-  every = λ other complete.
-      subst (λ (one : History). IsRecordedEnd records setup one end recorder) (same_history setup history other end.outcome (outcome setup other) one goes legal answer.ends complete refl) answer;
+-- what a legal history with an outcome is every complete history is
+pub one_answer : (setup : Setup) (history : History) (ends : RunOutcome) (Is : History → Type 0) → Determinism → Progress → IsLegal setup history
+    → outcome setup history ≡ Some ends → Is history → HasAnswer setup Is
+one_answer setup history ends Is one goes legal ended is = record {
+  some = (history, record { legal = legal; last = λ step follows. goes.ends setup history step ends legal ended follows }, is);
+  every = λ other complete. subst Is (same_history setup history other ends (outcome setup other) one goes legal ended complete refl) is;
+}
+
+-- what follows for each history follows for the answer
+pub answer_so : (setup : Setup) (Is So : History → Type 0) → ((history : History) → Is history → So history) → HasAnswer setup Is → HasAnswer setup So
+answer_so setup Is So follows answer = record {
+  some = (answer.some.0, answer.some.1, follows answer.some.0 answer.some.2);
+  every = λ history complete. follows history (answer.every history complete);
 }
 
 -- a run that ended so, and left this
@@ -42,7 +50,7 @@ pub ends_so : {R : Type 0} → (records : Recording R) (run : RunInTurn) (setup 
 ends_so records run setup end recorder one goes has given ended output memory =
     let stands = has.1 in
     subst (λ (setup : Setup). Ends records setup end recorder) given
-    (one_end records (point_of run).setup has.0 end recorder one goes stands.legal
+    (one_answer (point_of run).setup has.0 end.outcome (IsRecordedEnd records (point_of run).setup end recorder) one goes stands.legal (stands.ended ∙ ended)
     (record {
       ends = stands.ended ∙ ended;
       output = ap (λ (state : State). state.output) stands.state ∙ sym output;
@@ -53,12 +61,9 @@ ends_so records run setup end recorder one goes has given ended output memory =
 -- the report of an end whose turns and changes were kept
 pub report_of : (setup : Setup) (end : RunEnd) (kept : Kept) (report : Report) → Ends Keeps setup end kept → end.outcome ≡ report.outcome → end.output.items ≡ report.output.items
     → cells_of end.memory ≡ cells_of report.memory → kept_turns kept ≡ report.trace.items → IsSharing (kept_changes kept) report.sharing.items → Reports setup report
-report_of setup end kept report ends outcome_is output memory trace sharing = record {
-  some = (ends.some.0, ends.some.1, answers ends.some.0 ends.some.2);
-  every = λ other complete. answers other (ends.every other complete);
-}
+report_of setup end kept report ends outcome_is output memory trace sharing = answer_so setup (IsRecordedEnd Keeps setup end kept) (IsAnswerOf setup report) answers ends
   where
-    answers : (history : History) → IsRecordedEnd Keeps setup history end kept → IsAnswerOf setup history report
+    answers : (history : History) → IsRecordedEnd Keeps setup end kept history → IsAnswerOf setup report history
     answers history answer = record {
       ends = answer.ends ∙ ap Some outcome_is;
       output = answer.output ∙ output;

@@ -1,3 +1,4 @@
+pub mod Answer
 pub mod Config
 pub mod Faults
 pub mod Recorded

@@ -1,64 +1,62 @@
 -- What a run with a recorder answers.
-use Rattle.std.specs.Prelude.{◌≡◌, ℕ, Some, Result, Ok, Err, List, []}
+use Rattle.std.specs.Prelude.{◌≡◌, ℕ, Some, Result, Ok, Err, IfErr, List, [], MatchOption, Option}
 use Rattle.paged_memory.specs.Snapshot.{cells_of}
 use Rattle.token.specs.Change.{Change}
 use Rattle.token.specs.History.{History, changes_of, outcome, present, turns_of}
 use Rattle.token.specs.Legal.{IsLegal}
 use Rattle.token.specs.Setup.{Setup}
 use Rattle.token.specs.declared.turn.Turn.{Turn}
-use Rattle.runtime.specs.Reports.{IsComplete}
+use Rattle.runtime.specs.Answer.{HasAnswer}
+use Rattle.runtime.specs.Faults.{refusal_of}
 use Rattle.runtime.specs.Run.{IsAccepted, Refuses, setup_from}
+use Rattle.runtime.specs.Sending.{CountsFailures, SendsSoFar}
 use Rattle.runtime.specs.declared.config.Config.{Config}
+use Rattle.runtime.specs.declared.interruption.Interruption.{Interruption}
+use Rattle.runtime.specs.declared.interruption.Interruption.TheVariants as stop
+use Rattle.runtime.specs.declared.recorded_run.RecordedRun.{RecordedRun}
 use Rattle.runtime.specs.declared.run_end.RunEnd.{RunEnd}
 use Rattle.runtime.specs.declared.run_fault.RunFault.{RunFault}
-use Rattle.runtime.specs.declared.run_fault.RunFault.TheVariants.{Elf, BadConfig, InputTooLarge, OutOfMemory, WriteFailed, RecordFailed}
+use Rattle.runtime.specs.declared.run_fault.RunFault.TheVariants.{RecordFailed}
 
 -- what a recorder has recorded, as its trait says it
 abbrev pub Recording : Type 0 → Type 1
 Recording R = R → List Turn → List Change → Type 0
 
 -- The end is that of a history, and a recorder has recorded the history's turns and changes.
-pub record IsRecordedEnd {R : Type 0} (records : Recording R) (setup : Setup) (history : History) (end : RunEnd) (recorder : R) : Type 0 where
+pub record IsRecordedEnd {R : Type 0} (records : Recording R) (setup : Setup) (end : RunEnd) (recorder : R) (history : History) : Type 0 where
   pub ends : outcome setup history ≡ Some end.outcome
   pub output : (present setup history).output ≡ end.output.items
   pub memory : (present setup history).memory ≡ cells_of end.memory
   pub recorded : records recorder (turns_of history) (changes_of history)
 
 -- There is a complete history whose end it is and that was recorded, and so it is with every complete history.
-pub record Ends {R : Type 0} (records : Recording R) (setup : Setup) (end : RunEnd) (recorder : R) : Type 0 where
-  pub some : (history : History) × IsComplete setup history × IsRecordedEnd records setup history end recorder
-  pub every : (history : History) → IsComplete setup history → IsRecordedEnd records setup history end recorder
+abbrev pub Ends : {R : Type 0} → Recording R → Setup → RunEnd → R → Type 0
+Ends records setup end recorder = HasAnswer setup (IsRecordedEnd records setup end recorder)
 
 -- the turns and the changes of some legal history were recorded
 abbrev pub RecordsPrefix : {R : Type 0} → Recording R → Setup → R → Type 0
 RecordsPrefix records setup recorder = (history : History) × IsLegal setup history × records recorder (turns_of history) (changes_of history)
 
--- What was recorded where there is no end: the turns of some legal history where the run was under way, and else none.
+-- What was recorded where there is no end: nothing where the run was refused, and else the turns of some legal history.
 abbrev pub RecordsAt : {R : Type 0} → Recording R → Setup → RunFault → R → Type 0
-RecordsAt records setup OutOfMemory recorder = RecordsPrefix records setup recorder
-RecordsAt records setup WriteFailed recorder = RecordsPrefix records setup recorder
-RecordsAt records setup RecordFailed recorder = RecordsPrefix records setup recorder
-RecordsAt records setup (Elf fault) recorder = records recorder [] []
-RecordsAt records setup BadConfig recorder = records recorder [] []
-RecordsAt records setup InputTooLarge recorder = records recorder [] []
-
--- why there is no end: as there is no report, or a recorder that writes failed
-abbrev pub RefusesRecorded : List ℕ → List ℕ → Config → Type 0 → RunFault → Type 0
-RefusesRecorded elf input config writes RecordFailed = IsAccepted elf input config × writes
-RefusesRecorded elf input config writes OutOfMemory = Refuses elf input config OutOfMemory
-RefusesRecorded elf input config writes WriteFailed = Refuses elf input config WriteFailed
-RefusesRecorded elf input config writes (Elf fault) = Refuses elf input config (Elf fault)
-RefusesRecorded elf input config writes BadConfig = Refuses elf input config BadConfig
-RefusesRecorded elf input config writes InputTooLarge = Refuses elf input config InputTooLarge
+RecordsAt records setup fault recorder = MatchOption (refusal_of fault) (RecordsPrefix records setup recorder) (λ refusal. records recorder [] [])
 
 -- What a run with a recorder answers: the end of the histories of what it was given, with all of it recorded; or why there is none,
--- with what was recorded before. Neither the gate nor the number of workers is in it.
+-- with what was recorded before. A record fails only where the recorder writes. Neither the gate nor the number of workers is in it.
 abbrev pub AnswersRecorded : {R : Type 0} → Recording R → Type 0 → List ℕ → List ℕ → Config → Result RunEnd RunFault → R → Type 0
 AnswersRecorded records writes elf input config (Ok end) recorder = IsAccepted elf input config × Ends records (setup_from elf input config) end recorder
 AnswersRecorded records writes elf input config (Err fault) recorder =
-    RefusesRecorded elf input config writes fault × RecordsAt records (setup_from elf input config) fault recorder
+    Refuses elf input config fault × (fault ≡ RecordFailed → writes) × RecordsAt records (setup_from elf input config) fault recorder
 
--- of a run whose image is in order
-abbrev pub EndsOrRecords : {R : Type 0} → Recording R → Setup → Result RunEnd RunFault → R → Type 0
+-- of a run that began
+abbrev pub EndsOrRecords : {R : Type 0} → Recording R → Setup → Result RunEnd Interruption → R → Type 0
 EndsOrRecords records setup (Ok end) recorder = Ends records setup end recorder
-EndsOrRecords records setup (Err fault) recorder = RecordsPrefix records setup recorder
+EndsOrRecords records setup (Err interruption) recorder = RecordsPrefix records setup recorder
+
+-- What a run that began comes to with a recorder, which may write or not, and with a sink, which tells what it took and how often it failed.
+pub record ComesTo {R S : Type 0} (records : Recording R) (writes : Type 0) (taken : S → Option (List ℕ)) (failed : S → ℕ) (setup : Setup)
+    (run : RecordedRun R Interruption) (sink sink' : S) : Type 0 where
+  pub end : EndsOrRecords records setup run.result run.recorder
+  pub writes_if : IfErr run.result (λ interruption. interruption ≡ stop.RecordFailed → writes)
+  pub sent : SendsSoFar setup run.result (taken sink) (taken sink')
+  pub failures : CountsFailures stop.WriteFailed run.result (failed sink) (failed sink')

@@ -1,9 +1,31 @@
-use Rattle.std.specs.Prelude.{◌≡◌, Option, Some, None}
+-- What turns make of a run, of its sink and of its recorder.
+use Rattle.std.specs.Prelude.{◌≡◌, ℕ, ◌-◌, ◌^◌, ◌<◌, Option, Some, None, Result, IfErr, IfOk, IfSome, List}
 use Rattle.token.specs.Point.{Point}
+use Rattle.token.specs.RunInTurn.{point_of}
 use Rattle.token.specs.Serial.{IsLonger}
+use Rattle.token.specs.Setup.{Setup}
 use Rattle.token.specs.declared.outcome.RunOutcome.{RunOutcome}
+use Rattle.token.specs.declared.run_in_turn.RunInTurn.{RunInTurn}
+use Rattle.runtime.specs.Sending.{CountsFailures, SendsOn}
+use Rattle.runtime.specs.declared.interruption.Interruption.{Interruption}
+use Rattle.runtime.specs.declared.interruption.Interruption.TheVariants.{WriteFailed, RecordFailed}
 
 -- what comes of a look for the next turn: the run had ended so, or it is one turn longer
 abbrev pub Moves : Option RunOutcome → Point → Point → Type 0
 Moves (Some ends) old new = (old.ended ≡ Some ends) × (new ≡ old)
 Moves None old new = IsLonger old new
+
+-- a run of this setup may go on with a sink: its count of failures has room
+pub record MayGoOn {S : Type 0} (failed : S → ℕ) (setup : Setup) (run : RunInTurn) (sink : S) : Type 0 where
+  pub failures : failed sink < 2 ^ 64 - 1
+  pub setup_is : (point_of run).setup ≡ setup
+
+-- Turns were done, and the answer has this outcome, if any: the run ended so. The sink, which tells what it took and how often it failed,
+-- took what the output grew by. A record failed only where the recorder writes.
+pub record GoesOn {T S : Type 0} (writes : Type 0) (taken : S → Option (List ℕ)) (failed : S → ℕ) (outcome_in : T → Option RunOutcome)
+    (result : Result T Interruption) (run run' : RunInTurn) (sink sink' : S) : Type 0 where
+  pub setup : (point_of run').setup ≡ (point_of run).setup
+  pub ended : IfOk result (λ given. IfSome (outcome_in given) (λ outcome. (point_of run').ended ≡ Some outcome))
+  pub sent : SendsOn result (point_of run).state.output (point_of run').state.output (taken sink) (taken sink')
+  pub failures : CountsFailures WriteFailed result (failed sink) (failed sink')
+  pub writes_if : IfErr result (λ interruption. interruption ≡ RecordFailed → writes)

@@ -3,9 +3,12 @@
 
 mod all_taken;
 mod config;
+mod interruption;
+mod open_fault;
 mod opening;
 mod recorded_run;
 mod recording;
+mod refusal;
 mod report;
 mod reporting;
 mod run_end;
@@ -17,9 +20,12 @@ mod turns;
 mod write_sink;
 
 pub use config::Config;
+pub use interruption::Interruption;
+pub use open_fault::OpenFault;
 pub use phase_jobs::{Gate, OpenGate};
 pub use recorded_run::RecordedRun;
 pub use recording::{open_run, run_opened, run_recorded};
+pub use refusal::Refusal;
 pub use report::Report;
 pub use run_end::RunEnd;
 pub use run_fault::RunFault;

@@ -2,7 +2,8 @@
 ghost use Rattle.runtime.specs.Run.{Opens};
 
 use crate::config::Config;
-use crate::run_fault::RunFault;
+use crate::open_fault::OpenFault;
+use crate::refusal::Refusal;
 use elf32_reader::{ElfFault, Image, read};
 use run_limits::MAX_INPUT;
 use std::alloc::Global;
@@ -13,18 +14,18 @@ pub(crate) fn open(
     elf: &[u8],
     input: &[u8],
     config: &Config,
-) -> Result<Image, RunFault>
+) -> Result<Image, OpenFault>
     ensures { Opens elf.now input.now config.now result }
 {
     if !config.is_valid() {
-        return Err(RunFault::BadConfig);
+        return Err(OpenFault::Refused(Refusal::BadConfig));
     }
     if input.len() > MAX_INPUT {
-        return Err(RunFault::InputTooLarge);
+        return Err(OpenFault::Refused(Refusal::InputTooLarge));
     }
     match read(alloc, elf) {
         Ok(image) => Ok(image),
-        Err(ElfFault::OutOfMemory) => Err(RunFault::OutOfMemory),
-        Err(fault) => Err(RunFault::Elf(fault)),
+        Err(ElfFault::OutOfMemory) => Err(OpenFault::OutOfMemory),
+        Err(fault) => Err(OpenFault::Refused(Refusal::Elf(fault))),
     }
 }

@@ -1,16 +1,19 @@
 //! Runs with a recorder.
-ghost use Rattle.std.specs.Prelude.{◌≡◌, ◌-◌, ◌^◌, ◌<◌, ◌≤◌, [], IfErr};
+ghost use Rattle.std.specs.Prelude.{◌≡◌, ◌-◌, ◌^◌, ◌<◌, ◌≤◌, []};
 ghost use Rattle.token.specs.RunInTurn.{point_of};
 ghost use Rattle.run_limits.specs.Limits as limit;
-ghost use Rattle.runtime.specs.Faults.{IsUnderWay};
-ghost use Rattle.runtime.specs.Recorded.{AnswersRecorded, EndsOrRecords};
+ghost use Rattle.runtime.specs.Faults as spec;
+ghost use Rattle.runtime.specs.Recorded.{AnswersRecorded, ComesTo};
 ghost use Rattle.runtime.specs.Run.{OpensRun, setup_from};
 ghost use Rattle.runtime.specs.Sending.{CountsFailures, SendsEnd};
 
 use crate::config::Config;
+use crate::interruption::Interruption;
+use crate::open_fault::OpenFault;
 use crate::opening::open;
 use crate::recorded_run::RecordedRun;
 use crate::reporting::end_of;
+use crate::run_end::RunEnd;
 use crate::run_fault::RunFault;
 use crate::sink::Sink;
 use crate::turns::take_turns;
@@ -33,27 +36,60 @@ pub fn run_recorded<R: Threads + Wait + Sync, G: Gate + Sync, S: Sink, K: Record
     gate: &G,
     sink: &mut S,
     recorder: K,
-) -> RecordedRun<K>
+) -> RecordedRun<K, RunFault>
     requires failures { S.failed sink.old < 2 ^ 64 - 1 }
     requires none { K.records recorder [] [] }
     ensures answers { AnswersRecorded K.records K.writes elf.now input.now config.now result.result result.recorder }
     // What the sink took during the call, where it tells it.
     ensures sent { SendsEnd (setup_from elf.now input.now config.now) result.result (S.taken sink.old) (S.taken sink.new) }
     // WriteFailed is answered only where the sink failed, and an end only where it didn't.
-    ensures failures { CountsFailures result.result (S.failed sink.old) (S.failed sink.new) }
+    ensures failures { CountsFailures RunFault.WriteFailed result.result (S.failed sink.old) (S.failed sink.new) }
 {
     match open_run(alloc, elf, input, config) {
-        Ok(start) => run_opened(rt, alloc, start, config.workers, gate, sink, recorder),
-        Err(fault) => RecordedRun {
-            result: Err(fault),
+        Ok(start) => {
+            let RecordedRun { result, recorder } = run_opened(
+                rt,
+                alloc,
+                start,
+                config.workers,
+                gate,
+                sink,
+                recorder,
+            );
+            RecordedRun {
+                result: told(result),
+                recorder,
+            }
+        }
+        Err(OpenFault::Refused(refusal)) => RecordedRun {
+            result: Err(RunFault::from(refusal)),
+            recorder,
+        },
+        Err(OpenFault::OutOfMemory) => RecordedRun {
+            result: Err(RunFault::OutOfMemory),
             recorder,
         },
     }
 }
 
+/// What a run that began answers, its fault being one of the whole run.
+fn told(ended: Result<RunEnd, Interruption>) -> Result<RunEnd, RunFault>
+    ensures { result ≡ spec.told ended }
+{
+    match ended {
+        Ok(end) => Ok(end),
+        Err(interruption) => Err(RunFault::from(interruption)),
+    }
+}
+
 /// The run of a file on an input, of which no turn is done. The configuration is looked at first, then the input,
 /// then the file.
-pub fn open_run(alloc: Global, elf: &[u8], input: &[u8], config: &Config) -> Result<Start, RunFault>
+pub fn open_run(
+    alloc: Global,
+    elf: &[u8],
+    input: &[u8],
+    config: &Config,
+) -> Result<Start, OpenFault>
     ensures { OpensRun elf.now input.now config.now result }
 {
     let image = open(alloc, elf, input, config)?;
@@ -70,15 +106,11 @@ pub fn run_opened<R: Threads + Wait + Sync, G: Gate + Sync, S: Sink, K: Recorder
     gate: &G,
     sink: &mut S,
     recorder: K,
-) -> RecordedRun<K>
+) -> RecordedRun<K, Interruption>
     requires output { (point_of start).state.output ≡ [] }
     requires failures { S.failed sink.old < 2 ^ 64 - 1 }
     requires none { K.records recorder [] [] }
-    ensures end { EndsOrRecords K.records (point_of start).setup result.result result.recorder }
-    ensures fault { IfErr result.result IsUnderWay }
-    ensures writes { IfErr result.result (λ fault. fault ≡ RunFault.RecordFailed → K.writes) }
-    ensures sent { SendsEnd (point_of start).setup result.result (S.taken sink.old) (S.taken sink.new) }
-    ensures failures { CountsFailures result.result (S.failed sink.old) (S.failed sink.new) }
+    ensures { ComesTo K.records K.writes S.taken S.failed (point_of start).setup result sink.old sink.new }
 {
     let workers = workers.max(1).min(MAX_WORKERS);
     record_serial(rt, alloc, start.recorded_by(recorder), workers, gate, sink)
@@ -92,15 +124,11 @@ fn record_serial<R: Threads + Wait + Sync, G: Gate + Sync, S: Sink, K: Recorder>
     workers: u32,
     gate: &G,
     sink: &mut S,
-) -> RecordedRun<K>
+) -> RecordedRun<K, Interruption>
     requires output { (point_of serial).state.output ≡ [] }
     requires workers { (0 < workers) × (workers ≤ limit.workers) }
     requires failures { S.failed sink.old < 2 ^ 64 - 1 }
-    ensures end { EndsOrRecords K.records (point_of serial).setup result.result result.recorder }
-    ensures fault { IfErr result.result IsUnderWay }
-    ensures writes { IfErr result.result (λ fault. fault ≡ RunFault.RecordFailed → K.writes) }
-    ensures sent { SendsEnd (point_of serial).setup result.result (S.taken sink.old) (S.taken sink.new) }
-    ensures failures { CountsFailures result.result (S.failed sink.old) (S.failed sink.new) }
+    ensures { ComesTo K.records K.writes S.taken S.failed (point_of serial).setup result sink.old sink.new }
 {
     let mut serial = serial;
     one_history();
@@ -111,15 +139,15 @@ fn record_serial<R: Threads + Wait + Sync, G: Gate + Sync, S: Sink, K: Recorder>
                 recorder: serial.into_recorder(),
             },
             Err(refused) => {
-                let fault = RunFault::from(refused);
+                let interruption = Interruption::from(refused);
                 RecordedRun {
-                    result: Err(fault),
+                    result: Err(interruption),
                     recorder: serial.into_recorder(),
                 }
             }
         },
-        Err(fault) => RecordedRun {
-            result: Err(fault),
+        Err(interruption) => RecordedRun {
+            result: Err(interruption),
             recorder: serial.into_recorder(),
         },
     }

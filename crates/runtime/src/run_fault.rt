@@ -1,8 +1,9 @@
 //! The failures of a run, with their numbers.
+use crate::interruption::Interruption;
+use crate::refusal::Refusal;
 use elf32_reader::ElfFault;
 use std::alloc::AllocError;
 use thiserror::Error;
-use token::TurnFault;
 
 /// Why no report is given. The configuration is looked at first, then the input, then the file.
 #[derive(Clone, Copy, Debug, PartialEq, Eq, Error)]
@@ -29,7 +30,7 @@ pub enum RunFault {
 
 impl RunFault {
     ghost use Rattle.std.specs.Prelude.{◌≡◌};
-    ghost use Rattle.runtime.specs.Faults.{number_of};
+    ghost use Rattle.runtime.specs.Faults.{number_of, refusal_of};
 
     /// Its number, 1 to 6.
     pub fn number(self) -> u8
@@ -42,6 +43,18 @@ impl RunFault {
             RunFault::OutOfMemory => 4,
             RunFault::WriteFailed => 5,
             RunFault::RecordFailed => 6,
+        }
+    }
+
+    /// The refusal that it is, or none where it stops a run that began.
+    pub fn refusal(self) -> Option<Refusal>
+        ensures { result ≡ refusal_of self }
+    {
+        match self {
+            RunFault::Elf(fault) => Some(Refusal::Elf(fault)),
+            RunFault::BadConfig => Some(Refusal::BadConfig),
+            RunFault::InputTooLarge => Some(Refusal::InputTooLarge),
+            RunFault::OutOfMemory | RunFault::WriteFailed | RunFault::RecordFailed => None,
         }
     }
 }
@@ -58,17 +71,34 @@ impl From<AllocError> for RunFault {
     }
 }
 
-impl From<TurnFault> for RunFault {
+impl From<Refusal> for RunFault {
+    ghost use Rattle.std.specs.Prelude.{◌≡◌, Some};
+    ghost use Rattle.runtime.specs.Faults.{refusal_of};
+
+    ghost from_gives = { λ refusal fault. refusal_of fault ≡ Some refusal };
+
+    /// The fault of a run that is this refusal.
+    fn from(refusal: Refusal) -> Self {
+        match refusal {
+            Refusal::BadConfig => RunFault::BadConfig,
+            Refusal::InputTooLarge => RunFault::InputTooLarge,
+            Refusal::Elf(fault) => RunFault::Elf(fault),
+        }
+    }
+}
+
+impl From<Interruption> for RunFault {
     ghost use Rattle.std.specs.Prelude.{◌≡◌};
     ghost use Rattle.runtime.specs.Faults.{fault_of};
 
-    ghost from_gives = { λ fault made. made ≡ fault_of fault };
+    ghost from_gives = { λ interruption fault. fault ≡ fault_of interruption };
 
-    /// Out of memory, or a failure of the recorder.
-    fn from(fault: TurnFault) -> Self {
-        match fault {
-            TurnFault::OutOfMemory => RunFault::OutOfMemory,
-            TurnFault::WriteFailed => RunFault::RecordFailed,
+    /// The fault of a run that was stopped so.
+    fn from(interruption: Interruption) -> Self {
+        match interruption {
+            Interruption::OutOfMemory => RunFault::OutOfMemory,
+            Interruption::WriteFailed => RunFault::WriteFailed,
+            Interruption::RecordFailed => RunFault::RecordFailed,
         }
     }
 }

@@ -48,7 +48,7 @@ pub fn run_into<R: Threads + Wait + Sync, G: Gate + Sync, S: Sink>(
     // What the sink took during the call, where it tells it.
     ensures sent { Sends (setup_from elf.now input.now config.now) result (S.taken sink.old) (S.taken sink.new) }
     // WriteFailed is answered only where the sink failed, and a report only where it didn't.
-    ensures failures { CountsFailures result (S.failed sink.old) (S.failed sink.new) }
+    ensures failures { CountsFailures RunFault.WriteFailed result (S.failed sink.old) (S.failed sink.new) }
 {
     let kept = Kept::new(alloc);
     let RecordedRun { result, recorder } = run_recorded(

@@ -1,12 +1,11 @@
 //! The turns of a run, in token order, beside the host threads that execute its segments.
-ghost use Rattle.std.specs.Prelude.{◌≡◌, ◌-◌, ◌^◌, ◌<◌, ◌≤◌, Some, IfOk, IfErr, IfSome, OnErr};
+ghost use Rattle.std.specs.Prelude.{◌≡◌, ◌<◌, ◌≤◌, Some, IfOk, IfErr, OnErr};
 ghost use Rattle.token.specs.RunInTurn.{point_of};
 ghost use Rattle.run_limits.specs.Limits as limit;
-ghost use Rattle.runtime.specs.Sending.{CountsFailures, SendsOn};
-ghost use Rattle.runtime.specs.Turns.{Moves};
+ghost use Rattle.runtime.specs.Turns.{GoesOn, MayGoOn, Moves};
 ghost use denote.Param.Send.{IsSync, IsSend};
 
-use crate::run_fault::RunFault;
+use crate::interruption::Interruption;
 use crate::sending::send;
 use crate::sink::Sink;
 use phase_jobs::Gate;
@@ -58,21 +57,16 @@ fn send_turn<B: OfRun + Send + Sync, R: Wait, K: Recorder, G: Gate, S: Sink>(
     pool: &mut Pool<B>,
     gate: &G,
     sink: &mut S,
-) -> Result<Option<RunOutcome>, RunFault>
-    requires failures { S.failed sink.old < 2 ^ 64 - 1 }
-    requires run { (point_of serial.old).setup ≡ B.setup }
-    ensures setup { (point_of serial.new).setup ≡ (point_of serial.old).setup }
-    ensures ended { IfOk result (λ ends. IfSome ends (λ outcome. (point_of serial.new).ended ≡ Some outcome)) }
-    ensures sent { SendsOn result (point_of serial.old).state.output (point_of serial.new).state.output (S.taken sink.old) (S.taken sink.new) }
-    ensures failures { CountsFailures result (S.failed sink.old) (S.failed sink.new) }
-    ensures fault { IfErr result (λ fault. fault ≡ RunFault.RecordFailed → K.writes) }
+) -> Result<Option<RunOutcome>, Interruption>
+    requires { MayGoOn S.failed B.setup serial.old sink.old }
+    ensures { GoesOn K.writes S.taken S.failed (λ ends. ends) result serial.old serial.new sink.old sink.new }
 {
     if let Some(outcome) = take_turn(rt, serial, pool, gate)? {
         return Ok(Some(outcome));
     }
     match send(serial.fresh(), sink) {
         Ok(()) => Ok(None),
-        Err(_) => Err(RunFault::WriteFailed),
+        Err(_) => Err(Interruption::WriteFailed),
     }
 }
 
@@ -84,14 +78,9 @@ fn go_on<B: OfRun + Send + Sync, R: Wait, K: Recorder, G: Gate, S: Sink>(
     pool: &mut Pool<B>,
     gate: &G,
     sink: &mut S,
-) -> Result<Option<RunOutcome>, RunFault>
-    requires failures { S.failed sink.old < 2 ^ 64 - 1 }
-    requires run { (point_of serial.old).setup ≡ B.setup }
-    ensures setup { (point_of serial.new).setup ≡ (point_of serial.old).setup }
-    ensures ended { IfOk result (λ ends. IfSome ends (λ outcome. (point_of serial.new).ended ≡ Some outcome)) }
-    ensures sent { SendsOn result (point_of serial.old).state.output (point_of serial.new).state.output (S.taken sink.old) (S.taken sink.new) }
-    ensures failures { CountsFailures result (S.failed sink.old) (S.failed sink.new) }
-    ensures fault { IfErr result (λ fault. fault ≡ RunFault.RecordFailed → K.writes) }
+) -> Result<Option<RunOutcome>, Interruption>
+    requires { MayGoOn S.failed B.setup serial.old sink.old }
+    ensures { GoesOn K.writes S.taken S.failed (λ ends. ends) result serial.old serial.new sink.old sink.new }
 {
     for _ in rt.forever() {
         if pool.wants_worker(serial) {
@@ -111,14 +100,9 @@ fn go_to_end<B: OfRun + Send + Sync, R: Wait, K: Recorder, G: Gate, S: Sink>(
     pool: &mut Pool<B>,
     gate: &G,
     sink: &mut S,
-) -> Result<RunOutcome, RunFault>
-    requires failures { S.failed sink.old < 2 ^ 64 - 1 }
-    requires run { (point_of serial.old).setup ≡ B.setup }
-    ensures setup { (point_of serial.new).setup ≡ (point_of serial.old).setup }
-    ensures ended { IfOk result (λ outcome. (point_of serial.new).ended ≡ Some outcome) }
-    ensures sent { SendsOn result (point_of serial.old).state.output (point_of serial.new).state.output (S.taken sink.old) (S.taken sink.new) }
-    ensures failures { CountsFailures result (S.failed sink.old) (S.failed sink.new) }
-    ensures fault { IfErr result (λ fault. fault ≡ RunFault.RecordFailed → K.writes) }
+) -> Result<RunOutcome, Interruption>
+    requires { MayGoOn S.failed B.setup serial.old sink.old }
+    ensures { GoesOn K.writes S.taken S.failed Some result serial.old serial.new sink.old sink.new }
 {
     for _ in rt.forever() {
         if let Some(outcome) = go_on(rt, serial, pool, gate, sink)? {
@@ -148,14 +132,9 @@ fn go_on_with<
     sink: &mut S,
     crew: &Crew<B>,
     left: u32,
-) -> Result<RunOutcome, RunFault>
-    requires failures { S.failed sink.old < 2 ^ 64 - 1 }
-    requires run { (point_of serial.old).setup ≡ B.setup }
-    ensures setup { (point_of serial.new).setup ≡ (point_of serial.old).setup }
-    ensures ended { IfOk result (λ outcome. (point_of serial.new).ended ≡ Some outcome) }
-    ensures sent { SendsOn result (point_of serial.old).state.output (point_of serial.new).state.output (S.taken sink.old) (S.taken sink.new) }
-    ensures failures { CountsFailures result (S.failed sink.old) (S.failed sink.new) }
-    ensures fault { IfErr result (λ fault. fault ≡ RunFault.RecordFailed → K.writes) }
+) -> Result<RunOutcome, Interruption>
+    requires { MayGoOn S.failed B.setup serial.old sink.old }
+    ensures { GoesOn K.writes S.taken S.failed Some result serial.old serial.new sink.old sink.new }
 {
     if left == 0 {
         return go_to_end(rt, serial, pool, gate, sink);
@@ -168,13 +147,9 @@ fn go_on_with<
     let (_, result) = join_mut(
         rt,
         &mut || crew.serve(rt, gate),
-        &mut || -> Result<RunOutcome, RunFault>
-            requires { IsSync R.row × IsSync G.row × IsSync B.row × IsSend B.row × (S.failed sink.now < 2 ^ 64 - 1) × ((point_of serial.now).setup ≡ B.setup) }
-            ensures setup { (point_of serial.exit.now).setup ≡ (point_of serial.entry.now).setup }
-            ensures ended { IfOk result (λ outcome. (point_of serial.exit.now).ended ≡ Some outcome) }
-            ensures sent { SendsOn result (point_of serial.entry.now).state.output (point_of serial.exit.now).state.output (S.taken sink.entry.now) (S.taken sink.exit.now) }
-            ensures failures { CountsFailures result (S.failed sink.entry.now) (S.failed sink.exit.now) }
-            ensures fault { IfErr result (λ fault. fault ≡ RunFault.RecordFailed → K.writes) }
+        &mut || -> Result<RunOutcome, Interruption>
+            requires { IsSync R.row × IsSync G.row × IsSync B.row × IsSend B.row × MayGoOn S.failed B.setup serial.now sink.now }
+            ensures { GoesOn K.writes S.taken S.failed Some result serial.entry.now serial.exit.now sink.entry.now sink.exit.now }
         {
             let outcome = go_on_with(rt, serial, pool, gate, sink, crew, others);
             pool.dismiss();
@@ -198,14 +173,9 @@ fn go_on_hiring<
     gate: &G,
     sink: &mut S,
     workers: u32,
-) -> Result<RunOutcome, RunFault>
-    requires failures { S.failed sink.old < 2 ^ 64 - 1 }
-    requires run { (point_of serial.old).setup ≡ B.setup }
-    ensures setup { (point_of serial.new).setup ≡ (point_of serial.old).setup }
-    ensures ended { IfOk result (λ outcome. (point_of serial.new).ended ≡ Some outcome) }
-    ensures sent { SendsOn result (point_of serial.old).state.output (point_of serial.new).state.output (S.taken sink.old) (S.taken sink.new) }
-    ensures failures { CountsFailures result (S.failed sink.old) (S.failed sink.new) }
-    ensures fault { IfErr result (λ fault. fault ≡ RunFault.RecordFailed → K.writes) }
+) -> Result<RunOutcome, Interruption>
+    requires { MayGoOn S.failed B.setup serial.old sink.old }
+    ensures { GoesOn K.writes S.taken S.failed Some result serial.old serial.new sink.old sink.new }
 {
     let crew = pool.hire()?;
     go_on_with(rt, serial, pool, gate, sink, &crew, workers)
@@ -226,15 +196,10 @@ pub(crate) fn take_turns<
     workers: u32,
     gate: &G,
     sink: &mut S,
-) -> Result<RunOutcome, RunFault>
-    requires failures { S.failed sink.old < 2 ^ 64 - 1 }
-    requires run { (point_of serial.old).setup ≡ B.setup }
+) -> Result<RunOutcome, Interruption>
+    requires may { MayGoOn S.failed B.setup serial.old sink.old }
     requires workers { (0 < workers) × (workers ≤ limit.workers) }
-    ensures setup { (point_of serial.new).setup ≡ (point_of serial.old).setup }
-    ensures ended { IfOk result (λ outcome. (point_of serial.new).ended ≡ Some outcome) }
-    ensures sent { SendsOn result (point_of serial.old).state.output (point_of serial.new).state.output (S.taken sink.old) (S.taken sink.new) }
-    ensures failures { CountsFailures result (S.failed sink.old) (S.failed sink.new) }
-    ensures fault { IfErr result (λ fault. fault ≡ RunFault.RecordFailed → K.writes) }
+    ensures { GoesOn K.writes S.taken S.failed Some result serial.old serial.new sink.old sink.new }
 {
     let mut pool = Pool::<B>::new(alloc, workers);
     if let Some(outcome) = go_on(rt, serial, &mut pool, gate, sink)? {

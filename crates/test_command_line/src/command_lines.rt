@@ -22,7 +22,7 @@ fn asked<H: AllocGlobal + Threads + Wait + Sync>(rt: &H, arguments: &[&str]) -> 
 static WRONG_ARGUMENTS: [(&[&str], &str); 12] = [
     (
         &["dthreads"],
-        "error: 'dthreads' requires a subcommand but one was not provided\n  [subcommands: run, disasm, replay]\n\nUsage: dthreads <COMMAND>\n\nFor more information, try '--help'.\n",
+        "error: 'dthreads' requires a subcommand but one was not provided\n  [subcommands: run, debug, disasm, replay]\n\nUsage: dthreads <COMMAND>\n\nFor more information, try '--help'.\n",
     ),
     (
         &["dthreads", "walk"],
@@ -120,6 +120,7 @@ Usage: dthreads <COMMAND>
 
 Commands:
   run     Run a program, with standard input as its input
+  debug   Debug a program with gdb, forwards and backwards, on standard input and output
   disasm  Print the instructions of a program
   replay  Apply a schedule to a program and print the trace
 
@@ -139,6 +140,7 @@ Arguments:
   <FILE>  The program, an ELF file
 
 Options:
+      --input <FILE>   The program's input [default: standard input]
       --workers <N>    How many workers there are, 1 to 64 [default: 4]
       --bound <N>      How many instructions a thread may execute, 1 to 2^40 [default: 1000000000]
       --quantum <N>    After how many instructions a thread's turn ends, 1 to 2^40 [default: none]

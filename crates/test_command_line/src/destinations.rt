@@ -12,7 +12,7 @@ use std::test::Fail;
 use std::thread::Threads;
 
 /// Checks the line for a run of which the texts can't be written, and that the guest wrote nothing.
-fn check_line<H: Abort + AllocGlobal + Threads + Wait + Sync, R: Read>(
+fn check_line<H: Abort + AllocGlobal + Threads + Wait + Sync, R: Read + Send>(
     rt: &H,
     arguments: &[&str],
     program: &[u8],

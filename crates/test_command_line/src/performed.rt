@@ -19,7 +19,7 @@ pub struct Performed {
 
 impl Performed {
     /// Does what the arguments ask for.
-    pub fn new<H: AllocGlobal + Threads + Wait + Sync, S: AsStr, F: Files, R: Read>(
+    pub fn new<H: AllocGlobal + Threads + Wait + Sync, S: AsStr, F: Files, R: Read + Send>(
         rt: &H,
         arguments: &[S],
         files: &mut F,

@@ -15,7 +15,7 @@ use std::thread::Threads;
 const REPLAY: [&str; 6] = ["dthreads", "replay", "a.elf", "schedule", "--workers", "2"];
 
 /// Checks the line for a replay that prints nothing.
-fn check_line<H: Abort + AllocGlobal + Threads + Wait + Sync, R: Read>(
+fn check_line<H: Abort + AllocGlobal + Threads + Wait + Sync, R: Read + Send>(
     rt: &H,
     files: (&[u8], &[u8]),
     stdin: &mut R,

@@ -1,7 +1,7 @@
-//! Readers for tests.
+//! Readers and writers for tests.
 
 use std::io;
-use std::io::{ErrorKind, Read};
+use std::io::{ErrorKind, Read, Write};
 
 /// A reader that gives a byte `7` at each of its first reads and then fails, always in the same way.
 #[derive(Clone, Copy)]
@@ -45,5 +45,19 @@ impl Read for InterruptedReader<'_> {
         }
         let room = buf.len().min(2);
         self.bytes.read(&mut buf[..room])
+    }
+}
+
+/// A writer that takes all and loses it: each flush fails.
+#[derive(Clone, Copy)]
+pub struct LosingWriter;
+
+impl Write for LosingWriter {
+    fn write(&mut self, buf: &[u8]) -> io::Result<usize> {
+        Ok(buf.len())
+    }
+
+    fn flush(&mut self) -> io::Result<()> {
+        Err(io::Error::from(ErrorKind::StorageFull))
     }
 }

@@ -73,7 +73,7 @@ fn an_output_aside_is_copied(rt: HostRuntime) -> Result<(), Fail> {
 }
 
 /// A folder of this name below that of temporary files, which is empty.
-fn empty_folder(rt: &HostRuntime, name: &str) -> io::Result<PathBuf> {
+pub(crate) fn empty_folder(rt: &HostRuntime, name: &str) -> io::Result<PathBuf> {
     let mut path = env::temp_dir(rt)?;
     path.push(name)?;
     let _ = fs::remove_dir_all(rt, &path);
@@ -82,7 +82,11 @@ fn empty_folder(rt: &HostRuntime, name: &str) -> io::Result<PathBuf> {
 }
 
 /// The path of a name in a folder.
-fn path_in(rt: &HostRuntime, folder: &PathBuf, name: &str) -> Result<String, AllocError> {
+pub(crate) fn path_in(
+    rt: &HostRuntime,
+    folder: &PathBuf,
+    name: &str,
+) -> Result<String, AllocError> {
     Ok(folder.join(rt.alloc(), name)?.into_string())
 }
 

@@ -4,6 +4,8 @@
 #[cfg(test)]
 mod fakes;
 #[cfg(test)]
+mod hindrances;
+#[cfg(test)]
 mod host_files;
 #[cfg(test)]
 mod reading;

@@ -46,9 +46,18 @@
 
 #else
 
+/* Tells a debugger that the macro below moves sp. Without optimisation the compiler finds its frame by another register, and there is
+ * nothing to tell. With exceptions the frames are a part of the loaded program, which must not grow. */
+#if defined __GCC_HAVE_DWARF2_CFI_ASM && defined __OPTIMIZE__ && !defined __EXCEPTIONS
+#define DTHREADS_FRAME(text) text "\n"
+#else
+#define DTHREADS_FRAME(text)
+#endif
+
 /* The compiler writes `fence iorw,iorw` in pairs around a plain access of an atomic object; others come alone. */
 __asm__(".macro fence predecessor=iorw, successor=rw\n"
         "addi sp, sp, -16\n"
+        DTHREADS_FRAME(".cfi_adjust_cfa_offset 16")
         "sw ra, 12(sp)\n"
         ".ifc \\predecessor\\successor,iorwiorw\n"
         "call __dthreads_fence\n"
@@ -57,6 +66,7 @@ __asm__(".macro fence predecessor=iorw, successor=rw\n"
         ".endif\n"
         "lw ra, 12(sp)\n"
         "addi sp, sp, 16\n"
+        DTHREADS_FRAME(".cfi_adjust_cfa_offset -16")
         ".endm\n");
 
 #ifdef __cplusplus

@@ -10,6 +10,6 @@ go_through-requires-clause-some g c = (few_workers c.args.config.now c.in_ok-ope
 
 pub returns-clause-answer : goal.returns-clause-answer
 returns-clause-answer g c =
-    replays (g.F.Files.content c.args.files.now) (g.R.Read.remaining c.args.stdin.now) (g.W.Write.contents c.args.stdout.now) _ c.args.file.now c.args.schedule.now c.args.config.now
+    replays _ (g.W.Write.contents c.args.stdout.now) _
     (point_of c.in_ok-opened.opened.start).setup c.in_ok-opened.opened.events.items c.go_through.result c.in_ok-opened.ensures.opened
     c.go_through.ensures.replayed c.go_through.ensures.cut

@@ -1,6 +1,6 @@
 use Rattle.std.proofs.Common.{◌∙◌, inl}
 use Rattle.output_files.specs.Content.{Tells}
-use Rattle.paged_memory.specs.Snapshot.{cells_of}
+use Rattle.command_outputs.specs.Records.{left_by}
 use Rattle.command_outputs.proofs.Texts.{all_out, trace_out, where_failed, where_ok}
 use Rattle.command_outputs.proofs.publishing.write_records.Goals as goal
 
@@ -8,11 +8,10 @@ pub returns-in-Ok-clause-out : goal.returns-in-Ok-clause-out
 returns-in-Ok-clause-out g c =
     where_ok c.write_made.result _ _
     (λ out turns changes told order.
-    let made = out turns changes told.sharing told.digest order in
-    all_out (Tells g.F.Output.Write.contents) c.args.records.now turns changes c.args.end.outcome c.args.end.output.items (cells_of c.args.end.memory) made.0
+    all_out (Tells g.F.Output.Write.contents) c.args.records.now (left_by turns changes c.args.end)
     (g.F.Files.content c.write_trace.new.files) (g.F.Files.content c.write_made.new.files)
     (g.W.Write.contents c.args.writer.now) (g.W.Write.contents c.write_trace.new.writer) (g.W.Write.contents c.write_made.new.writer)
-    (c.in-Ok.ensures.filed turns told.trace) (c.in-Ok.ensures.printed turns told.trace) c.write_made.ensures.others made.1 made.2 made.3)
+    (c.in-Ok.ensures.put turns told.trace) c.write_made.ensures.others (out turns changes told.sharing told.digest order))
     c.write_made.ensures.out
 
 pub returns-in-Ok-clause-failed : goal.returns-in-Ok-clause-failed
@@ -22,12 +21,12 @@ returns-in-Ok-clause-failed g c =
     trace_out (Tells g.F.Output.Write.contents) c.args.records.now turns changes failure
     (g.F.Files.content c.args.files.now) (g.F.Files.content c.write_trace.new.files) (g.F.Files.content c.write_made.new.files)
     (g.W.Write.contents c.args.writer.now) (g.W.Write.contents c.write_trace.new.writer) (g.W.Write.contents c.write_made.new.writer)
-    (c.in-Ok.ensures.filed turns told.trace) (c.in-Ok.ensures.printed turns told.trace) c.write_made.ensures.others (left changes told.sharing order))
+    (c.in-Ok.ensures.put turns told.trace) c.write_made.ensures.others (left changes told.sharing order))
     c.write_made.ensures.failed
 
 pub returns-in-Err-clause-failed : goal.returns-in-Err-clause-failed
 returns-in-Err-clause-failed g c = λ turns changes told order.
     inl (record {
-      trace = record { why = c.in-Err.ensures.failed; kept = c.in-Err.ensures.kept };
-      others = λ path file trace report digest. c.abandon_made.ensures.kept path report digest ∙ c.write_trace.ensures.others path file trace;
+      trace = record { why = c.in-Err.ensures.left.failed; kept = c.in-Err.ensures.left.kept };
+      others = λ path file trace report digest. c.abandon_made.ensures.kept path report digest ∙ c.write_trace.ensures.left.others path file trace;
     })

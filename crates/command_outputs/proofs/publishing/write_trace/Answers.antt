@@ -1,18 +1,12 @@
 use Rattle.std.proofs.Common.{sym}
 use Rattle.output_files.specs.Content.{Tells}
-use Rattle.command_requests.specs.Destination.{IsFiled, Prints}
+use Rattle.command_outputs.specs.Records.{IsPut}
 use Rattle.command_outputs.proofs.Texts.{published}
 use Rattle.command_outputs.proofs.publishing.write_trace.Goals as goal
 
-pub returns-in-Ok-clause-filed : goal.returns-in-Ok-clause-filed
-returns-in-Ok-clause-filed g c =
+pub returns-in-Ok-clause-put : goal.returns-in-Ok-clause-put
+returns-in-Ok-clause-put g c =
     published g.F.Output.Write.contents c.publish.result c.args.destination c.in-Some-destination.destination c.args.recorder c.in-Some.recorder c.into_writer.result
-    (λ destination text. IsFiled destination text (g.F.Files.content c.publish.new.files)) c.in-Some-destination.is c.in-Some.is
-    (rw (sym c.into_writer.ensures) at c.in-Ok.ensures.whole) c.publish.ensures.filed
-
-pub returns-in-Ok-clause-printed : goal.returns-in-Ok-clause-printed
-returns-in-Ok-clause-printed g c =
-    published g.F.Output.Write.contents c.publish.result c.args.destination c.in-Some-destination.destination c.args.recorder c.in-Some.recorder c.into_writer.result
-    (λ destination text. Prints (Tells g.F.Output.Write.contents) destination text (g.W.Write.contents c.args.writer.now) (g.W.Write.contents c.publish.new.writer))
+    (λ destination text. IsPut (Tells g.F.Output.Write.contents) destination text (g.F.Files.content c.publish.new.files) (g.W.Write.contents c.args.writer.now) (g.W.Write.contents c.publish.new.writer))
     c.in-Some-destination.is c.in-Some.is
-    (rw (sym c.into_writer.ensures) at c.in-Ok.ensures.whole) c.publish.ensures.printed
+    (rw (sym c.into_writer.ensures) at c.in-Ok.ensures.whole) c.publish.ensures.put

@@ -1,4 +1,4 @@
-use Rattle.std.proofs.Common.{inl, refl}
+use Rattle.std.proofs.Common.{inl, inr, refl}
 use Rattle.std.proofs.KnownBytes.{Appends-kept}
 use Rattle.token.specs.RunInTurn.{point_of}
 use Rattle.command_outputs.specs.Recorders.{AreTold}
@@ -11,10 +11,10 @@ pub returns-clause-stopped : goal.returns-clause-stopped
 returns-clause-stopped g c = elim c.match-result.branch [
   | in-Ok+in-Ok-finish w ↦ rw w.result-is tt
   | in-Ok+in-Err-finish w ↦ rw (w.result-is, w.stdout-is) (
-    inl refl,
+    inr (inl refl),
     all_sent (AreTold g.O.Write.contents) (point_of c.args.start).setup w.in-Ok.end c.run_wanted-run.result.recorder _ _
         (rw w.in-Ok.is at c.run_wanted-run.ensures.ended) (Appends-kept _ _ _ _ (rw w.in-Ok.is at c.run_wanted-run.ensures.sent) w.finish.ensures.bytes),
   )
-  | in-Err w ↦ rw (w.result-is, w.stdout-is, w.failure_of_run.ensures)
-      (stopped_by c.args.trace (point_of c.args.start).setup w.in-Err.fault _ _ (rw w.in-Err.is at c.run_wanted-run.ensures.fault) (rw w.in-Err.is at c.run_wanted-run.ensures.sent))
+  | in-Err w ↦ rw (w.result-is, w.stdout-is, w.failure_of_interruption.ensures)
+      (stopped_by c.args.trace (point_of c.args.start).setup w.in-Err.interruption _ _ (rw w.in-Err.is at c.run_wanted-run.ensures.sent))
 ]

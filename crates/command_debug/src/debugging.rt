@@ -1,0 +1,111 @@
+//! The debugging of a file's program by gdb, which speaks on standard input and output.
+ghost use Rattle.std.specs.Prelude.{◌^◌, ◌<◌, IfOk, IfSome};
+ghost use Rattle.token.specs.RunInTurn.{point_of};
+
+use crate::incoming::{Incoming, read_all};
+use crate::serving::{ServeFault, serve};
+use command_requests::{Failure, Target, fail};
+use command_run::open_bytes;
+use crossbeam_channel::bounded;
+use elf32_reader::FILE_LIMIT;
+use gdb_protocol::Session;
+use output_files::Files;
+use runtime::{Config, MAX_INPUT};
+use std::alloc::Global;
+use std::io::{Read, Write};
+use std::sync::Wait;
+use std::thread::{Threads, join};
+use timeline::{Spacing, Timeline};
+use token::Start;
+
+/// How many pieces of input wait at most.
+const PIECES: usize = 64;
+
+/// What is debugged.
+#[derive(Clone, Copy)]
+pub struct Debugging<'a> {
+    /// The program's file.
+    pub file: &'a str,
+    /// The file of the guest's input, which is empty if there is none.
+    pub input: Option<&'a str>,
+    /// The turn at whose start gdb finds the program, from 1.
+    pub turn: u64,
+}
+
+/// Debugs the program of a file: answers gdb, which speaks on `stdin`, on `stdout`, until it ends the session or the input
+/// ends.
+pub fn debug_file<'a, H: Threads + Wait + Sync, F: Files, R: Read + Send, W: Write>(
+    rt: &H,
+    alloc: Global,
+    debugging: &Debugging<'a>,
+    config: &Config,
+    files: &F,
+    stdin: &mut R,
+    stdout: &mut W,
+) -> Result<(), Failure<'a>> {
+    let start = open(alloc, debugging, config, files)?;
+    let mut session = session_of(alloc, start, debugging.turn)?;
+    let (sender, receiver) = bounded(alloc, PIECES)?;
+    let mut incoming = Incoming::new(alloc, receiver);
+    let (_, served) = join(
+        rt,
+        move || read_all(rt, alloc, stdin, sender),
+        || serve(rt, &mut session, &mut incoming, stdout),
+    );
+    match served {
+        Ok(()) => Ok(()),
+        Err(ServeFault::OutOfMemory) => Err(Failure::OutOfMemory),
+        Err(ServeFault::WriteFailed) => Err(Failure::CannotWrite(Target::StandardOutput)),
+    }
+}
+
+/// The run of the program, of which no turn is done.
+#[tactic(auto, using(crate::proofs::Quantum::not_zero))]
+fn open<'a, F: Files>(
+    alloc: Global,
+    debugging: &Debugging<'a>,
+    config: &Config,
+    files: &F,
+) -> Result<Start, Failure<'a>>
+    ensures { IfOk result (λ start. IfSome (point_of start).setup.quantum (λ q. 0 < q)) }
+{
+    let elf = read(alloc, debugging.file, FILE_LIMIT, files)?;
+    let input = match debugging.input {
+        Some(path) => read(alloc, path, MAX_INPUT, files)?,
+        None => Vec::new(alloc),
+    };
+    open_bytes(alloc, elf.as_slice(), input.as_slice(), config)
+}
+
+/// The bytes of a file, and one more than the limit if it has so many.
+fn read<'a, F: Files>(
+    alloc: Global,
+    path: &'a str,
+    limit: usize,
+    files: &F,
+) -> Result<Vec<u8>, Failure<'a>>
+    requires { limit < 2 ^ 32 }
+{
+    match files.read(alloc, path, limit) {
+        Ok(bytes) => Ok(bytes),
+        Err(fault) => Err(Failure::of_read(Target::Path(path), fault)),
+    }
+}
+
+/// A session over a run, at the start of a turn.
+fn session_of<'a>(alloc: Global, start: Start, turn: u64) -> Result<Session, Failure<'a>>
+    requires { IfSome (point_of start).setup.quantum (λ q. 0 < q) }
+{
+    let timeline = Timeline::open(alloc, start, Spacing::USUAL)?;
+    let mut session = Session::new(alloc, timeline)?;
+    session.begin_at(turn)?;
+    Ok(session)
+}
+
+/// Says why a debugging failed, if it did, and answers the status.
+pub fn conclude_debugging<E: Write>(answer: Result<(), Failure<'_>>, stderr: &mut E) -> u8 {
+    match answer {
+        Ok(()) => 0,
+        Err(failure) => fail(failure, stderr),
+    }
+}

@@ -1,0 +1,10 @@
+-- Requests that read all of standard input.
+use Rattle.command_requests.specs.declared.request.Request.{Request}
+use Rattle.command_requests.specs.declared.request.Request.TheVariants.{Run, Debug, Disasm, Replay}
+
+-- a debugging is asked for
+abbrev pub IsDebug : Request → Type 0
+IsDebug (Debug file input numbers turn) = Unit {0}
+IsDebug (Run file input numbers records) = ⊥
+IsDebug (Disasm file) = ⊥
+IsDebug (Replay file schedule input numbers) = ⊥

@@ -1,0 +1,16 @@
+//! The commands that a user of gdb gives by `monitor`: texts about the run, and positions found without moving for gdb.
+//!
+//! - [`command_of`] reads a command, and [`perform`] does it.
+//! - [`step_of`] and [`existing`] find a position: the run goes there and comes back.
+#![tactic(auto)]
+
+mod command;
+mod performing;
+mod searching;
+mod texts;
+mod trace;
+mod writers;
+
+pub use command::{Command, command_of, decimal};
+pub use performing::perform;
+pub use searching::{existing, step_named, step_of};

@@ -1,0 +1,96 @@
+//! Does the commands.
+use crate::command::Command;
+use crate::searching::{existing, step_of};
+use crate::texts::{locks_text, position_text, shared_text, thread_line};
+use crate::trace::print_trace;
+use crate::writers::print_writers;
+use gdb_packets::Wire;
+use std::alloc::{AllocError, Global};
+use timeline::Timeline;
+
+/// The list of the commands.
+const HELP: &[u8] = b"where              the position (also: when)
+turn N [K]         the next resume goes to turn N, K instructions into it
+go STEP            the next resume goes to this step
+trace [A [B]]      the trace up to here, or its lines A to B
+threads            what each thread does, and which memory it shows
+locks              who holds mutexes, and who waits at conditions and barriers
+writers ADDR [N]   the turns so far that changed one of these bytes
+shared ADDR [N]    the shared memory
+output             what the guest has written up to here
+help               this list
+";
+
+/// Does a command, with so many threads listed, and prints what it has to say. Answers the step to which the next resume is
+/// to go, if the command chooses one.
+pub fn perform(
+    alloc: Global,
+    wire: &mut Wire,
+    timeline: &mut Timeline,
+    listed: u32,
+    command: Command,
+) -> Result<Option<u64>, AllocError> {
+    match command {
+        Command::Turn { turn, count } => {
+            let step = step_of(timeline, turn, count)?;
+            choose(alloc, wire, step)
+        }
+        Command::Go(step) => {
+            let step = existing(timeline, step)?;
+            choose(alloc, wire, step)
+        }
+        _ => {
+            tell(alloc, wire, timeline, listed, command)?;
+            Ok(None)
+        }
+    }
+}
+
+/// Prints what a command asks for that chooses no position.
+fn tell(
+    alloc: Global,
+    wire: &mut Wire,
+    timeline: &Timeline,
+    listed: u32,
+    command: Command,
+) -> Result<(), AllocError> {
+    match command {
+        Command::Help => wire.print(HELP),
+        Command::Where => wire.print(position_text(alloc, timeline)?.as_bytes()),
+        Command::Trace { first, last } => print_trace(alloc, wire, timeline, first, last),
+        Command::Threads => print_threads(alloc, wire, timeline, listed),
+        Command::Locks => wire.print(locks_text(alloc, timeline)?.as_bytes()),
+        Command::Writers(span) => print_writers(alloc, wire, timeline, span),
+        Command::Shared(span) => wire.print(shared_text(alloc, timeline, span)?.as_bytes()),
+        Command::Output => wire.print(timeline.serial().output()),
+        Command::NoNumber => wire.print(b"dthreads: not a number\n"),
+        Command::Turn { .. } | Command::Go(_) | Command::Unknown => {
+            wire.print(b"dthreads: no such command; monitor help lists them\n")
+        }
+    }
+}
+
+/// Prints what each listed thread does, and which memory it shows.
+fn print_threads(
+    alloc: Global,
+    wire: &mut Wire,
+    timeline: &Timeline,
+    listed: u32,
+) -> Result<(), AllocError> {
+    for thread in 0..listed {
+        wire.print(thread_line(alloc, timeline, thread)?.as_bytes())?;
+    }
+    Ok(())
+}
+
+/// Says whether a position was chosen for the next resume.
+fn choose(alloc: Global, wire: &mut Wire, step: Option<u64>) -> Result<Option<u64>, AllocError> {
+    match step {
+        Some(step) => {
+            let line = format!(in alloc; "the next resume goes to step {step}\n")?;
+            wire.print(line.as_bytes())?;
+        }
+        None => wire.print(b"no such position\n")?,
+    }
+    Ok(step)
+}

@@ -1,0 +1,3 @@
+pub mod EscapesEnd
+pub mod Printing
+pub mod Values

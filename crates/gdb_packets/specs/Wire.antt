@@ -1,0 +1,20 @@
+-- The bytes for gdb.
+use Rattle.std.specs.Prelude.{◌≡◌, ℕ, List, ◌∷◌, ◌++◌}
+use Rattle.std.specs.List.{flat_map}
+use Rattle.gdb_packets.specs.Digits.{digits_of}
+use Rattle.gdb_packets.specs.Frames.{frame_of}
+use Rattle.gdb_packets.specs.declared.wire.Wire.{Wire}
+
+-- the bytes that weren't taken yet
+abbrev pub sent_of : Wire → List ℕ
+sent_of wire = wire.out.items
+
+-- the packet of a part of a text that is printed: O (79) and its digits
+abbrev pub printing : List ℕ → List ℕ
+printing part = frame_of (79 ∷ digits_of part)
+
+-- The bytes grew by packets that print the parts of this text.
+pub record IsPrinted (old text new : List ℕ) : Type 0 where
+  pub parts : List (List ℕ)
+  pub whole : flat_map (λ part. part) parts ≡ text
+  pub sent : new ≡ old ++ flat_map printing parts

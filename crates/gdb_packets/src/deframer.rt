@@ -1,0 +1,166 @@
+//! Takes the bytes of gdb one by one, and says what each completes.
+ghost use Rattle.std.specs.Prelude.{◌≡◌, ◌≢◌, ◌⊎◌, ◌∷◌, ◌++◌, [], ◌↔◌, IsTrue};
+ghost use Rattle.gdb_packets.specs.Frames.{IsFrame, IsSpoiled, IsSum, GoesOn, bytes_begun};
+
+use crate::numbers::digit_of;
+use crate::sums::checksum;
+use std::alloc::{AllocError, Global};
+
+/// How many bytes a frame has at most between its `$` and its `#`. A longer one is dropped.
+pub const PACKET_LIMIT: usize = 0x4000;
+
+/// What a byte completed.
+#[derive(Clone, Copy, Debug, PartialEq, Eq)]
+pub enum Heard {
+    /// Nothing so far.
+    Nothing,
+    /// The other side has got the last answer.
+    Acknowledged,
+    /// The other side wants the last answer again.
+    Refused,
+    /// The byte 03 outside a frame.
+    Interrupt,
+    /// A frame whose checksum is right.
+    Packet,
+    /// A frame whose checksum is wrong.
+    Spoiled,
+    /// A frame with more than [`PACKET_LIMIT`] bytes, as soon as it has passed them.
+    TooLong,
+}
+
+/// How much of a frame has been heard.
+#[derive(Clone, Copy, Debug, PartialEq, Eq)]
+enum Part {
+    /// None of it.
+    Outside,
+    /// Its `$` and some bytes.
+    Body,
+    /// Its bytes and the `#`.
+    Sharp,
+    /// All but its last digit.
+    Digit(u8),
+}
+
+/// What was heard of a frame so far.
+#[derive(Drop)]
+pub struct Deframer {
+    /// The bytes between `$` and `#`, as they came.
+    body: Vec<u8>,
+    part: Part,
+}
+
+impl Deframer {
+    /// One that has heard nothing. It takes the memory for all frames.
+    pub fn new(alloc: Global) -> Result<Self, AllocError> {
+        Ok(Deframer {
+            body: Vec::with_capacity(alloc, PACKET_LIMIT)?,
+            part: Part::Outside,
+        })
+    }
+
+    /// The bytes of the frame that was heard last, as they came, with their escapes.
+    pub fn body(&self) -> &[u8]
+        ensures { result.now ≡ self.now.body.items }
+    {
+        self.body.as_slice()
+    }
+
+    /// Whether a frame has begun and isn't complete.
+    pub fn is_in_frame(&self) -> bool {
+        self.part != Part::Outside
+    }
+
+    /// Takes the next byte.
+    pub fn hear(&mut self, byte: u8) -> Heard
+        ensures packet { result ≡ Heard.Packet → IsFrame (bytes_begun self.old.body.items self.old.part ++ byte ∷ []) self.new.body.items }
+        ensures spoiled { result ≡ Heard.Spoiled → IsSpoiled (bytes_begun self.old.body.items self.old.part ++ byte ∷ []) self.new.body.items }
+        ensures goes_on { result ≡ Heard.Nothing → bytes_begun self.new.body.items self.new.part ≢ [] → GoesOn (bytes_begun self.old.body.items self.old.part) byte (bytes_begun self.new.body.items self.new.part) }
+        ensures interrupt { result ≡ Heard.Interrupt → (byte ≡ 3) × (bytes_begun self.old.body.items self.old.part ≡ []) }
+    {
+        match self.part {
+            Part::Outside => self.hear_outside(byte),
+            Part::Body => self.hear_body(byte),
+            Part::Sharp => {
+                self.part = Part::Digit(byte);
+                Heard::Nothing
+            }
+            Part::Digit(first) => {
+                self.part = Part::Outside;
+                self.judge(first, byte)
+            }
+        }
+    }
+
+    /// Takes a byte that is in no frame.
+    fn hear_outside(&mut self, byte: u8) -> Heard
+        requires { self.old.part ≡ Part.Outside }
+        ensures other { (result ≢ Heard.Packet) × (result ≢ Heard.Spoiled) }
+        ensures interrupt { result ≡ Heard.Interrupt → byte ≡ 3 }
+        ensures begun { bytes_begun self.new.body.items self.new.part ≢ [] → (byte ≡ 36) × (bytes_begun self.new.body.items self.new.part ≡ 36 ∷ []) }
+    {
+        match byte {
+            b'$' => {
+                self.begin();
+                Heard::Nothing
+            }
+            b'+' => Heard::Acknowledged,
+            b'-' => Heard::Refused,
+            3 => Heard::Interrupt,
+            _ => Heard::Nothing,
+        }
+    }
+
+    /// Takes a byte of a frame's body, or the one that ends it. A `$` begins another frame.
+    fn hear_body(&mut self, byte: u8) -> Heard
+        requires { self.old.part ≡ Part.Body }
+        ensures other { (result ≢ Heard.Packet) × (result ≢ Heard.Spoiled) × (result ≢ Heard.Interrupt) }
+        ensures goes_on { result ≡ Heard.Nothing → GoesOn (36 ∷ self.old.body.items) byte (bytes_begun self.new.body.items self.new.part) }
+    {
+        match byte {
+            b'$' => {
+                self.begin();
+                Heard::Nothing
+            }
+            b'#' => {
+                self.part = Part::Sharp;
+                Heard::Nothing
+            }
+            _ => self.keep(byte),
+        }
+    }
+
+    /// Begins a frame.
+    fn begin(&mut self)
+        ensures { bytes_begun self.new.body.items self.new.part ≡ 36 ∷ [] }
+    {
+        self.body.clear();
+        self.part = Part::Body;
+    }
+
+    /// Keeps a byte of a frame's body, or drops the frame.
+    fn keep(&mut self, byte: u8) -> Heard
+        requires { self.old.part ≡ Part.Body }
+        ensures kept { result ≡ Heard.Nothing → bytes_begun self.new.body.items self.new.part ≡ 36 ∷ (self.old.body.items ++ byte ∷ []) }
+        ensures either { (result ≡ Heard.Nothing) ⊎ (result ≡ Heard.TooLong) }
+    {
+        if self.body.len() < PACKET_LIMIT && self.body.push(byte).is_ok() {
+            return Heard::Nothing;
+        }
+        self.part = Part::Outside;
+        Heard::TooLong
+    }
+
+    /// Judges a frame by its two digits.
+    fn judge(&self, first: u8, second: u8) -> Heard
+        ensures packet { result ≡ Heard.Packet → IsSum self.now.body.items first second }
+        ensures spoiled { result ≡ Heard.Spoiled → IsSum self.now.body.items first second → ⊥ }
+        ensures either { (result ≡ Heard.Packet) ⊎ (result ≡ Heard.Spoiled) }
+    {
+        let sum = checksum(self.body.as_slice());
+        if digit_of(first) == Some(sum / 16) && digit_of(second) == Some(sum % 16) {
+            Heard::Packet
+        } else {
+            Heard::Spoiled
+        }
+    }
+}

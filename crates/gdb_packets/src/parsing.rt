@@ -1,0 +1,186 @@
+//! Reads the text of a packet.
+ghost use Rattle.std.specs.Prelude.{ℕ, List, IfSome};
+ghost use Rattle.gdb_packets.specs.Requests.{Asks};
+
+use crate::action::Motion;
+use crate::numbers::{number, split_at_byte};
+use crate::request::{PointKind, Request};
+use crate::thread_id::ThreadId;
+use crate::window::Window;
+
+/// What the packet of this text asks for.
+pub fn parse(text: &[u8]) -> Request<'_>
+    ensures { Asks text.now result }
+{
+    match text {
+        [b'q', ..] => query_of(text),
+        [b'v', ..] => verbose_of(text),
+        [b'Z' | b'z', ..] => point_of(text).unwrap_or(Request::Malformed),
+        [b'c' | b's' | b'C' | b'S', ..] => resumption_of(text).unwrap_or(Request::Malformed),
+        [b'H' | b'T' | b'm' | b'p', ..] => state_of(text).unwrap_or(Request::Malformed),
+        _ => short_of(text),
+    }
+}
+
+/// What a packet without parts asks for, or one whose parts aren't looked at.
+fn short_of(text: &[u8]) -> Request<'_>
+    ensures { Asks text.now result }
+{
+    match text {
+        b"?" => Request::WhyStopped,
+        b"!" => Request::Extend,
+        b"g" => Request::Registers,
+        b"k" => Request::End,
+        b"bs" => Request::StepBack,
+        b"bc" => Request::ContinueBack,
+        b"D" | [b'D', b';', ..] => Request::Detach,
+        b"QStartNoAckMode" => Request::NoAcknowledgements,
+        [b'G' | b'P', ..] => Request::ChangeRegisters,
+        [b'M' | b'X', ..] => Request::ChangeMemory,
+        _ => Request::Unknown,
+    }
+}
+
+/// What a packet asks for of threads, registers and memory.
+fn state_of(text: &[u8]) -> Option<Request<'_>>
+    ensures { IfSome result (Asks text.now) }
+{
+    match text {
+        [b'H', b'g', thread @ ..] => Some(Request::SelectGeneral(ThreadId::of_text(thread)?)),
+        [b'H', b'c', thread @ ..] => Some(Request::SelectMoving(ThreadId::of_text(thread)?)),
+        [b'T', thread @ ..] => Some(Request::IsThread(ThreadId::of_text(thread)?)),
+        [b'm', window @ ..] => Some(Request::Memory(Window::of_text(window)?)),
+        [b'p', register @ ..] => Some(Request::Register(number(register)?)),
+        _ => None,
+    }
+}
+
+/// What a packet asks for that resumes the thread that moves. One that names an address is malformed.
+fn resumption_of(text: &[u8]) -> Option<Request<'_>>
+    ensures { IfSome result (Asks text.now) }
+{
+    match text {
+        b"c" => Some(Request::ResumeSelected(Motion::Continue)),
+        b"s" => Some(Request::ResumeSelected(Motion::Step)),
+        [b'C', signal @ ..] => {
+            number(signal)?;
+            Some(Request::ResumeSelected(Motion::Continue))
+        }
+        [b'S', signal @ ..] => {
+            number(signal)?;
+            Some(Request::ResumeSelected(Motion::Step))
+        }
+        _ => None,
+    }
+}
+
+/// What a packet asks for that sets or clears a point.
+fn point_of(text: &[u8]) -> Option<Request<'_>>
+    ensures { IfSome result (Asks text.now) }
+{
+    let [first, kind, b',', window @ ..] = text else {
+        return None;
+    };
+    let kind = match *kind {
+        b'0' => PointKind::Software,
+        b'1' => PointKind::Hardware,
+        b'2' => PointKind::Write,
+        b'3' => PointKind::Read,
+        b'4' => PointKind::Access,
+        _ => return Some(Request::Unknown),
+    };
+    let window = Window::of_text(window)?;
+    match *first {
+        b'Z' => Some(Request::SetPoint(kind, window)),
+        b'z' => Some(Request::ClearPoint(kind, window)),
+        _ => None,
+    }
+}
+
+/// What a packet asks for that begins with `q`.
+fn query_of(text: &[u8]) -> Request<'_>
+    ensures { Asks text.now result }
+{
+    match text {
+        b"qC" => Request::CurrentThread,
+        b"qfThreadInfo" => Request::FirstThreads,
+        b"qsThreadInfo" => Request::MoreThreads,
+        b"qAttached" => Request::WasAttached,
+        b"qSupported" => Request::Features(&[]),
+        _ => {
+            if let Some(command) = text.strip_prefix(b"qRcmd,") {
+                return Request::Command(command);
+            }
+            if let Some(features) = text.strip_prefix(b"qSupported:") {
+                return Request::Features(features);
+            }
+            if text.starts_with(b"qAttached:") {
+                return Request::WasAttached;
+            }
+            if text.starts_with(b"qSymbol:") {
+                return Request::Symbols;
+            }
+            long_query_of(text)
+        }
+    }
+}
+
+/// What a packet asks for that begins with `q` and names a thread or a part of a text.
+fn long_query_of(text: &[u8]) -> Request<'_>
+    ensures { Asks text.now result }
+{
+    if let Some(thread) = text.strip_prefix(b"qThreadExtraInfo,") {
+        return match ThreadId::of_text(thread) {
+            Some(thread) => Request::ThreadText(thread),
+            None => Request::Malformed,
+        };
+    }
+    if let Some(part) = text.strip_prefix(b"qXfer:features:read:") {
+        return match description_of(part) {
+            Some(request) => request,
+            None => Request::Malformed,
+        };
+    }
+    if let Some(part) = text.strip_prefix(b"qXfer:threads:read:") {
+        return match thread_list_of(part) {
+            Some(request) => request,
+            None => Request::Malformed,
+        };
+    }
+    Request::Unknown
+}
+
+/// The part of the target description that a text `NAME:START,LENGTH` names.
+fn description_of(text: &[u8]) -> Option<Request<'_>>
+    ensures { IfSome result (λ request. (other : List ℕ) → Asks other request) }
+{
+    let (name, window) = split_at_byte(text, b':')?;
+    Some(Request::Description(name, Window::of_text(window)?))
+}
+
+/// The part of the list of threads that a text `:START,LENGTH` names.
+fn thread_list_of(text: &[u8]) -> Option<Request<'_>>
+    ensures { IfSome result (λ request. (other : List ℕ) → Asks other request) }
+{
+    let (_, window) = split_at_byte(text, b':')?;
+    Some(Request::ThreadsText(Window::of_text(window)?))
+}
+
+/// What a packet asks for that begins with `v`.
+fn verbose_of(text: &[u8]) -> Request<'_>
+    ensures { Asks text.now result }
+{
+    if let b"vCont?" = text {
+        return Request::ActionKinds;
+    }
+    if let Some(actions) = text.strip_prefix(b"vCont;") {
+        return Request::Resume(actions);
+    }
+    if let Some(arguments) = text.strip_prefix(b"vRun;") {
+        return Request::Restart(arguments);
+    }
+    if text.starts_with(b"vKill;") {
+        return Request::Kill;
+    }
+    Request::Unknown
+}

@@ -1,0 +1,109 @@
+//! The bytes for gdb: the frames of answers, and acknowledgements.
+ghost use Rattle.std.specs.Prelude.{◌≡◌, ◌++◌, [], OnOk};
+ghost use Rattle.gdb_packets.specs.Frames.{frame_of};
+ghost use Rattle.gdb_packets.specs.Wire.{IsPrinted, printing, sent_of};
+
+use crate::digits::write_bytes;
+use crate::framing::frame;
+use std::alloc::{AllocError, Global};
+use std::mem;
+
+/// How many bytes of the program's output a packet has at most.
+const OUTPUT_LIMIT: usize = 0x1000;
+
+/// The bytes for gdb that weren't taken yet.
+#[derive(Drop)]
+pub struct Wire {
+    alloc: Global,
+    pub(crate) out: Vec<u8>,
+    /// The frame of the last answer.
+    last: Vec<u8>,
+    /// Whether packets are acknowledged.
+    acknowledges: bool,
+}
+
+impl Wire {
+    /// No bytes yet. Packets are acknowledged.
+    pub fn new(alloc: Global) -> Self
+        ensures { sent_of result ≡ [] }
+    {
+        Wire {
+            alloc,
+            out: Vec::new(alloc),
+            last: Vec::new(alloc),
+            acknowledges: true,
+        }
+    }
+
+    /// Answers with a packet of this text.
+    pub fn answer(&mut self, text: &[u8]) -> Result<(), AllocError>
+        ensures { OnOk result (sent_of self.new ≡ sent_of self.old ++ frame_of text.now) }
+    {
+        self.last.clear();
+        frame(self.alloc, text, &mut self.last)?;
+        self.out.extend_from_slice(self.last.as_slice())
+    }
+
+    /// Prints a text on the user's terminal, in packets of a bounded length.
+    pub fn print(&mut self, text: &[u8]) -> Result<(), AllocError>
+        ensures { OnOk result (IsPrinted (sent_of self.old) text.now (sent_of self.new)) }
+    {
+        let mut rest = text;
+        while !rest.is_empty() {
+            let (part, others) = rest.split_at(rest.len().min(OUTPUT_LIMIT));
+            self.print_part(part)?;
+            rest = others;
+        }
+        Ok(())
+    }
+
+    /// Prints a part of a text in one packet.
+    fn print_part(&mut self, part: &[u8]) -> Result<(), AllocError>
+        ensures { OnOk result (sent_of self.new ≡ sent_of self.old ++ printing part.now) }
+    {
+        let mut packet = String::from_str(self.alloc, "O")?;
+        write_bytes(&mut packet, part)?;
+        self.answer(packet.as_bytes())
+    }
+
+    /// Sends the last answer again, if packets are acknowledged.
+    pub fn repeat(&mut self) -> Result<(), AllocError> {
+        if self.acknowledges {
+            self.out.extend_from_slice(self.last.as_slice())?;
+        }
+        Ok(())
+    }
+
+    /// Says that a packet came, if packets are acknowledged.
+    pub fn acknowledge(&mut self) -> Result<(), AllocError> {
+        self.note(b'+')
+    }
+
+    /// Says that a packet has a wrong checksum, if packets are acknowledged.
+    pub fn refuse(&mut self) -> Result<(), AllocError> {
+        self.note(b'-')
+    }
+
+    /// Acknowledges no packet from now on.
+    pub fn stop_acknowledging(&mut self)
+        ensures { sent_of self.new ≡ sent_of self.old }
+    {
+        self.acknowledges = false;
+    }
+
+    /// The bytes that weren't taken yet, which are taken by this.
+    pub fn take(&mut self) -> Vec<u8>
+        ensures taken { result.items ≡ sent_of self.old }
+        ensures none { sent_of self.new ≡ [] }
+    {
+        mem::replace(&mut self.out, Vec::new(self.alloc))
+    }
+
+    /// Sends a byte, if packets are acknowledged.
+    fn note(&mut self, byte: u8) -> Result<(), AllocError> {
+        if self.acknowledges {
+            self.out.push(byte)?;
+        }
+        Ok(())
+    }
+}

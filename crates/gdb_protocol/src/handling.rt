@@ -1,0 +1,198 @@
+//! Answers what packets ask for.
+use crate::life::Life;
+use crate::session::Session;
+use gdb_monitor::{command_of, perform, step_named};
+use gdb_packets::{Request, Window, bytes_of_digits};
+use gdb_shown::{memory_text, part_of, register_text, registers_text, target_description};
+use std::alloc::AllocError;
+
+/// The features of this side.
+const FEATURES: &[u8] =
+    b"PacketSize=4000;QStartNoAckMode+;ReverseStep+;ReverseContinue+;vContSupported+;swbreak+;hwbreak+;qXfer:features:read+;qXfer:threads:read+";
+
+impl Session {
+    ghost use Rattle.std.specs.Prelude.{◌≡◌, OnOk, option_map};
+    ghost use Rattle.std.specs.String.{string_bytes};
+    ghost use Rattle.gdb_shown.specs.Memory.{memory_shown};
+    ghost use Rattle.gdb_shown.specs.Registers.{one_register_shown, registers_shown};
+    ghost use Rattle.gdb_protocol.specs.Answers.{Answers};
+    ghost use Rattle.gdb_protocol.specs.Replies.{Replies, moment_in, text_or_error};
+
+    /// Answers what a packet asks for, or begins to go there.
+    pub(crate) fn handle(&mut self, request: Request<'_>) -> Result<(), AllocError>
+        ensures { self.old.life ≡ Life.Alive → OnOk result (Replies self.old self.new request.entry) }
+    {
+        match request {
+            Request::Features(features) => self.answer_features(features),
+            Request::NoAcknowledgements => {
+                self.answer(b"OK")?;
+                self.wire.stop_acknowledging();
+                Ok(())
+            }
+            Request::WhyStopped => self.send_stop(),
+            Request::Description(name, window) => self.answer_description(name, window),
+            Request::WasAttached => self.answer(b"0"),
+            Request::Symbols => self.answer(b"OK"),
+            Request::ActionKinds => self.answer(b"vCont;c;C;s;S;r"),
+            Request::Extend => self.answer(b"OK"),
+            Request::Detach | Request::Kill => self.let_go(),
+            Request::End => {
+                self.life = Life::Over;
+                Ok(())
+            }
+            Request::Malformed => self.answer(b"E01"),
+            Request::Unknown => self.answer(b""),
+            Request::Command(digits) => self.command(digits),
+            Request::Restart(arguments) => self.restart(arguments),
+            _ => self.handle_alive(request),
+        }
+    }
+
+    /// Answers what a packet asks of the program, which is refused if it is gone.
+    fn handle_alive(&mut self, request: Request<'_>) -> Result<(), AllocError>
+        ensures { self.old.life ≡ Life.Alive → OnOk result (Replies self.old self.new request.entry) }
+    {
+        if self.life != Life::Alive {
+            return self.answer(b"E01");
+        }
+        match request {
+            Request::Resume(actions) => self.resume(actions),
+            Request::ResumeSelected(motion) => self.resume_selected(motion),
+            Request::StepBack => self.step_back(),
+            Request::ContinueBack => self.continue_back(),
+            Request::SetPoint(kind, window) => self.set_point(kind, window),
+            Request::ClearPoint(kind, window) => self.clear_point(kind, window),
+            _ => self.handle_state(request),
+        }
+    }
+
+    /// Answers what a packet asks of threads, registers and memory.
+    fn handle_state(&mut self, request: Request<'_>) -> Result<(), AllocError>
+        ensures { OnOk result (Replies self.old self.new request.entry) }
+    {
+        match request {
+            Request::Registers => self.answer_registers(),
+            Request::Register(number) => self.answer_register(number),
+            Request::Memory(window) => self.answer_memory(window),
+            Request::ChangeRegisters => self.answer(b"E.a deterministic run is read-only"),
+            Request::ChangeMemory => self.answer(b"E01"),
+            Request::ThreadsText(window) => self.answer_threads(window),
+            Request::FirstThreads => self.answer_ids(),
+            Request::MoreThreads => self.answer(b"l"),
+            Request::ThreadText(id) => self.answer_thread_text(id),
+            Request::IsThread(id) => self.answer_is_thread(id),
+            Request::CurrentThread => self.answer_current(),
+            Request::SelectGeneral(id) => self.select_general(id),
+            Request::SelectMoving(id) => self.select_moving(id),
+            _ => self.answer(b""),
+        }
+    }
+
+    /// Answers with a packet of this text.
+    fn answer(&mut self, text: &[u8]) -> Result<(), AllocError>
+        ensures { OnOk result (Answers self.old self.new text.now) }
+    {
+        self.wire.answer(text)
+    }
+
+    /// Answers with the features of this side, and notes those of gdb.
+    fn answer_features(&mut self, features: &[u8]) -> Result<(), AllocError> {
+        for feature in features.split(|byte| *byte == b';') {
+            match feature {
+                b"swbreak+" => self.knows_swbreak = true,
+                b"hwbreak+" => self.knows_hwbreak = true,
+                _ => {}
+            }
+        }
+        self.wire.answer(FEATURES)
+    }
+
+    /// Answers with a part of the target description.
+    fn answer_description(&mut self, name: &[u8], window: Window) -> Result<(), AllocError> {
+        match name {
+            b"target.xml" => {
+                let text = target_description(self.alloc)?;
+                let part = part_of(self.alloc, text.as_bytes(), window)?;
+                self.wire.answer(part.as_slice())
+            }
+            _ => self.wire.answer(b"E00"),
+        }
+    }
+
+    /// Answers with all registers of the thread that is meant.
+    fn answer_registers(&mut self) -> Result<(), AllocError>
+        ensures { OnOk result (Answers self.old self.new (registers_shown (moment_in self.old) self.old.selection.general)) }
+    {
+        let text = registers_text(self.alloc, &self.timeline, self.selection.general)?;
+        self.answer(text.as_bytes())
+    }
+
+    /// Answers with one register of the thread that is meant.
+    fn answer_register(&mut self, number: u64) -> Result<(), AllocError>
+        ensures { OnOk result (Answers self.old self.new (text_or_error (one_register_shown (moment_in self.old) self.old.selection.general number))) }
+    {
+        let thread = self.selection.general;
+        let text = register_text(self.alloc, &self.timeline, thread, number)?;
+        self.answer_if_any(text)
+    }
+
+    /// Answers with the bytes that the thread sees that is meant, as far as they are mapped.
+    fn answer_memory(&mut self, window: Window) -> Result<(), AllocError>
+        ensures { OnOk result (Answers self.old self.new (text_or_error (memory_shown (moment_in self.old) self.old.selection.general window))) }
+    {
+        let thread = self.selection.general;
+        let text = memory_text(self.alloc, &self.timeline, thread, window)?;
+        self.answer_if_any(text)
+    }
+
+    /// Answers with a text, or that there is none.
+    fn answer_if_any(&mut self, text: Option<String>) -> Result<(), AllocError>
+        ensures { OnOk result (Answers self.old self.new (text_or_error (option_map string_bytes text))) }
+    {
+        match text {
+            Some(text) => self.answer(text.as_bytes()),
+            None => self.answer(b"E01"),
+        }
+    }
+
+    /// The program is gone for gdb.
+    fn let_go(&mut self) -> Result<(), AllocError> {
+        self.stop = Vec::from_slice(self.alloc, b"E01")?;
+        self.life = Life::Gone;
+        self.wire.answer(b"OK")
+    }
+
+    /// Does a command of the user's, given in digits.
+    fn command(&mut self, digits: &[u8]) -> Result<(), AllocError> {
+        let Some(text) = bytes_of_digits(self.alloc, digits)? else {
+            return self.wire.answer(b"E01");
+        };
+        let command = command_of(self.alloc, text.as_slice())?;
+        let listed = self.listed();
+        let chosen = perform(
+            self.alloc,
+            &mut self.wire,
+            &mut self.timeline,
+            listed,
+            command,
+        )?;
+        if chosen.is_some() {
+            self.chosen = chosen;
+        }
+        self.wire.answer(b"OK")
+    }
+
+    /// Begins the run again, at its start or at the step that the arguments name.
+    fn restart(&mut self, arguments: &[u8]) -> Result<(), AllocError> {
+        let step = step_named(self.alloc, arguments)?;
+        self.life = Life::Alive;
+        self.pursuit = None;
+        self.chosen = None;
+        self.told_end = None;
+        self.stuck = None;
+        self.watching.forget();
+        self.timeline.seek(step, u64::MAX)?;
+        self.begin()?;
+        self.send_stop()
+    }
+}

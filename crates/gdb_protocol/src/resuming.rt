@@ -1,0 +1,81 @@
+//! Resumes the run: what is looked at before the run goes on.
+use crate::pursuit::Pursuit;
+use crate::session::Session;
+use gdb_orders::{Order, order_of, order_selected};
+use gdb_packets::{Motion, actions_of};
+use std::alloc::AllocError;
+
+impl Session {
+    /// Resumes by the actions of a packet.
+    pub(crate) fn resume(&mut self, text: &[u8]) -> Result<(), AllocError> {
+        let Some(actions) = actions_of(self.alloc, text)? else {
+            return self.wire.answer(b"E01");
+        };
+        match order_of(actions.as_slice(), &self.selection, self.listed()) {
+            Some(order) => self.go_forward(order),
+            None => self.wire.answer(b"E01"),
+        }
+    }
+
+    /// Resumes the thread that moves, or all.
+    pub(crate) fn resume_selected(&mut self, motion: Motion) -> Result<(), AllocError> {
+        let order = order_selected(motion, &self.selection);
+        self.go_forward(order)
+    }
+
+    /// Goes forward by an order.
+    fn go_forward(&mut self, order: Order) -> Result<(), AllocError> {
+        self.start_motion();
+        if !order.is_step_alone() && self.takes_chosen() {
+            return Ok(());
+        }
+        if let Some(thread) = order.alone()
+            && thread != self.timeline.thread()
+        {
+            return self.tell_stuck(thread);
+        }
+        if self.told_end == Some(self.from)
+            && !order.is_step_among_others()
+            && let Some(outcome) = self.timeline.outcome()
+        {
+            return self.tell_over(outcome);
+        }
+        self.set_out(order)
+    }
+
+    /// Steps over a watch event that was told, tells a further one, or begins to pursue what is ordered.
+    fn set_out(&mut self, order: Order) -> Result<(), AllocError> {
+        if order.is_step_alone() {
+            if let Some(told) = self.told_at(order.alone()) {
+                return self.step_over(told);
+            }
+        } else if let Some(other) = self.watching.tell_other() {
+            self.arm()?;
+            return self.tell_other(other);
+        }
+        self.watching.move_on();
+        self.arm()?;
+        self.pursuit = Some(match order {
+            Order::Continue { alone } => Pursuit::Continue { alone },
+            Order::Step(stepper) => Pursuit::Turn(stepper),
+        });
+        Ok(())
+    }
+
+    /// Notes where a motion begins.
+    pub(crate) fn start_motion(&mut self) {
+        self.from = self.timeline.step_number();
+        self.printed = self.timeline.serial().output().len();
+    }
+
+    /// Begins to go to the step that was chosen for the next resume, if one was.
+    pub(crate) fn takes_chosen(&mut self) -> bool {
+        match self.chosen.take() {
+            Some(step) => {
+                self.pursuit = Some(Pursuit::Chosen(step));
+                true
+            }
+            None => false,
+        }
+    }
+}

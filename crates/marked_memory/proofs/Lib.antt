@@ -1,0 +1,4 @@
+pub mod Coding
+pub mod Executing
+pub mod Marking
+pub mod Reaching

@@ -1,0 +1,13 @@
+pub mod Advancing
+pub mod ByteMaps
+pub mod Instructions
+pub mod Merged
+pub mod Moving
+pub mod Passing
+pub mod Places
+pub mod Positions
+pub mod Quieting
+pub mod Skipping
+pub mod Turning
+pub mod Unmarked
+pub mod Walking

@@ -1,0 +1,309 @@
+-- The positions of a turn that are passed are such at which a motion doesn't halt.
+use Rattle.std.proofs.Common.{◌≡◌, ◌∙◌, ℕ, ◌+◌, ◌<◌, ◌≤◌, Bool, true, false, Option, Some, None, List, [], Result, Ok, Err, length, refl, sym, ap, subst, arith, inl, inr}
+use Rattle.std.proofs.lemmas.Bool.{cases_eq, cases_order}
+use Rattle.std.proofs.lemmas.Bool.Decides.{nat_tests}
+use Rattle.std.proofs.lemmas.List.{nil_from_length}
+use Rattle.std.specs.Prelude.{◌==◌, ◌||◌, is_some, not, option_map, option_and_then}
+use Rattle.std.specs.Result.{IfOk}
+use Rattle.guest_memory.specs.Memory.{Memory}
+use Rattle.hart.specs.HartState.{HartState}
+use Rattle.hart.specs.Segment.{counted}
+use Rattle.hart.specs.declared.stop.Stop.{Stop}
+use Rattle.hart.specs.declared.stop.Stop.TheVariants as stopped
+use Rattle.hart.specs.declared.trap.Trap.{Trap}
+use Rattle.segment.specs.declared.segment_end.SegmentEnd.{SegmentEnd}
+use Rattle.token.specs.Point.{Point, need_at}
+use Rattle.token.specs.declared.need.Need.{Need}
+use Rattle.token.specs.declared.need.Need.TheVariants as need
+use Rattle.twins.specs.View as views
+use Rattle.token.specs.declared.outcome.RunOutcome.{RunOutcome}
+use Rattle.timeline.specs.Halting.{IsPassed, IsPlain, address_at, end_at, end_by_need, end_by_stop, event_at}
+use Rattle.timeline.specs.Halts.{Wanted, access_event, address_halt, asks, first_of, instruction_halt, next_access, told_or_end, waits}
+use Rattle.timeline.specs.Moment.{Task, moment_at, state_in, stop_in, task_at, task_by}
+use Rattle.timeline.specs.Present.{IsTurns, moment_of, point_at, steps_of}
+use Rattle.timeline.specs.Quiet.{HaltsSo, IsLooked}
+use Rattle.timeline.specs.Running.{IsFurther, IsItsTrap, IsLast, IsProgress, IsRunning, task_of}
+use Rattle.timeline.specs.Shown.{Executing, own_at, own_by}
+use Rattle.timeline.specs.declared.halt.Halt.{Halt}
+use Rattle.timeline.specs.declared.halt.Halt.TheVariants.{End}
+use Rattle.timeline.specs.declared.present.Present.{Present}
+use Rattle.timeline.specs.declared.running.Progress.{Progress}
+use Rattle.timeline.specs.declared.running.Progress.TheVariants.{Stays, Halts, Over}
+use Rattle.timeline.specs.declared.running.Running.{Running}
+use Rattle.timeline.proofs.Places.{no_event}
+use Rattle.timeline.proofs.Positions.{within_turn}
+use Rattle.timeline.proofs.Unmarked.{not_waited}
+
+pub first_none : (one other : Option Halt) → first_of one other ≡ None → (one ≡ None) × (other ≡ None)
+first_none None other is = (refl, is)
+first_none (Some halt) other is = absurd (cc)
+
+pub first_some : (one other rest : Option Halt) (halt : Halt) → first_of one other ≡ Some halt → first_of one (first_of other rest) ≡ Some halt
+first_some None None rest halt is = absurd (cc)
+first_some None (Some other) rest halt is = is
+first_some (Some one) other rest halt is = is
+
+abbrev executing : Task → Option (HartState × Memory) → Option Executing
+executing task state = option_map (λ state. record { thread = task.work.thread; hart = state.0; memory = state.1 }) state
+
+own_in : (point : Point) (task : Task) (steps : ℕ) → task_at point ≡ Some task → own_at (record { point = point; steps = steps }) ≡ executing task (state_in task steps)
+unfolding own_at
+own_in point task steps is = ap (λ (task : Option Task). own_by task steps) is
+
+instruction_none : (wanted : Wanted) (task : Task) (state : Option (HartState × Memory))
+    → ((hart : HartState) (memory : Memory) → state ≡ Some (hart, memory) → instruction_halt wanted task.work.thread hart memory ≡ None)
+    → (address_at wanted (executing task state) ≡ None) × (event_at wanted.watches (executing task state) ≡ None)
+instruction_none wanted task None each = (refl, refl)
+instruction_none wanted task (Some state) each =
+    first_none (address_halt wanted task.work.thread state.0.pc) (access_event wanted.watches (next_access state.0 state.1)) (each state.0 state.1 refl)
+
+needed_by : (point : Point) (asked : Need) (task : Task) → task_by point asked ≡ Some task → end_by_need asked ≡ None
+needed_by point (need.Segment work) task is = refl
+needed_by point (need.Keeper work) task is = refl
+needed_by point (need.Wake thread) task is = absurd (cc)
+needed_by point (need.Ended outcome) task is = absurd (cc)
+
+needed : (point : Point) (task : Task) → task_at point ≡ Some task → end_by_need (need_at point) ≡ None
+unfolding task_at
+needed point task is = needed_by point (need_at point) task is
+
+no_trap_end : (stop : Option Stop) → ((trap : Trap) → stop ≡ Some (stopped.Trap trap) → ⊥) → end_by_stop stop ≡ None
+no_trap_end None never = refl
+no_trap_end (Some (stopped.Trap trap)) never = absurd (never trap refl)
+no_trap_end (Some stopped.Ecall) never = refl
+no_trap_end (Some stopped.Quantum) never = refl
+
+end_in : (point : Point) (task : Task) (steps : ℕ) → task_at point ≡ Some task → end_at (record { point = point; steps = steps }) ≡ first_of (end_by_stop (stop_in task steps)) None
+unfolding end_at
+end_in point task steps is =
+    ap (λ (found : Option Task). first_of (end_by_stop (option_and_then (λ task. stop_in task steps) found)) (end_by_need (need_at point))) is
+    ∙ ap (first_of (end_by_stop (stop_in task steps))) (needed point task is)
+
+plain : (wanted : Wanted) (point : Point) (task : Task) (steps : ℕ) → task_at point ≡ Some task
+    → ((hart : HartState) (memory : Memory) → state_in task steps ≡ Some (hart, memory) → instruction_halt wanted task.work.thread hart memory ≡ None)
+    → ((trap : Trap) → stop_in task steps ≡ Some (stopped.Trap trap) → ⊥) → ((k : ℕ) → k < steps → stop_in task k ≡ None) → (stop_in task steps ≡ Some stopped.Quantum → ⊥)
+    → IsPlain wanted point steps
+plain wanted point task steps is each never runs no_quantum =
+    let own = own_in point task steps is in
+    let none = instruction_none wanted task (state_in task steps) each in
+    record {
+      within = λ start before begins. within_turn start point task before steps begins is runs no_quantum;
+      address = ap (address_at wanted) own ∙ none.0;
+      event = ap (event_at wanted.watches) own ∙ none.1;
+      end = end_in point task steps is ∙ ap (λ (stop : Option Halt). first_of stop None) (no_trap_end (stop_in task steps) never);
+    }
+
+-- the instructions from one position of a segment to another
+abbrev pub Still : Wanted → Task → ℕ → ℕ → Type 0
+Still wanted task from to = (k : ℕ) (hart : HartState) (memory : Memory) → from ≤ k → k < to → state_in task k ≡ Some (hart, memory) → instruction_halt wanted task.work.thread hart memory ≡ None
+
+abbrev pub StillBy : Wanted → Running → Progress → Running → Type 0
+StillBy wanted old Stays new = Still wanted (task_of old) old.done new.done
+StillBy wanted old (Halts halt) new = Still wanted (task_of old) old.done new.done × HaltsSo wanted halt new
+StillBy wanted old (Over None) new = Unit {0}
+StillBy wanted old (Over (Some end)) new = Still wanted (task_of old) old.done end.count
+
+pub looked_still : (wanted : Wanted) (old new : Running) (progress : Progress) → IsLooked wanted old progress new → StillBy wanted old progress new
+looked_still wanted old new Stays is = is.instructions
+looked_still wanted old new (Halts halt) is = (is.0.instructions, is.1)
+looked_still wanted old new (Over None) is = tt
+looked_still wanted old new (Over (Some end)) is = is.instructions
+
+-- before its end a segment finds no trap
+counted_by : (stop : Stop) (steps : ℕ) → counted stop steps ≤ steps + 1
+counted_by (stopped.Trap trap) steps = omega arith
+counted_by stopped.Ecall steps = omega arith
+counted_by stopped.Quantum steps = omega arith
+
+never_traps : (task : Task) (end : SegmentEnd) (k : ℕ) (trap : Trap) → IsLast task end → k < end.count → stop_in task k ≡ Some (stopped.Trap trap) → ⊥
+never_traps task end k trap last within is =
+    let segment = last.end_of.segment_is in
+    let most : end.count ≤ segment.steps + 1 = rw segment.count_is (counted_by end.stop segment.steps) in
+    elim (cases_eq k segment.steps) [
+      | inl same ↦
+          let stops : Some end.stop ≡ Some (stopped.Trap trap) = sym segment.stops ∙ ap (stop_in task) (sym same) ∙ is in
+          last.no_trap trap (ap (stop_or end.stop) stops)
+      | inr other ↦ let none = segment.running k (omega arith) in cc
+    ]
+  where
+    stop_or : Stop → Option Stop → Stop
+    stop_or stop None = stop
+    stop_or stop (Some other) = other
+
+never_quantum : (task : Task) (end : SegmentEnd) (k : ℕ) → IsLast task end → k < end.count → stop_in task k ≡ Some stopped.Quantum → ⊥
+never_quantum task end k last within is =
+    let segment = last.end_of.segment_is in
+    elim (cases_order k segment.steps) [
+      | inl same ↦
+          let stops : Some end.stop ≡ Some stopped.Quantum = sym segment.stops ∙ ap (stop_in task) (sym same) ∙ is in
+          let quantum : end.stop ≡ stopped.Quantum = ap (stop_or end.stop) stops in
+          let count : end.count ≡ segment.steps = segment.count_is ∙ ap (λ (stop : Stop). counted stop segment.steps) quantum in
+          absurd (omega (arith, count, same, within))
+      | inr (inl below) ↦ let none = segment.running k below in cc
+      | inr (inr above) ↦
+          let most : end.count ≤ segment.steps + 1 = rw segment.count_is (counted_by end.stop segment.steps) in
+          absurd (omega (arith, most, above, within))
+    ]
+  where
+    stop_or : Stop → Option Stop → Stop
+    stop_or stop None = stop
+    stop_or stop (Some other) = other
+
+runs_before : (task : Task) (end : SegmentEnd) (k : ℕ) → IsLast task end → k < end.count → (j : ℕ) → j < k → stop_in task j ≡ None
+runs_before task end k last within j below =
+    let segment = last.end_of.segment_is in
+    let most : end.count ≤ segment.steps + 1 = rw segment.count_is (counted_by end.stop segment.steps) in
+    segment.running j (omega (arith, most, below, within))
+
+running_runs : (running : Running) (task : Task) (k : ℕ) → IsRunning running → task_of running ≡ task → k < running.done → stop_in task k ≡ None
+running_runs running task k is same within = ap (λ (task : Task). stop_in task k) (sym same) ∙ is.stands.runs.running k within
+
+running_never : (running : Running) (k : ℕ) (trap : Trap) → IsRunning running → k < running.done → stop_in (task_of running) k ≡ Some (stopped.Trap trap) → ⊥
+running_never running k trap is within stops = let none = is.stands.runs.running k within in cc
+
+halting : (wanted : Wanted) (old : Present) (running new : Running) (halt : Halt) → task_at (point_at old) ≡ Some (task_of new) → IsRunning new → HaltsSo wanted halt new
+    → first_of (address_at wanted (own_at (moment_of (record old { running = Some new })))) (first_of (event_at wanted.watches (own_at (moment_of (record old { running = Some new })))) (end_at (moment_of (record old { running = Some new })))) ≡ Some halt
+halting wanted old running new halt needs is so =
+    let own : own_at (record { point = point_at old; steps = new.done }) ≡ Some (record { thread = new.work.thread; hart = new.hart; memory = views.cells_of new.view }) =
+    own_in (point_at old) (task_of new) new.done needs ∙ ap (executing (task_of new)) is.stands.runs.reached in
+    let end = end_in (point_at old) (task_of new) new.done needs in
+    rw (own, end) (by so)
+  where
+    address : Option Halt
+    address = address_halt wanted new.work.thread new.hart.pc
+
+    event : Option Halt
+    event = access_event wanted.watches (next_access new.hart (views.cells_of new.view))
+
+    by : HaltsSo wanted halt new → first_of address (first_of event (first_of (end_by_stop (stop_in (task_of new) new.done)) None)) ≡ Some halt
+    by (inl told) = first_some address event (first_of (end_by_stop (stop_in (task_of new) new.done)) None) halt told
+    by (inr (none, at_end, (trap, trapped))) =
+        let both = first_none address event none in
+        let stops : stop_in (task_of new) new.done ≡ Some (stopped.Trap trap) = subst (λ (found : Option Trap). IsItsTrap (task_of new) new.done found) trapped is.stands.is_trap in
+        rw (both.0, both.1, stops, at_end) refl
+
+passed_by : (wanted : Wanted) (old : Present) (running new : Running) (most : ℕ) (progress : Progress) → old.running ≡ Some running → IsTurns (point_at old) (Some running)
+    → IsFurther running most progress new → StillBy wanted running progress new → IsPassed wanted old progress (record old { running = Some new })
+passed_by wanted old running new most Stays is turns further still =
+    let steps : steps_of old.running ≡ running.done = ap steps_of is in
+    λ k low high.
+    plain wanted (point_at old) (task_of running) k turns.1 (λ hart memory there. still k hart memory (rw steps at low) high there)
+    (λ trap stops. running_never new k trap further.0 high (ap (λ (task : Task). stop_in task k) further.1 ∙ stops))
+    (λ j below. running_runs new (task_of running) j further.0 further.1 (omega (arith, below, high)))
+    (λ quantum. let none = running_runs new (task_of running) k further.0 further.1 high in cc)
+passed_by wanted old running new most (Halts halt) is turns further still =
+    let steps : steps_of old.running ≡ running.done = ap steps_of is in (
+      (λ k low high.
+          plain wanted (point_at old) (task_of running) k turns.1 (λ hart memory there. still.0 k hart memory (rw steps at low) high there)
+          (λ trap stops. running_never new k trap further.0 high (ap (λ (task : Task). stop_in task k) further.1 ∙ stops))
+          (λ j below. running_runs new (task_of running) j further.0 further.1 (omega (arith, below, high)))
+          (λ quantum. let none = running_runs new (task_of running) k further.0 further.1 high in cc)),
+      halting wanted old running new halt (turns.1 ∙ ap Some (sym further.1)) further.0 still.1,
+    )
+passed_by wanted old running new most (Over None) is turns further still = let some = further.1 in cc
+passed_by wanted old running new most (Over (Some end)) is turns further still =
+    let steps : steps_of old.running ≡ running.done = ap steps_of is in
+    λ k low high.
+    plain wanted (point_at old) (task_of running) k turns.1 (λ hart memory there. still k hart memory (rw steps at low) high there)
+    (λ trap stops. never_traps (task_of running) end k trap further.0.0 high stops) (runs_before (task_of running) end k further.0.0 high)
+    (never_quantum (task_of running) end k further.0.0 high)
+
+pub passed : {E : Type 0} (wanted : Wanted) (old : Present) (running new : Running) (most : ℕ) (result : Result Progress E) → old.running ≡ Some running → IsTurns (point_at old) (Some running)
+    → IfOk result (λ progress. IsFurther running most progress new) → IfOk result (λ progress. StillBy wanted running progress new)
+    → IfOk result (λ progress. IsPassed wanted old progress (record old { running = Some new }))
+passed wanted old running new most (Err error) is turns further still = further
+passed wanted old running new most (Ok progress) is turns further still = passed_by wanted old running new most progress is turns further still
+
+pub all_looked : {E : Type 0} (wanted : Wanted) (old new : Running) (result : Result Progress E) → IfOk result (λ progress. IsLooked wanted old progress new)
+    → IfOk result (λ progress. StillBy wanted old progress new)
+all_looked wanted old new (Err error) is = is
+all_looked wanted old new (Ok progress) is = looked_still wanted old new progress is
+
+-- where nothing is asked for, it halts at no instruction
+
+empty : {A : Type 0} (items : List A) → not (length items == 0) ≡ false → items ≡ []
+empty items is = nil_from_length items (grind (arith, nat_tests))
+
+first_false : (one other : Bool) → (one || other) ≡ false → one ≡ false
+first_false true other is = is
+first_false false other is = refl
+
+other_false : (one other : Bool) → (one || other) ≡ false → other ≡ false
+other_false true other is = absurd (cc)
+other_false false other is = is
+
+unasked : (wanted : Wanted) (thread : ℕ) → asks wanted thread ≡ false → (hart : HartState) (memory : Memory) → instruction_halt wanted thread hart memory ≡ None
+unfolding address_halt
+unasked wanted thread is = λ hart memory.
+    let some_breakpoints : Bool = not (length wanted.breakpoints == 0) in
+    let some_watches : Bool = not (length wanted.watches == 0) in
+    let before = first_false (waits wanted.arrival thread || some_breakpoints) some_watches is in
+    let waiting = first_false (waits wanted.arrival thread) some_breakpoints before in
+    let breakpoints = empty wanted.breakpoints (other_false (waits wanted.arrival thread) some_breakpoints before) in
+    let watches = empty wanted.watches (other_false (waits wanted.arrival thread || some_breakpoints) some_watches is) in
+    let elsewhere = not_waited wanted.arrival thread hart.pc waiting in
+    rw (breakpoints, watches, elsewhere) (sym (no_event (next_access hart memory)))
+
+unasked_by : (wanted : Wanted) (old new : Running) (most : ℕ) (progress : Progress) → asks wanted old.work.thread ≡ false → IsProgress old most progress new → StillBy wanted old progress new
+unasked_by wanted old new most Stays none is = λ k hart memory low high there. unasked wanted old.work.thread none hart memory
+unasked_by wanted old new most (Halts halt) none is =
+    let thread : new.work.thread ≡ old.work.thread = ap (λ (task : Task). task.work.thread) is.2 in (
+      (λ k hart memory low high there. unasked wanted old.work.thread none hart memory),
+      inr (rw thread (unasked wanted old.work.thread none new.hart (views.cells_of new.view)), is.0, is.4),
+    )
+unasked_by wanted old new most (Over None) none is = tt
+unasked_by wanted old new most (Over (Some end)) none is = λ k hart memory low high there. unasked wanted old.work.thread none hart memory
+
+pub all_unasked : {E : Type 0} (wanted : Wanted) (old new : Running) (most : ℕ) (result : Result Progress E) → asks wanted old.work.thread ≡ false
+    → IfOk result (λ progress. IsProgress old most progress new) → IfOk result (λ progress. StillBy wanted old progress new)
+all_unasked wanted old new most (Err error) none is = is
+all_unasked wanted old new most (Ok progress) none is = unasked_by wanted old new most progress none is
+
+-- at a trap that is known it halts for the instruction, or at the end
+pub at_trap : (wanted : Wanted) (old : Present) (running : Running) (told : Option Halt) (trap : Trap) → old.running ≡ Some running → IsTurns (point_at old) (Some running)
+    → told ≡ instruction_halt wanted running.work.thread running.hart (views.cells_of running.view) → running.trap ≡ Some trap
+    → IsPassed wanted old (Halts (told_or_end told)) (record old { running = Some running })
+at_trap wanted old running told trap is turns here trapped =
+    let steps : steps_of old.running ≡ running.done = ap steps_of is in
+    ((λ k low high. absurd (omega (arith, low, high, steps))), halting wanted old running running (told_or_end told) turns.1 turns.0 (by told here))
+  where
+    by : (told : Option Halt) → told ≡ instruction_halt wanted running.work.thread running.hart (views.cells_of running.view) → HaltsSo wanted (told_or_end told) running
+    by None here = inr (sym here, refl, (trap, trapped))
+    by (Some halt) here = inl (sym here)
+
+-- a turn without a segment
+
+without : (wanted : Wanted) (point : Point) (steps : ℕ) → task_at point ≡ None → (own_at (record { point = point; steps = steps }) ≡ None) × (end_at (record { point = point; steps = steps }) ≡ end_by_need (need_at point))
+unfolding own_at end_at
+without wanted point steps none = (
+  ap (λ (task : Option Task). own_by task steps) none,
+  ap (λ (found : Option Task). first_of (end_by_stop (option_and_then (λ task. stop_in task steps) found)) (end_by_need (need_at point))) none,
+)
+
+pub at_end : (wanted : Wanted) (old : Present) (outcome : RunOutcome) → task_at (point_at old) ≡ None → need_at (point_at old) ≡ need.Ended outcome → IsPassed wanted old (Halts End) old
+at_end wanted old outcome none ended =
+    let here = without wanted (point_at old) (steps_of old.running) none in (
+      (λ k low high. absurd (omega (arith, low, high))),
+      ap (λ (own : Option Executing). first_of (address_at wanted own) (first_of (event_at wanted.watches own) (end_at (moment_of old)))) here.0 ∙ here.1 ∙ ap end_by_need ended,
+    )
+
+pub at_wake : (wanted : Wanted) (old : Present) → task_at (point_at old) ≡ None → ((outcome : RunOutcome) → need_at (point_at old) ≡ need.Ended outcome → ⊥) → IsPassed wanted old (Over None) old
+at_wake wanted old none goes_on = λ k low high.
+    let here = without wanted (point_at old) k none in
+    let first : k ≡ 0 = omega (arith, high) in
+    record {
+      within = λ start before begins. rw first (let same : before + 0 ≡ before = omega arith in ap (moment_at start) same ∙ begins);
+      address = ap (address_at wanted) here.0;
+      event = ap (event_at wanted.watches) here.0;
+      end = here.1 ∙ by (need_at (point_at old)) goes_on;
+    }
+  where
+    by : (asked : Need) → ((outcome : RunOutcome) → asked ≡ need.Ended outcome → ⊥) → end_by_need asked ≡ None
+    by (need.Segment work) never = refl
+    by (need.Keeper work) never = refl
+    by (need.Wake thread) never = refl
+    by (need.Ended outcome) never = absurd (never outcome refl)
+
+pub trap_of : (found : Option Trap) → is_some found ≡ true → (trap : Trap) × (found ≡ Some trap)
+trap_of None is = absurd (cc)
+trap_of (Some trap) is = (trap, refl)

@@ -1,0 +1,100 @@
+-- How a run walks over the positions of a turn.
+use Rattle.std.proofs.Common.{◌≡◌, ◌∙◌, ℕ, ◌+◌, ◌-◌, ◌<◌, ◌≤◌, true, Option, Some, None, Result, Ok, Err, refl, sym, ap, arith, inl, inr}
+use Rattle.std.specs.Result.{IfOk}
+use Rattle.std.proofs.lemmas.Bool.{cases_order}
+use Rattle.token.specs.Point.{Point}
+use Rattle.timeline.specs.Halting.{ArePlain, IsCallEvent, IsPlain, IsPlainWalk, IsNoHalt, IsWalked, IsWatchEvent, NoneBetween, NoneHalts, address_at, end_at, event_at, halts_at, threads_at}
+use Rattle.timeline.specs.Halts.{Wanted, first_of, is_call, next_instr}
+use Rattle.timeline.specs.Moment.{Moment, moment_at}
+use Rattle.timeline.specs.Present.{BeginsAt, moment_of, point_at, step_of, steps_of}
+use Rattle.timeline.specs.Shown.{Executing, own_at}
+use Rattle.timeline.specs.declared.halt.Halt.{Halt}
+use Rattle.timeline.specs.declared.halt.Halt.TheVariants.{Breakpoint, Watched, Arrived, OtherThread, NewThread, End, Start, GoesOn}
+use Rattle.timeline.specs.declared.present.Present.{Present}
+use Rattle.timeline.proofs.Passing.{first_none, first_some}
+
+pub call_event : (halt : Halt) (own : Executing) → IsWatchEvent halt → is_call (next_instr own.hart own.memory) ≡ true → IsCallEvent halt (Some own)
+call_event (Watched place) own is call = call
+call_event Breakpoint own is call = absurd is
+call_event Arrived own is call = absurd is
+call_event OtherThread own is call = absurd is
+call_event NewThread own is call = absurd is
+call_event End own is call = absurd is
+call_event Start own is call = absurd is
+call_event GoesOn own is call = absurd is
+
+no_halt : (wanted : Wanted) (point : Point) (steps : ℕ) → IsPlain wanted point steps → threads_at wanted point ≡ None → halts_at wanted (record { point = point; steps = steps }) ≡ None
+unfolding halts_at
+no_halt wanted point steps plain threads = rw (plain.address, threads, plain.event, plain.end) refl
+
+none_here : (wanted : Wanted) (point : Point) (steps : ℕ) → IsPlain wanted point steps → threads_at wanted point ≡ None → IsNoHalt wanted point steps
+none_here wanted point steps plain threads = record { within = plain.within; none = no_halt wanted point steps plain threads }
+
+same_moment : (one other : Present) → point_at one ≡ point_at other → steps_of one.running ≡ steps_of other.running → moment_of one ≡ moment_of other
+same_moment one other point steps = λ i. record { point = point i; steps = steps i }
+
+-- It halts where it stands.
+pub halts_here : (wanted : Wanted) (old begun : Present) (halt : Halt) → point_at begun ≡ point_at old → steps_of begun.running ≡ steps_of old.running → step_of begun ≡ step_of old
+    → first_of (address_at wanted (own_at (moment_of begun))) (threads_at wanted (point_at begun)) ≡ Some halt → IsWalked wanted old (Some halt) begun
+unfolding halts_at
+halts_here wanted old begun halt point steps step told = (
+  (λ k low high. absurd (omega (arith, step, low, high))),
+  inl (first_some (address_at wanted (own_at (moment_of begun))) (threads_at wanted (point_at begun)) (first_of (event_at wanted.watches (own_at (moment_of begun))) (end_at (moment_of begun))) halt told),
+)
+
+-- It halts at a call.
+pub calls_here : (wanted : Wanted) (old begun : Present) (halt : Halt) → step_of begun ≡ step_of old → IsCallEvent halt (own_at (moment_of begun)) → IsWalked wanted old (Some halt) begun
+calls_here wanted old begun halt step event = ((λ k low high. absurd (omega (arith, step, low, high))), inr event)
+
+-- It goes on from where it doesn't halt.
+pub walks : (wanted : Wanted) (old begun new : Present) (halt : Option Halt) → point_at begun ≡ point_at old → steps_of begun.running ≡ steps_of old.running → step_of begun ≡ step_of old
+    → first_of (address_at wanted (own_at (moment_of begun))) (threads_at wanted (point_at begun)) ≡ None → IsPlainWalk wanted begun halt new → IsWalked wanted old halt new
+unfolding halts_at
+walks wanted old begun new None point steps step none walk =
+    let threads = (first_none (address_at wanted (own_at (moment_of begun))) (threads_at wanted (point_at begun)) none).1 in
+    λ k low high. rw (sym point) (none_here wanted (point_at begun) k (walk k (omega (arith, low, steps)) (omega (arith, high, steps, step))) threads)
+walks wanted old begun new (Some halt) point steps step none walk =
+    let threads = (first_none (address_at wanted (own_at (moment_of begun))) (threads_at wanted (point_at begun)) none).1 in
+    let threads_new : threads_at wanted (point_at new) ≡ None = ap (threads_at wanted) walk.1 ∙ threads in (
+      (λ k low high. rw (sym point) (none_here wanted (point_at begun) k (walk.0 k (omega (arith, low, steps)) (omega (arith, high, steps, step))) threads)),
+      inl (rw threads_new walk.2),
+    )
+
+pub all_walk : {E : Type 0} (wanted : Wanted) (old begun new : Present) (result : Result (Option Halt) E) → point_at begun ≡ point_at old → steps_of begun.running ≡ steps_of old.running
+    → step_of begun ≡ step_of old → first_of (address_at wanted (own_at (moment_of begun))) (threads_at wanted (point_at begun)) ≡ None
+    → IfOk result (λ halt. IsPlainWalk wanted begun halt new) → IfOk result (λ halt. IsWalked wanted old halt new)
+all_walk wanted old begun new (Err error) point steps step none walk = walk
+all_walk wanted old begun new (Ok halt) point steps step none walk = walks wanted old begun new halt point steps step none walk
+
+-- the positions that were passed, by the steps that were made
+pub stays : (wanted : Wanted) (old new : Present) → new.before ≡ old.before → ArePlain wanted (point_at old) (steps_of old.running) (steps_of new.running)
+    → ArePlain wanted (point_at old) (steps_of old.running) (steps_of old.running + (step_of new - step_of old))
+stays wanted old new before plain = λ k low high. plain k low (omega (arith, low, high, before))
+
+pub turns : (wanted : Wanted) (old new : Present) (count : ℕ) → new.running ≡ None → new.before ≡ old.before + count → ArePlain wanted (point_at old) (steps_of old.running) count
+    → ArePlain wanted (point_at old) (steps_of old.running) (steps_of old.running + (step_of new - step_of old))
+turns wanted old new count none before plain =
+    let steps : steps_of new.running ≡ 0 = ap steps_of none in
+    λ k low high. plain k low (omega (arith, low, high, before, steps))
+
+-- the positions of a turn that were passed follow those that were passed before
+pub passed_more : (wanted : Wanted) (start : Point) (old new : Present) (from : ℕ) → BeginsAt start old → NoneHalts wanted (point_at old) (steps_of old.running) (steps_of old.running + (step_of new - step_of old))
+    → NoneBetween wanted start from (step_of old) → NoneBetween wanted start from (step_of new)
+passed_more wanted start old new from begins none before = λ n low high.
+    elim (cases_order n (step_of old)) [
+      | inl same ↦ later n low high (omega (arith, same))
+      | inr (inl below) ↦ before n low below
+      | inr (inr above) ↦ later n low high (omega (arith, above))
+    ]
+  where
+    later : (n : ℕ) → from ≤ n → n < step_of new → step_of old ≤ n → (moment : Moment) × (moment_at start n ≡ Some moment) × (halts_at wanted moment ≡ None)
+    later n low high past =
+        let k : ℕ = n - old.before in
+        let there = none k (omega (arith, past)) (omega (arith, past, high)) in
+        let same : n ≡ old.before + k = omega (arith, past) in
+        (record { point = point_at old; steps = k }, ap (moment_at start) same ∙ there.within start old.before begins, there.none)
+
+pub passed_by_walk : (wanted : Wanted) (start : Point) (old new : Present) (halt : Option Halt) (from : ℕ) → BeginsAt start old → IsWalked wanted old halt new
+    → NoneBetween wanted start from (step_of old) → NoneBetween wanted start from (step_of new)
+passed_by_walk wanted start old new None from begins walked before = passed_more wanted start old new from begins walked before
+passed_by_walk wanted start old new (Some halt) from begins walked before = passed_more wanted start old new from begins walked.0 before

@@ -1,0 +1,14 @@
+use Rattle.std.proofs.Common.{◌≡◌, ◌≤◌, ◌^◌}
+use Rattle.timeline.specs.Line.{IsLine, start_of}
+use Rattle.timeline.specs.Present.{BeginsAt, IsSound}
+use Rattle.timeline.proofs.line.Line.go_back.Given as goal
+
+abbrev pub invariant-loop-distance : goal.invariant-loop-distance
+invariant-loop-distance l =
+    record {
+      line : IsLine l.self;
+      run : start_of l.self ≡ start_of l.fn.self;
+      sound : IsSound l.present;
+      begins : BeginsAt (start_of l.self) l.present;
+      few : l.step ≤ 2 ^ 63;
+    }

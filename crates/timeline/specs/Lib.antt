@@ -1,0 +1,10 @@
+pub mod Checkpoint
+pub mod Checkpoints
+pub mod Halting
+pub mod Halts
+pub mod Line
+pub mod Moment
+pub mod Present
+pub mod Quiet
+pub mod Running
+pub mod Shown

@@ -1,0 +1,39 @@
+-- The positions of a segment at which a motion doesn't halt.
+use Rattle.std.specs.Prelude.{◌≡◌, ◌≢◌, ◌⊎◌, ℕ, ◌<◌, ◌≤◌, false, Some, None, IfSome, []}
+use Rattle.guest_memory.specs.Memory.{Memory}
+use Rattle.hart.specs.HartState.{HartState}
+use Rattle.hart.specs.declared.trap.Trap.{Trap}
+use Rattle.timeline.specs.Halts.{Wanted, instruction_halt, is_call, next_instr}
+use Rattle.timeline.specs.Moment.{Task, state_in}
+use Rattle.timeline.specs.Running.{task_of}
+use Rattle.timeline.specs.declared.halt.Halt.{Halt}
+use Rattle.timeline.specs.declared.halt.Halt.TheVariants.{End}
+use Rattle.timeline.specs.declared.running.Progress.{Progress}
+use Rattle.timeline.specs.declared.running.Progress.TheVariants.{Stays, Halts, Over}
+use Rattle.timeline.specs.declared.running.Running.{Running}
+use Rattle.twins.specs.View as views
+
+-- It halts at none of these for the instruction, and none is a call.
+pub record IsStill (wanted : Wanted) (task : Task) (from to : ℕ) : Type 0 where
+  pub instructions : (k : ℕ) (hart : HartState) (memory : Memory) → from ≤ k → k < to → state_in task k ≡ Some (hart, memory)
+      → instruction_halt wanted task.work.thread hart memory ≡ None
+  pub calls : (k : ℕ) (hart : HartState) (memory : Memory) → from ≤ k → k < to → state_in task k ≡ Some (hart, memory) → is_call (next_instr hart memory) ≡ false
+
+-- It halts at none of these for the instruction, and after the first one no call comes next if something is watched.
+pub record IsQuiet (wanted : Wanted) (task : Task) (from to : ℕ) : Type 0 where
+  pub instructions : (k : ℕ) (hart : HartState) (memory : Memory) → from ≤ k → k < to → state_in task k ≡ Some (hart, memory)
+      → instruction_halt wanted task.work.thread hart memory ≡ None
+  pub calls : (k : ℕ) (hart : HartState) (memory : Memory) → from < k → k < to → state_in task k ≡ Some (hart, memory) → wanted.watches ≢ []
+      → is_call (next_instr hart memory) ≡ false
+
+-- It halts for the instruction, or at the end for a trap.
+abbrev pub HaltsSo : Wanted → Halt → Running → Type 0
+HaltsSo wanted halt running =
+    (instruction_halt wanted running.work.thread running.hart (views.cells_of running.view) ≡ Some halt)
+    ⊎ ((instruction_halt wanted running.work.thread running.hart (views.cells_of running.view) ≡ None) × (halt ≡ End) × ((trap : Trap) × (running.trap ≡ Some trap)))
+
+-- It doesn't halt on the way.
+abbrev pub IsLooked : Wanted → Running → Progress → Running → Type 0
+IsLooked wanted old Stays new = IsQuiet wanted (task_of old) old.done new.done
+IsLooked wanted old (Halts halt) new = IsQuiet wanted (task_of old) old.done new.done × HaltsSo wanted halt new
+IsLooked wanted old (Over end) new = IfSome end (λ end. IsQuiet wanted (task_of old) old.done end.count)

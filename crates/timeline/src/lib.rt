@@ -1,0 +1,30 @@
+//! A run that can be asked for any of its positions, forward and back.
+//!
+//! A position is a turn and how many instructions of the turn's segment were executed. A [`Timeline`] stands at one and goes
+//! to others: forward by execution, back by execution from a checkpoint.
+#![tactic(auto)]
+
+mod access;
+mod calls;
+mod checkpoint;
+mod checkpoints;
+mod halt;
+mod line;
+mod motion;
+mod present;
+mod running;
+mod scout;
+mod shown;
+mod spacing;
+mod stage;
+mod stops;
+mod timeline;
+
+pub use halt::Halt;
+pub use marked_memory::{Watch, WatchKind};
+pub use motion::moved;
+pub use shown::Sees;
+pub use spacing::Spacing;
+pub use stage::Stage;
+pub use stops::{Arrival, Stops};
+pub use timeline::Timeline;

@@ -1,0 +1,302 @@
+//! A run at a position: what stands before the turn, and the turn's segment once it has begun.
+ghost use Rattle.std.specs.Prelude.{◌≡◌, ◌<◌, ◌≤◌, ◌^◌, None, Some, IfOk, IfSome, OnOk, is_some};
+ghost use Rattle.std.specs.Prelude.{◌+◌, length, option_map, OnErr};
+ghost use Rattle.token.specs.Point.{Point, IsNeededAt, moved, step_at};
+ghost use Rattle.timeline.specs.Checkpoint.{HasBegun};
+ghost use Rattle.timeline.specs.Present.{count_of, IsWent};
+
+use crate::checkpoint::Begun;
+use crate::halt::Halt;
+use crate::running::{Progress, Running};
+use crate::stops::Stops;
+use std::alloc::AllocError;
+use token::{Need, NoRecord, SegmentEnd, Serial, TurnFault};
+
+/// The last step that is counted. No run comes near it: that would take thousands of years.
+pub(crate) const MOST_STEPS: u64 = 1 << 63;
+
+/// A run at a position.
+#[derive(Drop)]
+pub(crate) struct Present {
+    /// What stands before the present turn.
+    pub(crate) serial: Box<Serial<NoRecord>>,
+    /// The segment of the present turn, once it has begun. Where it hasn't, nothing of it is executed.
+    pub(crate) running: Option<Running>,
+    /// How many steps were made before the present turn.
+    pub(crate) before: u64,
+    /// The thread of the last turn.
+    pub(crate) last: u32,
+}
+
+impl Present {
+    ghost use Rattle.token.specs.RunInTurn.{point_of};
+    ghost use Rattle.timeline.specs.Moment.{task_at};
+    ghost use Rattle.token.specs.Point.{need_at};
+    ghost use Rattle.timeline.specs.Halting.{IsPassed, IsPlainWalk, IsWalked, address_at, moves_other, threads_at};
+    ghost use Rattle.timeline.specs.Halts as halts;
+    ghost use Rattle.timeline.specs.Present.{BeginsAt, IsBegun, IsSound, IsStep, moment_of, point_at, step_of, steps_of};
+    ghost use Rattle.timeline.specs.Shown.{own_at};
+
+    /// The first position of a run.
+    pub(crate) fn first(serial: Serial<NoRecord>) -> Result<Self, AllocError>
+        requires { IfSome (point_of serial).setup.quantum (λ q. 0 < q) }
+        ensures sound { IfOk result IsSound }
+        ensures point { IfOk result (λ present. point_at present ≡ point_of serial) }
+        ensures before { IfOk result (λ present. present.before ≡ 0) }
+        ensures running { IfOk result (λ present. present.running ≡ None) }
+    {
+        let alloc = serial.now().allocator();
+        Ok(Present {
+            serial: Box::new(alloc, serial)?,
+            running: None,
+            before: 0,
+            last: 0,
+        })
+    }
+
+    /// How many steps were made.
+    pub(crate) fn step_number(&self) -> u64
+        requires { IsSound self.now }
+        ensures { result ≡ step_of self.now }
+    {
+        self.before + self.steps()
+    }
+
+    /// How many instructions of the present turn were executed.
+    pub(crate) fn steps(&self) -> u64
+        ensures { result ≡ steps_of self.now.running }
+    {
+        match &self.running {
+            Some(running) => running.done,
+            None => 0,
+        }
+    }
+
+    /// The thread whose turn it is, at the end that of the last turn.
+    pub(crate) fn thread(&self) -> u32 {
+        if let Some(running) = &self.running {
+            return running.work.thread;
+        }
+        match self.serial.need() {
+            Need::Segment(work) | Need::Keeper(work) => work.thread,
+            Need::Wake { thread } => thread,
+            Need::Ended(_) => self.last,
+        }
+    }
+
+    /// Begins the segment of the present turn, if it has one that hasn't begun.
+    #[tactic(auto, unfolding(crate::specs::Moment::task_at))]
+    pub(crate) fn begin(&mut self) -> Result<(), AllocError>
+        requires { IsSound self.old }
+        ensures sound { IsSound self.new }
+        ensures serial { self.new.serial ≡ self.old.serial }
+        ensures before { self.new.before ≡ self.old.before }
+        ensures step { step_of self.new ≡ step_of self.old }
+        ensures begun { OnOk result (IsBegun (point_at self.new) self.new.running) }
+    {
+        if self.running.is_some() {
+            return Ok(());
+        }
+        match self.serial.need() {
+            Need::Segment(work) => {
+                let running = Running::begin(work, self.serial.base())?;
+                self.running = Some(running);
+                Ok(())
+            }
+            Need::Keeper(work) => {
+                let running = Running::begin(work, self.serial.now())?;
+                self.running = Some(running);
+                Ok(())
+            }
+            Need::Wake { .. } => Ok(()),
+            Need::Ended(_) => Ok(()),
+        }
+    }
+
+    /// Stands where a segment of the present turn stood that was kept.
+    pub(crate) fn resume(&mut self, begun: &Begun) -> Result<(), AllocError>
+        requires sound { IsSound self.old }
+        requires begun { HasBegun (point_at self.old) begun.now }
+        requires few { self.old.before + begun.now.done ≤ 2 ^ 63 }
+        ensures sound { OnOk result (IsSound self.new) }
+        ensures serial { OnOk result (self.new.serial ≡ self.old.serial) }
+        ensures before { OnOk result (self.new.before ≡ self.old.before) }
+        ensures step { OnOk result (step_of self.new ≡ self.old.before + begun.now.done) }
+    {
+        self.begin()?;
+        match &mut self.running {
+            Some(running) => running.resume(begun),
+            None => unreachable!(),
+        }
+    }
+
+    /// Goes on within the present turn or over its end, as far as a step that is to come. Answers why it halts before
+    /// that, none if it doesn't. If memory is refused it stands at the turn's start at the latest.
+    pub(crate) fn go_on(&mut self, stops: &Stops<'_>, until: u64) -> Result<Option<Halt>, TurnFault>
+        requires sound { IsSound self.old }
+        requires further { step_of self.old < until }
+        requires few { until ≤ 2 ^ 63 }
+        ensures sound { IsSound self.new }
+        ensures begins { (start : Point) → BeginsAt start self.old → BeginsAt start self.new }
+        ensures step { IfOk result (λ halt. IsStep self.old until halt self.new) }
+        ensures walked { IfOk result (λ halt. IsWalked (halts.wanted_by stops.now) self.old halt self.new) }
+    {
+        self.begin()?;
+        if let Some(halt) = self.halt_here(stops) {
+            return Ok(Some(halt));
+        }
+        if let Some(halt) = self.call_halt(stops)? {
+            return Ok(Some(halt));
+        }
+        self.proceed(stops, until)
+    }
+
+    /// Goes on within the present turn or over its end, wherever it stands, as far as a step that is to come. If memory is
+    /// refused it stands at the turn's start at the latest.
+    pub(crate) fn proceed(
+        &mut self,
+        stops: &Stops<'_>,
+        until: u64,
+    ) -> Result<Option<Halt>, TurnFault>
+        requires sound { IsSound self.old }
+        requires begun { IsBegun (point_at self.old) self.old.running }
+        requires further { step_of self.old < until }
+        requires few { until ≤ 2 ^ 63 }
+        ensures sound { IsSound self.new }
+        ensures begins { (start : Point) → BeginsAt start self.old → BeginsAt start self.new }
+        ensures step { IfOk result (λ halt. IsStep self.old until halt self.new) }
+        ensures walked { IfOk result (λ halt. IsPlainWalk (halts.wanted_by stops.now) self.old halt self.new) }
+    {
+        let progress = self.progress(stops, until - self.before);
+        match progress {
+            Ok(Progress::Stays) => Ok(None),
+            Ok(Progress::Halts(halt)) => Ok(Some(halt)),
+            Ok(Progress::Over(end)) => {
+                self.turn(end.as_ref())?;
+                Ok(None)
+            }
+            Err(refused) => {
+                self.running = None;
+                Err(TurnFault::from(refused))
+            }
+        }
+    }
+
+    /// Goes on to a step, or to the last position if the run has none so far on.
+    pub(crate) fn advance(&mut self, step: u64) -> Result<(), TurnFault>
+        requires sound { IsSound self.old }
+        requires few { step ≤ 2 ^ 63 }
+        ensures sound { IsSound self.new }
+        ensures begins { (start : Point) → BeginsAt start self.old → BeginsAt start self.new }
+    {
+        while self.step_number() < step {
+            if self.go_on(&Stops::none(), step)?.is_some() {
+                return Ok(());
+            }
+        }
+        Ok(())
+    }
+
+    /// What becomes of the present turn within so many of its instructions.
+    fn progress(&mut self, stops: &Stops<'_>, most: u64) -> Result<Progress, AllocError>
+        requires sound { IsSound self.old }
+        requires begun { IsBegun (point_at self.old) self.old.running }
+        requires further { steps_of self.old.running < most }
+        ensures serial { self.new.serial ≡ self.old.serial }
+        ensures before { self.new.before ≡ self.old.before }
+        ensures progress { IfOk result (λ progress. IsWent self.old most progress self.new) }
+        ensures passed { IfOk result (λ progress. IsPassed (halts.wanted_by stops.now) self.old progress self.new) }
+    {
+        match &mut self.running {
+            Some(running) => {
+                if running.trap.is_some() {
+                    return Ok(Progress::Halts(running.halt_at_trap(stops)));
+                }
+                if stops.asks_within(running.work.thread) {
+                    running.go_looking(stops, most)
+                } else {
+                    running.go_on(most)
+                }
+            }
+            None => match self.serial.need() {
+                Need::Ended(_) => Ok(Progress::Halts(Halt::End)),
+                _ => Ok(Progress::Over(None)),
+            },
+        }
+    }
+
+    /// Does the present turn, with the end of its segment, or with none at a wake. If memory is refused it stands at the
+    /// turn's start.
+    fn turn(&mut self, end: Option<&SegmentEnd>) -> Result<(), TurnFault>
+        requires needed { IsNeededAt (point_at self.old) (option_map (λ end. end.now) end) }
+        requires few { self.old.before + count_of (option_map (λ end. end.now) end) ≤ 2 ^ 63 }
+        requires quantum { IfSome (point_at self.old).setup.quantum (λ q. 0 < q) }
+        ensures sound { IsSound self.new }
+        ensures running { self.new.running ≡ None }
+        ensures ok { OnOk result ((point_at self.new ≡ moved (point_at self.old) (step_at (point_at self.old) (option_map (λ end. end.now) end.entry))) × (self.new.before ≡ self.old.before + count_of (option_map (λ end. end.now) end.entry))) }
+        ensures err { OnErr result ((point_at self.new ≡ point_at self.old) × (self.new.before ≡ self.old.before)) }
+    {
+        let count = count_of(end);
+        self.running = None;
+        match self.serial.turn(end) {
+            Ok(turn) => {
+                self.before += count;
+                self.last = turn.thread;
+                Ok(())
+            }
+            Err(fault) => Err(fault),
+        }
+    }
+
+    /// Why it halts at the present position, none if it doesn't.
+    #[tactic(auto, unfolding(crate::specs::Shown::own_at))]
+    fn halt_here(&self, stops: &Stops<'_>) -> Option<Halt>
+        requires sound { IsSound self.now }
+        requires begun { IsBegun (point_at self.now) self.now.running }
+        ensures { result ≡ halts.first_of (address_at (halts.wanted_by stops.now) (own_at (moment_of self.now))) (threads_at (halts.wanted_by stops.now) (point_at self.now)) }
+    {
+        if let Some(running) = &self.running {
+            if let Some(halt) = running.position_halt(stops) {
+                return Some(halt);
+            }
+        }
+        if self.has_new_thread(stops) {
+            return Some(Halt::NewThread);
+        }
+        if self.moves_other(stops) {
+            return Some(Halt::OtherThread);
+        }
+        None
+    }
+
+    /// Whether another thread has its turn than the one that may move alone.
+    fn moves_other(&self, stops: &Stops<'_>) -> bool
+        ensures { result ≡ moves_other stops.now.alone (need_at (point_at self.now)) }
+    {
+        match self.serial.need() {
+            Need::Segment(work) | Need::Keeper(work) => stops.forbids(work.thread),
+            Need::Wake { thread } => stops.forbids(thread),
+            Need::Ended(_) => false,
+        }
+    }
+
+    /// Whether there are more threads than were known.
+    fn has_new_thread(&self, stops: &Stops<'_>) -> bool
+        ensures { result ≡ halts.has_more stops.now.known_threads (length (point_at self.now).state.threads) }
+    {
+        match stops.known_threads {
+            Some(known) => self.serial.threads().len() > known as usize,
+            None => false,
+        }
+    }
+}
+
+/// How many steps a turn has that ends so: one at a wake.
+fn count_of(end: Option<&SegmentEnd>) -> u64
+    ensures { result ≡ count_of (option_map (λ end. end.now) end.entry) }
+{
+    match end {
+        Some(end) => end.count,
+        None => 1,
+    }
+}

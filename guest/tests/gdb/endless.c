@@ -1,0 +1,8 @@
+/* Counts for ever. */
+volatile unsigned count;
+
+int main(void)
+{
+    for (;;)
+        count++;
+}
