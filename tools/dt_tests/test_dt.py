@@ -15,7 +15,7 @@ PARTS = {
     "check": ["sources", "layers", "pages", "samples", "c-samples", "c-functions"],
     "test": ["c-samples", "guest", "manual", "c-page", "programs"],
     "sweep": ["memory", "changes", "workers", "schedules"],
-    "measure": ["workers", "c-samples", "turns"],
+    "measure": ["workers", "c-samples", "turns", "debugger"],
     "write": ["pages", "samples", "c-samples", "c-functions"],
 }
 ALONE = ["mutants", "digest", "build", "release", "install", "self-test"]

@@ -1,0 +1,55 @@
+/* What tools/dt measure debugger debugs: one thread that executes 100 million instructions, or four that take a million turns. */
+#include <pthread.h>
+#include <stdint.h>
+
+#define SECTIONS 125000
+
+volatile uint32_t word;
+uint32_t many[1024];
+static pthread_mutex_t mutex = PTHREAD_MUTEX_INITIALIZER;
+static volatile uint32_t counter;
+
+__attribute__((noinline)) void never(void)
+{
+    word = 7;
+}
+
+/* It stores to the page of the word all the time. */
+__attribute__((noinline)) void compute(void)
+{
+    uint32_t x = 1;
+    for (uint32_t i = 0; i < 11000000; i++) {
+        x = x * 1664525 + 1013904223;
+        many[(x >> 16) & 1023] += i;
+    }
+    if (x == 0)
+        never();
+    word = x;
+}
+
+static void *take_turns(void *argument)
+{
+    for (int i = 0; i < SECTIONS; i++) {
+        pthread_mutex_lock(&mutex);
+        counter++;
+        pthread_mutex_unlock(&mutex);
+        for (volatile int k = 0; k < 350; k++)
+            ;
+    }
+    return argument;
+}
+
+int main(void)
+{
+#ifdef TURNS
+    pthread_t threads[4];
+    for (int i = 0; i < 4; i++)
+        pthread_create(&threads[i], NULL, take_turns, NULL);
+    for (int i = 0; i < 4; i++)
+        pthread_join(threads[i], NULL);
+    return counter != 4 * SECTIONS;
+#else
+    compute();
+    return 0;
+#endif
+}
