@@ -1,5 +1,9 @@
 pub mod Advancing
+pub mod AnyBelow
+pub mod Backing
 pub mod ByteMaps
+pub mod Calling
+pub mod Ending
 pub mod Instructions
 pub mod Merged
 pub mod Moving
@@ -7,6 +11,7 @@ pub mod Passing
 pub mod Places
 pub mod Positions
 pub mod Quieting
+pub mod Seeking
 pub mod Skipping
 pub mod Turning
 pub mod Unmarked

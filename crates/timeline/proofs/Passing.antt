@@ -15,14 +15,18 @@ use Rattle.segment.specs.declared.segment_end.SegmentEnd.{SegmentEnd}
 use Rattle.token.specs.Point.{Point, need_at}
 use Rattle.token.specs.declared.need.Need.{Need}
 use Rattle.token.specs.declared.need.Need.TheVariants as need
+use Rattle.marked_memory.specs.declared.watch.Watch.{Watch}
 use Rattle.twins.specs.View as views
 use Rattle.token.specs.declared.outcome.RunOutcome.{RunOutcome}
-use Rattle.timeline.specs.Halting.{IsPassed, IsPlain, address_at, end_at, end_by_need, end_by_stop, event_at}
-use Rattle.timeline.specs.Halts.{Wanted, access_event, address_halt, asks, first_of, instruction_halt, next_access, told_or_end, waits}
+use Rattle.timeline.specs.Halting.{ArePlain, IsPassed, IsPlain, address_at, end_at, end_by_need, end_by_stop, event_at, step_halt}
+use Rattle.timeline.specs.Halts.{Wanted, access_event, address_halt, asks, calls_next, first_of, instruction_halt, next_access, told_or_end, waits}
 use Rattle.timeline.specs.Moment.{Task, moment_at, state_in, stop_in, task_at, task_by}
-use Rattle.timeline.specs.Present.{IsTurns, moment_of, point_at, steps_of}
-use Rattle.timeline.specs.Quiet.{HaltsSo, IsLooked}
-use Rattle.timeline.specs.Running.{IsFurther, IsItsTrap, IsLast, IsProgress, IsRunning, task_of}
+use Rattle.timeline.specs.Backward.{looks}
+use Rattle.ecalls.specs.Request.{call_of}
+use Rattle.timeline.specs.Calls.{call_at, call_by, call_event, count_in, joint_in, read_by, row_after}
+use Rattle.timeline.specs.Present.{IsBegun, IsTurns, moment_of, point_at, steps_of}
+use Rattle.timeline.specs.Quiet.{HaltsSo, IsLooked, IsQuiet, IsStill}
+use Rattle.timeline.specs.Running.{IsFurther, IsItsTrap, IsLast, IsProgress, IsRunning, IsSkipped, task_of}
 use Rattle.timeline.specs.Shown.{Executing, own_at, own_by}
 use Rattle.timeline.specs.declared.halt.Halt.{Halt}
 use Rattle.timeline.specs.declared.halt.Halt.TheVariants.{End}
@@ -30,9 +34,11 @@ use Rattle.timeline.specs.declared.present.Present.{Present}
 use Rattle.timeline.specs.declared.running.Progress.{Progress}
 use Rattle.timeline.specs.declared.running.Progress.TheVariants.{Stays, Halts, Over}
 use Rattle.timeline.specs.declared.running.Running.{Running}
+use Rattle.timeline.proofs.Calling.{call_nothing, call_passed, call_quiet, call_without, event_no_call, no_call}
 use Rattle.timeline.proofs.Places.{no_event}
 use Rattle.timeline.proofs.Positions.{within_turn}
-use Rattle.timeline.proofs.Unmarked.{not_waited}
+use Rattle.timeline.proofs.Quieting.{at_state}
+use Rattle.timeline.proofs.Unmarked.{first_false, not_waited, other_false}
 
 pub first_none : (one other : Option Halt) → first_of one other ≡ None → (one ≡ None) × (other ≡ None)
 first_none None other is = (refl, is)
@@ -81,33 +87,31 @@ end_in point task steps is =
 
 plain : (wanted : Wanted) (point : Point) (task : Task) (steps : ℕ) → task_at point ≡ Some task
     → ((hart : HartState) (memory : Memory) → state_in task steps ≡ Some (hart, memory) → instruction_halt wanted task.work.thread hart memory ≡ None)
-    → ((trap : Trap) → stop_in task steps ≡ Some (stopped.Trap trap) → ⊥) → ((k : ℕ) → k < steps → stop_in task k ≡ None) → (stop_in task steps ≡ Some stopped.Quantum → ⊥)
-    → IsPlain wanted point steps
-plain wanted point task steps is each never runs no_quantum =
+    → call_at wanted.watches (record { point = point; steps = steps }) ≡ None → ((trap : Trap) → stop_in task steps ≡ Some (stopped.Trap trap) → ⊥)
+    → ((k : ℕ) → k < steps → stop_in task k ≡ None) → (stop_in task steps ≡ Some stopped.Quantum → ⊥) → IsPlain wanted point steps
+plain wanted point task steps is each call never runs no_quantum =
     let own = own_in point task steps is in
     let none = instruction_none wanted task (state_in task steps) each in
     record {
       within = λ start before begins. within_turn start point task before steps begins is runs no_quantum;
       address = ap (address_at wanted) own ∙ none.0;
+      call = call;
       event = ap (event_at wanted.watches) own ∙ none.1;
       end = end_in point task steps is ∙ ap (λ (stop : Option Halt). first_of stop None) (no_trap_end (stop_in task steps) never);
     }
 
--- the instructions from one position of a segment to another
-abbrev pub Still : Wanted → Task → ℕ → ℕ → Type 0
-Still wanted task from to = (k : ℕ) (hart : HartState) (memory : Memory) → from ≤ k → k < to → state_in task k ≡ Some (hart, memory) → instruction_halt wanted task.work.thread hart memory ≡ None
-
+-- what is known of the positions that a segment passed
 abbrev pub StillBy : Wanted → Running → Progress → Running → Type 0
-StillBy wanted old Stays new = Still wanted (task_of old) old.done new.done
-StillBy wanted old (Halts halt) new = Still wanted (task_of old) old.done new.done × HaltsSo wanted halt new
+StillBy wanted old Stays new = IsQuiet wanted (task_of old) old.done new.done
+StillBy wanted old (Halts halt) new = IsQuiet wanted (task_of old) old.done new.done × HaltsSo wanted halt new
 StillBy wanted old (Over None) new = Unit {0}
-StillBy wanted old (Over (Some end)) new = Still wanted (task_of old) old.done end.count
+StillBy wanted old (Over (Some end)) new = IsQuiet wanted (task_of old) old.done end.count
 
 pub looked_still : (wanted : Wanted) (old new : Running) (progress : Progress) → IsLooked wanted old progress new → StillBy wanted old progress new
-looked_still wanted old new Stays is = is.instructions
-looked_still wanted old new (Halts halt) is = (is.0.instructions, is.1)
+looked_still wanted old new Stays is = is
+looked_still wanted old new (Halts halt) is = is
 looked_still wanted old new (Over None) is = tt
-looked_still wanted old new (Over (Some end)) is = is.instructions
+looked_still wanted old new (Over (Some end)) is = is
 
 -- before its end a segment finds no trap
 counted_by : (stop : Stop) (steps : ℕ) → counted stop steps ≤ steps + 1
@@ -161,8 +165,14 @@ running_runs running task k is same within = ap (λ (task : Task). stop_in task 
 running_never : (running : Running) (k : ℕ) (trap : Trap) → IsRunning running → k < running.done → stop_in (task_of running) k ≡ Some (stopped.Trap trap) → ⊥
 running_never running k trap is within stops = let none = is.stands.runs.running k within in cc
 
+-- it halts for the address, or else for what comes next
+halts_first : (address call event rest : Option Halt) (halt : Halt) → first_of address event ≡ Some halt → (event ≡ Some halt → call ≡ None)
+    → first_of address (first_of call (first_of event rest)) ≡ Some halt
+halts_first None call event rest halt is none = rw (none is, is) refl
+halts_first (Some address) call event rest halt is none = is
+
 halting : (wanted : Wanted) (old : Present) (running new : Running) (halt : Halt) → task_at (point_at old) ≡ Some (task_of new) → IsRunning new → HaltsSo wanted halt new
-    → first_of (address_at wanted (own_at (moment_of (record old { running = Some new })))) (first_of (event_at wanted.watches (own_at (moment_of (record old { running = Some new })))) (end_at (moment_of (record old { running = Some new })))) ≡ Some halt
+    → first_of (address_at wanted (own_at (moment_of (record old { running = Some new })))) (step_halt wanted (moment_of (record old { running = Some new }))) ≡ Some halt
 halting wanted old running new halt needs is so =
     let own : own_at (record { point = point_at old; steps = new.done }) ≡ Some (record { thread = new.work.thread; hart = new.hart; memory = views.cells_of new.view }) =
     own_in (point_at old) (task_of new) new.done needs ∙ ap (executing (task_of new)) is.stands.runs.reached in
@@ -175,44 +185,66 @@ halting wanted old running new halt needs is so =
     event : Option Halt
     event = access_event wanted.watches (next_access new.hart (views.cells_of new.view))
 
-    by : HaltsSo wanted halt new → first_of address (first_of event (first_of (end_by_stop (stop_in (task_of new) new.done)) None)) ≡ Some halt
-    by (inl told) = first_some address event (first_of (end_by_stop (stop_in (task_of new) new.done)) None) halt told
+    call : Option Halt
+    call = call_at wanted.watches (record { point = point_at old; steps = new.done })
+
+    rest : Option Halt
+    rest = first_of (end_by_stop (stop_in (task_of new) new.done)) None
+
+    none_next : calls_next new.work.segment.left new.done new.hart (views.cells_of new.view) ≡ false → call ≡ None
+    none_next none =
+        call_quiet wanted.watches (point_at old) (task_of new) new.done needs
+        (λ hart memory there.
+        at_state (task_of new) new.done (λ hart memory. calls_next new.work.segment.left new.done hart memory ≡ false) new.hart hart (views.cells_of new.view) memory
+        is.stands.runs.reached there none)
+
+    by : HaltsSo wanted halt new → first_of address (first_of call (first_of event rest)) ≡ Some halt
+    by (inl told) =
+        halts_first address call event rest halt told
+        (λ some. none_next (event_no_call wanted.watches new.work.segment.left new.done new.hart (views.cells_of new.view) halt some))
     by (inr (none, at_end, (trap, trapped))) =
         let both = first_none address event none in
         let stops : stop_in (task_of new) new.done ≡ Some (stopped.Trap trap) = subst (λ (found : Option Trap). IsItsTrap (task_of new) new.done found) trapped is.stands.is_trap in
-        rw (both.0, both.1, stops, at_end) refl
+        let calls = none_next (no_call (task_of new) new.done new.hart (views.cells_of new.view) is.stands.runs.reached (λ quantum. cc) (λ ecall. cc)) in
+        rw (both.0, calls, both.1, stops, at_end) refl
 
 passed_by : (wanted : Wanted) (old : Present) (running new : Running) (most : ℕ) (progress : Progress) → old.running ≡ Some running → IsTurns (point_at old) (Some running)
-    → IsFurther running most progress new → StillBy wanted running progress new → IsPassed wanted old progress (record old { running = Some new })
-passed_by wanted old running new most Stays is turns further still =
+    → call_at wanted.watches (moment_of old) ≡ None → IsFurther running most progress new → StillBy wanted running progress new → IsPassed wanted old progress (record old { running = Some new })
+passed_by wanted old running new most Stays is turns call further still =
     let steps : steps_of old.running ≡ running.done = ap steps_of is in
+    let first : call_at wanted.watches (record { point = point_at old; steps = running.done }) ≡ None = rw (sym steps) call in
     λ k low high.
-    plain wanted (point_at old) (task_of running) k turns.1 (λ hart memory there. still k hart memory (rw steps at low) high there)
+    plain wanted (point_at old) (task_of running) k turns.1 (λ hart memory there. still.instructions k hart memory (rw steps at low) high there)
+    (call_passed wanted (point_at old) (task_of running) running.done new.done k still turns.1 (rw steps at low) high first)
     (λ trap stops. running_never new k trap further.0 high (ap (λ (task : Task). stop_in task k) further.1 ∙ stops))
     (λ j below. running_runs new (task_of running) j further.0 further.1 (omega (arith, below, high)))
     (λ quantum. let none = running_runs new (task_of running) k further.0 further.1 high in cc)
-passed_by wanted old running new most (Halts halt) is turns further still =
-    let steps : steps_of old.running ≡ running.done = ap steps_of is in (
+passed_by wanted old running new most (Halts halt) is turns call further still =
+    let steps : steps_of old.running ≡ running.done = ap steps_of is in
+    let first : call_at wanted.watches (record { point = point_at old; steps = running.done }) ≡ None = rw (sym steps) call in (
       (λ k low high.
-          plain wanted (point_at old) (task_of running) k turns.1 (λ hart memory there. still.0 k hart memory (rw steps at low) high there)
+          plain wanted (point_at old) (task_of running) k turns.1 (λ hart memory there. still.0.instructions k hart memory (rw steps at low) high there)
+          (call_passed wanted (point_at old) (task_of running) running.done new.done k still.0 turns.1 (rw steps at low) high first)
           (λ trap stops. running_never new k trap further.0 high (ap (λ (task : Task). stop_in task k) further.1 ∙ stops))
           (λ j below. running_runs new (task_of running) j further.0 further.1 (omega (arith, below, high)))
           (λ quantum. let none = running_runs new (task_of running) k further.0 further.1 high in cc)),
       halting wanted old running new halt (turns.1 ∙ ap Some (sym further.1)) further.0 still.1,
     )
-passed_by wanted old running new most (Over None) is turns further still = let some = further.1 in cc
-passed_by wanted old running new most (Over (Some end)) is turns further still =
+passed_by wanted old running new most (Over None) is turns call further still = let some = further.1 in cc
+passed_by wanted old running new most (Over (Some end)) is turns call further still =
     let steps : steps_of old.running ≡ running.done = ap steps_of is in
+    let first : call_at wanted.watches (record { point = point_at old; steps = running.done }) ≡ None = rw (sym steps) call in
     λ k low high.
-    plain wanted (point_at old) (task_of running) k turns.1 (λ hart memory there. still k hart memory (rw steps at low) high there)
+    plain wanted (point_at old) (task_of running) k turns.1 (λ hart memory there. still.instructions k hart memory (rw steps at low) high there)
+    (call_passed wanted (point_at old) (task_of running) running.done end.count k still turns.1 (rw steps at low) high first)
     (λ trap stops. never_traps (task_of running) end k trap further.0.0 high stops) (runs_before (task_of running) end k further.0.0 high)
     (never_quantum (task_of running) end k further.0.0 high)
 
 pub passed : {E : Type 0} (wanted : Wanted) (old : Present) (running new : Running) (most : ℕ) (result : Result Progress E) → old.running ≡ Some running → IsTurns (point_at old) (Some running)
-    → IfOk result (λ progress. IsFurther running most progress new) → IfOk result (λ progress. StillBy wanted running progress new)
+    → call_at wanted.watches (moment_of old) ≡ None → IfOk result (λ progress. IsFurther running most progress new) → IfOk result (λ progress. StillBy wanted running progress new)
     → IfOk result (λ progress. IsPassed wanted old progress (record old { running = Some new }))
-passed wanted old running new most (Err error) is turns further still = further
-passed wanted old running new most (Ok progress) is turns further still = passed_by wanted old running new most progress is turns further still
+passed wanted old running new most (Err error) is turns call further still = further
+passed wanted old running new most (Ok progress) is turns call further still = passed_by wanted old running new most progress is turns call further still
 
 pub all_looked : {E : Type 0} (wanted : Wanted) (old new : Running) (result : Result Progress E) → IfOk result (λ progress. IsLooked wanted old progress new)
     → IfOk result (λ progress. StillBy wanted old progress new)
@@ -223,14 +255,6 @@ all_looked wanted old new (Ok progress) is = looked_still wanted old new progres
 
 empty : {A : Type 0} (items : List A) → not (length items == 0) ≡ false → items ≡ []
 empty items is = nil_from_length items (grind (arith, nat_tests))
-
-first_false : (one other : Bool) → (one || other) ≡ false → one ≡ false
-first_false true other is = is
-first_false false other is = refl
-
-other_false : (one other : Bool) → (one || other) ≡ false → other ≡ false
-other_false true other is = absurd (cc)
-other_false false other is = is
 
 unasked : (wanted : Wanted) (thread : ℕ) → asks wanted thread ≡ false → (hart : HartState) (memory : Memory) → instruction_halt wanted thread hart memory ≡ None
 unfolding address_halt
@@ -244,15 +268,28 @@ unasked wanted thread is = λ hart memory.
     let elsewhere = not_waited wanted.arrival thread hart.pc waiting in
     rw (breakpoints, watches, elsewhere) (sym (no_event (next_access hart memory)))
 
+unasked_watches : (wanted : Wanted) (thread : ℕ) → asks wanted thread ≡ false → wanted.watches ≡ []
+unasked_watches wanted thread is =
+    let some_breakpoints : Bool = not (length wanted.breakpoints == 0) in
+    let some_watches : Bool = not (length wanted.watches == 0) in
+    empty wanted.watches (other_false (waits wanted.arrival thread || some_breakpoints) some_watches is)
+
+unasked_quiet : (wanted : Wanted) (task : Task) (from to : ℕ) → asks wanted task.work.thread ≡ false → IsQuiet wanted task from to
+unasked_quiet wanted task from to none =
+    record {
+      instructions = λ k hart memory low high there. unasked wanted task.work.thread none hart memory;
+      calls = λ k hart memory low high there watched. absurd (watched (unasked_watches wanted task.work.thread none));
+    }
+
 unasked_by : (wanted : Wanted) (old new : Running) (most : ℕ) (progress : Progress) → asks wanted old.work.thread ≡ false → IsProgress old most progress new → StillBy wanted old progress new
-unasked_by wanted old new most Stays none is = λ k hart memory low high there. unasked wanted old.work.thread none hart memory
+unasked_by wanted old new most Stays none is = unasked_quiet wanted (task_of old) old.done new.done none
 unasked_by wanted old new most (Halts halt) none is =
     let thread : new.work.thread ≡ old.work.thread = ap (λ (task : Task). task.work.thread) is.2 in (
-      (λ k hart memory low high there. unasked wanted old.work.thread none hart memory),
+      unasked_quiet wanted (task_of old) old.done new.done none,
       inr (rw thread (unasked wanted old.work.thread none new.hart (views.cells_of new.view)), is.0, is.4),
     )
 unasked_by wanted old new most (Over None) none is = tt
-unasked_by wanted old new most (Over (Some end)) none is = λ k hart memory low high there. unasked wanted old.work.thread none hart memory
+unasked_by wanted old new most (Over (Some end)) none is = unasked_quiet wanted (task_of old) old.done end.count none
 
 pub all_unasked : {E : Type 0} (wanted : Wanted) (old new : Running) (most : ℕ) (result : Result Progress E) → asks wanted old.work.thread ≡ false
     → IfOk result (λ progress. IsProgress old most progress new) → IfOk result (λ progress. StillBy wanted old progress new)
@@ -284,7 +321,8 @@ pub at_end : (wanted : Wanted) (old : Present) (outcome : RunOutcome) → task_a
 at_end wanted old outcome none ended =
     let here = without wanted (point_at old) (steps_of old.running) none in (
       (λ k low high. absurd (omega (arith, low, high))),
-      ap (λ (own : Option Executing). first_of (address_at wanted own) (first_of (event_at wanted.watches own) (end_at (moment_of old)))) here.0 ∙ here.1 ∙ ap end_by_need ended,
+      ap (λ (own : Option Executing). first_of (address_at wanted own) (first_of (call_at wanted.watches (moment_of old)) (first_of (event_at wanted.watches own) (end_at (moment_of old))))) here.0
+          ∙ ap (λ (call : Option Halt). first_of call (end_at (moment_of old))) (call_without wanted.watches (point_at old) (steps_of old.running) none) ∙ here.1 ∙ ap end_by_need ended,
     )
 
 pub at_wake : (wanted : Wanted) (old : Present) → task_at (point_at old) ≡ None → ((outcome : RunOutcome) → need_at (point_at old) ≡ need.Ended outcome → ⊥) → IsPassed wanted old (Over None) old
@@ -294,6 +332,7 @@ at_wake wanted old none goes_on = λ k low high.
     record {
       within = λ start before begins. rw first (let same : before + 0 ≡ before = omega arith in ap (moment_at start) same ∙ begins);
       address = ap (address_at wanted) here.0;
+      call = call_without wanted.watches (point_at old) k none;
       event = ap (event_at wanted.watches) here.0;
       end = here.1 ∙ by (need_at (point_at old)) goes_on;
     }
@@ -307,3 +346,61 @@ at_wake wanted old none goes_on = λ k low high.
 pub trap_of : (found : Option Trap) → is_some found ≡ true → (trap : Trap) × (found ≡ Some trap)
 trap_of None is = absurd (cc)
 trap_of (Some trap) is = (trap, refl)
+
+-- nothing is told of a turn's instructions where none is looked at
+pub silent_turn : (wanted : Wanted) (point : Point) (running : Option Running) (steps : ℕ) → IsTurns point running → IsBegun point running → looks wanted running ≡ false
+    → (address_at wanted (own_at (record { point = point; steps = steps })) ≡ None) × (event_at wanted.watches (own_at (record { point = point; steps = steps })) ≡ None)
+silent_turn wanted point None steps turns begun is =
+    let here = without wanted point steps begun in
+    (ap (address_at wanted) here.0, ap (event_at wanted.watches) here.0)
+silent_turn wanted point (Some running) steps turns begun is =
+    let own = own_in point (task_of running) steps turns.1 in
+    let none = instruction_none wanted (task_of running) (state_in (task_of running) steps) (λ hart memory there. unasked wanted running.work.thread is hart memory) in
+    (ap (address_at wanted) own ∙ none.0, ap (event_at wanted.watches) own ∙ none.1)
+
+pub silent_call : (wanted : Wanted) (point : Point) (running : Option Running) (steps : ℕ) → IsBegun point running → looks wanted running ≡ false
+    → call_at wanted.watches (record { point = point; steps = steps }) ≡ None
+silent_call wanted point None steps begun is = call_without wanted.watches point steps begun
+silent_call wanted point (Some running) steps begun is = rw (unasked_watches wanted running.work.thread is) (call_nothing (record { point = point; steps = steps }))
+
+-- the positions of a turn that are skipped
+pub skipped_plain : (wanted : Wanted) (old : Present) (running new : Running) (until : ℕ) → old.running ≡ Some running → IsTurns (point_at old) (Some running) → IsSkipped running until new
+    → IsStill wanted (task_of running) running.done new.done → ArePlain wanted (point_at old) (steps_of old.running) new.done
+skipped_plain wanted old running new until is turns skipped still =
+    let steps : steps_of old.running ≡ running.done = ap steps_of is in
+    λ k low high.
+    plain wanted (point_at old) (task_of running) k turns.1 (λ hart memory there. still.instructions k hart memory (rw steps at low) high there)
+    (call_quiet wanted.watches (point_at old) (task_of running) k turns.1 (λ hart memory there. still.calls k hart memory (rw steps at low) high there))
+    (λ trap stops. running_never new k trap skipped.running high (ap (λ (task : Task). stop_in task k) skipped.same ∙ stops))
+    (λ j below. running_runs new (task_of running) j skipped.running skipped.same (omega (arith, below, high)))
+    (λ quantum. let none = running_runs new (task_of running) k skipped.running skipped.same high in cc)
+
+own_of : (present : Present) (running : Running) → present.running ≡ Some running → IsTurns (point_at present) (Some running)
+    → own_at (moment_of present) ≡ Some (record { thread = running.work.thread; hart = running.hart; memory = views.cells_of running.view })
+own_of present running is turns =
+    let steps : steps_of present.running ≡ running.done = ap steps_of is in
+    rw steps (own_in (point_at present) (task_of running) running.done turns.1 ∙ ap (executing (task_of running)) turns.0.stands.runs.reached)
+
+-- the watch event of a call that comes next
+pub at_call : (watches : List Watch) (present : Present) (running : Running) → present.running ≡ Some running → IsTurns (point_at present) (Some running)
+    → calls_next running.work.segment.left running.done running.hart (views.cells_of running.view) ≡ true
+    → call_at watches (moment_of present)
+    ≡ call_event watches (read_by watches (call_of running.hart) (count_in (row_after (moment_of present) running.work.thread))) (joint_in present running)
+unfolding call_at
+at_call watches present running is turns calls =
+    let steps : steps_of present.running ≡ running.done = ap steps_of is in
+    let own = own_of present running is turns in
+    let here : calls_next running.work.segment.left (steps_of present.running) running.hart (views.cells_of running.view) ≡ true = rw steps calls in
+    ap (λ (task : Option Task). call_by watches (moment_of present) task (own_at (moment_of present))) turns.1
+    ∙ ap (call_by watches (moment_of present) (Some (task_of running))) own ∙ rw here refl
+
+-- none if no call comes next
+pub not_at_call : (watches : List Watch) (present : Present) (running : Running) → present.running ≡ Some running → IsTurns (point_at present) (Some running)
+    → calls_next running.work.segment.left running.done running.hart (views.cells_of running.view) ≡ false → call_at watches (moment_of present) ≡ None
+not_at_call watches present running is turns none =
+    let steps : steps_of present.running ≡ running.done = ap steps_of is in
+    rw steps
+    (call_quiet watches (point_at present) (task_of running) running.done turns.1
+    (λ hart memory there.
+    at_state (task_of running) running.done (λ hart memory. calls_next running.work.segment.left running.done hart memory ≡ false) running.hart hart (views.cells_of running.view) memory
+    turns.0.stands.runs.reached there none))

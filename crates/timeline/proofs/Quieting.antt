@@ -1,13 +1,13 @@
 -- How the positions at which a motion doesn't halt grow.
 use Rattle.std.proofs.Common.{◌≡◌, ◌≢◌, ◌∙◌, ℕ, zero, suc, ◌+◌, ◌-◌, ◌<◌, ◌≤◌, false, Option, Some, None, [], refl, sym, ap, subst, arith, inl, inr}
 use Rattle.std.proofs.lemmas.Bool.{cases_eq, cases_order}
-use Rattle.std.specs.Prelude.{option_and_then}
+use Rattle.std.specs.Prelude.{nat_lt, option_and_then}
 use Rattle.guest_memory.specs.Memory.{Memory}
 use Rattle.hart.specs.HartState.{HartState}
 use Rattle.hart.specs.Next.{next}
 use Rattle.hart.specs.Segment.{after, left_by}
 use Rattle.marked_memory.specs.Unmarked.{RunsUnmarked}
-use Rattle.timeline.specs.Halts.{Wanted, instruction_halt, is_call, next_instr, waits}
+use Rattle.timeline.specs.Halts.{Wanted, calls_next, instruction_halt, waits}
 use Rattle.timeline.specs.Moment.{Task, state_in}
 use Rattle.timeline.specs.Quiet.{IsLooked, IsQuiet, IsStill}
 use Rattle.timeline.specs.Running.{IsProgress, IsRunning, task_of}
@@ -15,13 +15,14 @@ use Rattle.timeline.specs.declared.running.Progress.{Progress}
 use Rattle.timeline.specs.declared.running.Progress.TheVariants.{Stays, Halts, Over}
 use Rattle.timeline.specs.declared.running.Running.{Running}
 use Rattle.twins.specs.View as views
+use Rattle.timeline.proofs.Calling.{and_false}
 use Rattle.timeline.proofs.Unmarked.{not_waited, places_in, unmarked_is_quiet}
 
-abbrev hart_or : HartState → Option (HartState × Memory) → HartState
+abbrev pub hart_or : HartState → Option (HartState × Memory) → HartState
 hart_or hart None = hart
 hart_or hart (Some state) = state.0
 
-abbrev memory_or : Memory → Option (HartState × Memory) → Memory
+abbrev pub memory_or : Memory → Option (HartState × Memory) → Memory
 memory_or memory None = memory
 memory_or memory (Some state) = state.1
 
@@ -42,7 +43,7 @@ still_none wanted task from =
     record { instructions = λ k hart memory low high is. absurd (omega arith); calls = λ k hart memory low high is. absurd (omega arith) }
 
 -- what holds of the state at a position holds of every state there
-at_state : (task : Task) (k : ℕ) (P : HartState → Memory → Type 0) (hart other_hart : HartState) (memory other_memory : Memory) → state_in task k ≡ Some (hart, memory)
+pub at_state : (task : Task) (k : ℕ) (P : HartState → Memory → Type 0) (hart other_hart : HartState) (memory other_memory : Memory) → state_in task k ≡ Some (hart, memory)
     → state_in task k ≡ Some (other_hart, other_memory) → P hart memory → P other_hart other_memory
 at_state task k P hart other_hart memory other_memory here there holds =
     let same = sym here ∙ there in
@@ -51,7 +52,7 @@ at_state task k P hart other_hart memory other_memory here there holds =
     subst (λ (memory : Memory). P other_hart memory) memory_is (subst (λ (hart : HartState). P hart memory) hart_is holds)
 
 pub quiet_more : (wanted : Wanted) (task : Task) (from to : ℕ) (hart : HartState) (memory : Memory) → IsQuiet wanted task from to → state_in task to ≡ Some (hart, memory)
-    → instruction_halt wanted task.work.thread hart memory ≡ None → (from < to → wanted.watches ≢ [] → is_call (next_instr hart memory) ≡ false) → IsQuiet wanted task from (to + 1)
+    → instruction_halt wanted task.work.thread hart memory ≡ None → (from < to → wanted.watches ≢ [] → calls_next task.work.segment.left to hart memory ≡ false) → IsQuiet wanted task from (to + 1)
 quiet_more wanted task from to hart memory quiet here none no_call =
     record {
       instructions = λ k other_hart other_memory low high is.
@@ -63,7 +64,7 @@ quiet_more wanted task from to hart memory quiet here none no_call =
       calls = λ k other_hart other_memory low high is watched.
           elim (cases_eq k to) [
             | inl same ↦
-                at_state task to (λ hart memory. is_call (next_instr hart memory) ≡ false) hart other_hart memory other_memory here (rw same at is) (no_call (rw same at low) watched)
+                rw same (at_state task to (λ hart memory. calls_next task.work.segment.left to hart memory ≡ false) hart other_hart memory other_memory here (rw same at is) (no_call (rw same at low) watched))
             | inr other ↦ quiet.calls k other_hart other_memory low (omega arith) is watched
           ];
     }
@@ -96,13 +97,13 @@ still_by_marks wanted task done count hart last_hart memory last_memory here els
     (runs.unmarked (k - done) other_hart other_memory (omega arith) there) in
     record {
       instructions = λ k other_hart other_memory low high is. (at k other_hart other_memory low high is).0;
-      calls = λ k other_hart other_memory low high is. (at k other_hart other_memory low high is).1;
+      calls = λ k other_hart other_memory low high is. and_false (nat_lt k task.work.segment.left) _ (at k other_hart other_memory low high is).1;
     }
 
 -- what comes of a segment that is looked at and then goes on by one instruction
 pub looked_by : (wanted : Wanted) (first old new : Running) (progress : Progress) → IsRunning old → task_of old ≡ task_of first
     → IsQuiet wanted (task_of first) first.done old.done → instruction_halt wanted old.work.thread old.hart (views.cells_of old.view) ≡ None
-    → (first.done < old.done → wanted.watches ≢ [] → is_call (next_instr old.hart (views.cells_of old.view)) ≡ false) → IsProgress old (old.done + 1) progress new
+    → (first.done < old.done → wanted.watches ≢ [] → calls_next old.work.segment.left old.done old.hart (views.cells_of old.view) ≡ false) → IsProgress old (old.done + 1) progress new
     → (progress ≡ Stays → ⊥) → IsLooked wanted first progress new
 looked_by wanted first old new Stays running same quiet none no_call progress never = absurd (never refl)
 looked_by wanted first old new (Halts halt) running same quiet none no_call progress never =
@@ -121,4 +122,5 @@ looked_by wanted first old new (Over (Some end)) running same quiet none no_call
     let here : state_in (task_of first) old.done ≡ Some (old.hart, views.cells_of old.view) =
     subst (λ (task : Task). state_in task old.done ≡ Some (old.hart, views.cells_of old.view)) same running.stands.runs.reached in
     let thread : (task_of first).work.thread ≡ old.work.thread = ap (λ (task : Task). task.work.thread) (sym same) in
-    rw count (quiet_more wanted (task_of first) first.done old.done old.hart (views.cells_of old.view) quiet here (rw thread none) no_call)
+    let left : (task_of first).work.segment.left ≡ old.work.segment.left = ap (λ (task : Task). task.work.segment.left) (sym same) in
+    rw count (quiet_more wanted (task_of first) first.done old.done old.hart (views.cells_of old.view) quiet here (rw thread none) (rw left no_call))

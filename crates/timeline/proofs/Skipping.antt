@@ -10,16 +10,9 @@ use Rattle.hart.specs.declared.trap.Trap.{Trap}
 use Rattle.marked_memory.proofs.Reaching.{last_of}
 use Rattle.paged_memory.specs.Snapshot as snapshots
 use Rattle.twins.specs.View as views
+use Rattle.timeline.proofs.Quieting.{hart_or, memory_or}
 use Rattle.timeline.specs.Running.{IsRoom, IsRunning, IsSkipped, task_of}
 use Rattle.timeline.specs.declared.running.Running.{Running}
-
-abbrev hart_or : HartState → Option (HartState × Memory) → HartState
-hart_or hart None = hart
-hart_or hart (Some state) = state.0
-
-abbrev memory_or : Memory → Option (HartState × Memory) → Memory
-memory_or memory None = memory
-memory_or memory (Some state) = state.1
 
 below_all : (quantum : Option ℕ) (count more : ℕ) → count ≤ more → IfSome quantum (λ q. more ≤ q) → IfSome quantum (λ q. count ≤ q)
 below_all None count more less within = within

@@ -23,11 +23,11 @@ use Rattle.timeline.specs.declared.halt.Halt.TheVariants.{Watched}
 
 -- tests
 
-first_false : (one other : Bool) → (one || other) ≡ false → one ≡ false
+pub first_false : (one other : Bool) → (one || other) ≡ false → one ≡ false
 first_false true other is = is
 first_false false other is = refl
 
-other_false : (one other : Bool) → (one || other) ≡ false → other ≡ false
+pub other_false : (one other : Bool) → (one || other) ≡ false → other ≡ false
 other_false true other is = absurd (cc)
 other_false false other is = is
 

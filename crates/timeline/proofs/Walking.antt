@@ -1,31 +1,21 @@
 -- How a run walks over the positions of a turn.
-use Rattle.std.proofs.Common.{◌≡◌, ◌∙◌, ℕ, ◌+◌, ◌-◌, ◌<◌, ◌≤◌, true, Option, Some, None, Result, Ok, Err, refl, sym, ap, arith, inl, inr}
+use Rattle.std.proofs.Common.{◌≡◌, ◌∙◌, ℕ, ◌+◌, ◌-◌, ◌<◌, ◌≤◌, Option, Some, None, Result, Ok, Err, refl, sym, ap, arith, inl, inr}
 use Rattle.std.specs.Result.{IfOk}
 use Rattle.std.proofs.lemmas.Bool.{cases_order}
 use Rattle.token.specs.Point.{Point}
-use Rattle.timeline.specs.Halting.{ArePlain, IsCallEvent, IsPlain, IsPlainWalk, IsNoHalt, IsWalked, IsWatchEvent, NoneBetween, NoneHalts, address_at, end_at, event_at, halts_at, threads_at}
-use Rattle.timeline.specs.Halts.{Wanted, first_of, is_call, next_instr}
+use Rattle.timeline.specs.Halting.{ArePlain, IsPlain, IsPlainWalk, IsNoHalt, IsWalked, NoneBetween, NoneHalts, address_at, halts_at, step_halt, threads_at}
+use Rattle.timeline.specs.Calls.{call_at}
+use Rattle.timeline.specs.Halts.{Wanted, first_of}
 use Rattle.timeline.specs.Moment.{Moment, moment_at}
 use Rattle.timeline.specs.Present.{BeginsAt, moment_of, point_at, step_of, steps_of}
-use Rattle.timeline.specs.Shown.{Executing, own_at}
+use Rattle.timeline.specs.Shown.{own_at}
 use Rattle.timeline.specs.declared.halt.Halt.{Halt}
-use Rattle.timeline.specs.declared.halt.Halt.TheVariants.{Breakpoint, Watched, Arrived, OtherThread, NewThread, End, Start, GoesOn}
 use Rattle.timeline.specs.declared.present.Present.{Present}
 use Rattle.timeline.proofs.Passing.{first_none, first_some}
 
-pub call_event : (halt : Halt) (own : Executing) → IsWatchEvent halt → is_call (next_instr own.hart own.memory) ≡ true → IsCallEvent halt (Some own)
-call_event (Watched place) own is call = call
-call_event Breakpoint own is call = absurd is
-call_event Arrived own is call = absurd is
-call_event OtherThread own is call = absurd is
-call_event NewThread own is call = absurd is
-call_event End own is call = absurd is
-call_event Start own is call = absurd is
-call_event GoesOn own is call = absurd is
-
 no_halt : (wanted : Wanted) (point : Point) (steps : ℕ) → IsPlain wanted point steps → threads_at wanted point ≡ None → halts_at wanted (record { point = point; steps = steps }) ≡ None
 unfolding halts_at
-no_halt wanted point steps plain threads = rw (plain.address, threads, plain.event, plain.end) refl
+no_halt wanted point steps plain threads = rw (plain.address, threads, plain.call, plain.event, plain.end) refl
 
 none_here : (wanted : Wanted) (point : Point) (steps : ℕ) → IsPlain wanted point steps → threads_at wanted point ≡ None → IsNoHalt wanted point steps
 none_here wanted point steps plain threads = record { within = plain.within; none = no_halt wanted point steps plain threads }
@@ -39,12 +29,16 @@ pub halts_here : (wanted : Wanted) (old begun : Present) (halt : Halt) → point
 unfolding halts_at
 halts_here wanted old begun halt point steps step told = (
   (λ k low high. absurd (omega (arith, step, low, high))),
-  inl (first_some (address_at wanted (own_at (moment_of begun))) (threads_at wanted (point_at begun)) (first_of (event_at wanted.watches (own_at (moment_of begun))) (end_at (moment_of begun))) halt told),
+  first_some (address_at wanted (own_at (moment_of begun))) (threads_at wanted (point_at begun)) (step_halt wanted (moment_of begun)) halt told,
 )
 
 -- It halts at a call.
-pub calls_here : (wanted : Wanted) (old begun : Present) (halt : Halt) → step_of begun ≡ step_of old → IsCallEvent halt (own_at (moment_of begun)) → IsWalked wanted old (Some halt) begun
-calls_here wanted old begun halt step event = ((λ k low high. absurd (omega (arith, step, low, high))), inr event)
+pub calls_here : (wanted : Wanted) (old begun : Present) (halt : Halt) → step_of begun ≡ step_of old
+    → first_of (address_at wanted (own_at (moment_of begun))) (threads_at wanted (point_at begun)) ≡ None → call_at wanted.watches (moment_of begun) ≡ Some halt → IsWalked wanted old (Some halt) begun
+unfolding halts_at
+calls_here wanted old begun halt step none call =
+    let both = first_none (address_at wanted (own_at (moment_of begun))) (threads_at wanted (point_at begun)) none in
+    ((λ k low high. absurd (omega (arith, step, low, high))), rw (both.0, both.1, call) refl)
 
 -- It goes on from where it doesn't halt.
 pub walks : (wanted : Wanted) (old begun new : Present) (halt : Option Halt) → point_at begun ≡ point_at old → steps_of begun.running ≡ steps_of old.running → step_of begun ≡ step_of old
@@ -57,7 +51,7 @@ walks wanted old begun new (Some halt) point steps step none walk =
     let threads = (first_none (address_at wanted (own_at (moment_of begun))) (threads_at wanted (point_at begun)) none).1 in
     let threads_new : threads_at wanted (point_at new) ≡ None = ap (threads_at wanted) walk.1 ∙ threads in (
       (λ k low high. rw (sym point) (none_here wanted (point_at begun) k (walk.0 k (omega (arith, low, steps)) (omega (arith, high, steps, step))) threads)),
-      inl (rw threads_new walk.2),
+      rw threads_new walk.2,
     )
 
 pub all_walk : {E : Type 0} (wanted : Wanted) (old begun new : Present) (result : Result (Option Halt) E) → point_at begun ≡ point_at old → steps_of begun.running ≡ steps_of old.running

@@ -1,17 +1,18 @@
 -- Why a motion halts at a position.
-use Rattle.std.specs.Prelude.{◌≡◌, ◌⊎◌, ℕ, ◌+◌, ◌-◌, ◌<◌, ◌≤◌, Bool, true, false, if◌then◌else◌, Option, Some, None, List, length, option_and_then}
+use Rattle.std.specs.Prelude.{◌≡◌, ◌⊎◌, ℕ, ◌+◌, ◌-◌, ◌<◌, ◌≤◌, Bool, false, if◌then◌else◌, Option, Some, None, List, length, option_and_then}
 use Rattle.hart.specs.declared.stop.Stop.{Stop}
 use Rattle.hart.specs.declared.stop.Stop.TheVariants.{Trap, Ecall, Quantum}
 use Rattle.marked_memory.specs.declared.watch.Watch.{Watch}
 use Rattle.token.specs.Point.{Point, need_at}
 use Rattle.token.specs.declared.need.Need.{Need}
 use Rattle.token.specs.declared.need.Need.TheVariants as need
-use Rattle.timeline.specs.Halts.{Wanted, access_event, address_halt, first_of, forbids, has_more, is_call, next_access, next_instr}
+use Rattle.timeline.specs.Calls.{call_at}
+use Rattle.timeline.specs.Halts.{Wanted, access_event, address_halt, first_of, forbids, has_more, next_access}
 use Rattle.timeline.specs.Moment.{Moment, beginning, moment_at, stop_in, task_at}
 use Rattle.timeline.specs.Present.{count_of, moment_of, point_at, step_of, steps_of}
 use Rattle.timeline.specs.Shown.{Executing, own_at}
 use Rattle.timeline.specs.declared.halt.Halt.{Halt}
-use Rattle.timeline.specs.declared.halt.Halt.TheVariants.{End, GoesOn, NewThread, OtherThread, Watched}
+use Rattle.timeline.specs.declared.halt.Halt.TheVariants.{End, GoesOn, NewThread, OtherThread}
 use Rattle.timeline.specs.declared.present.Present.{Present}
 use Rattle.timeline.specs.declared.running.Progress.{Progress}
 use Rattle.timeline.specs.declared.running.Progress.TheVariants.{Stays, Halts, Over}
@@ -54,21 +55,24 @@ end_by_need (need.Ended outcome) = Some End
 unfoldable pub end_at : Moment → Option Halt
 end_at moment = first_of (end_by_stop (option_and_then (λ task. stop_in task moment.steps) (task_at moment.point))) (end_by_need (need_at moment.point))
 
--- What is looked at at a position, in this order: the instruction's address, the threads, what the instruction loads or stores, the
--- end. The watch events of calls are beside it.
+-- what is looked at after the address and the threads: what the call or the instruction stores or loads, the end
+abbrev pub step_halt : Wanted → Moment → Option Halt
+step_halt wanted moment = first_of (call_at wanted.watches moment) (first_of (event_at wanted.watches (own_at moment)) (end_at moment))
+
+-- What is looked at at a position, in this order: the instruction's address, the threads, what the step stores or loads, the end.
 unfoldable pub halts_at : Wanted → Moment → Option Halt
-halts_at wanted moment =
-    first_of (address_at wanted (own_at moment)) (first_of (threads_at wanted moment.point) (first_of (event_at wanted.watches (own_at moment)) (end_at moment)))
+halts_at wanted moment = first_of (address_at wanted (own_at moment)) (first_of (threads_at wanted moment.point) (step_halt wanted moment))
 
 -- where the turn begins after so many steps, so many of its instructions lead on
 abbrev pub IsWithin : Point → ℕ → Type 0
 IsWithin point steps =
     (start : Point) (before : ℕ) → moment_at start before ≡ Some (beginning point) → moment_at start (before + steps) ≡ Some (record { point = point; steps = steps })
 
--- It doesn't halt at this position of a turn for the instruction or the end.
+-- It doesn't halt at this position of a turn for the step or the end.
 pub record IsPlain (wanted : Wanted) (point : Point) (steps : ℕ) : Type 0 where
   pub within : IsWithin point steps
   pub address : address_at wanted (own_at (record { point = point; steps = steps })) ≡ None
+  pub call : call_at wanted.watches (record { point = point; steps = steps }) ≡ None
   pub event : event_at wanted.watches (own_at (record { point = point; steps = steps })) ≡ None
   pub end : end_at (record { point = point; steps = steps }) ≡ None
 
@@ -80,7 +84,7 @@ abbrev pub IsPassed : Wanted → Present → Progress → Present → Type 0
 IsPassed wanted old Stays new = ArePlain wanted (point_at old) (steps_of old.running) (steps_of new.running)
 IsPassed wanted old (Halts halt) new =
     ArePlain wanted (point_at old) (steps_of old.running) (steps_of new.running)
-    × (first_of (address_at wanted (own_at (moment_of new))) (first_of (event_at wanted.watches (own_at (moment_of new))) (end_at (moment_of new))) ≡ Some halt)
+    × (first_of (address_at wanted (own_at (moment_of new))) (step_halt wanted (moment_of new)) ≡ Some halt)
 IsPassed wanted old (Over end) new = ArePlain wanted (point_at old) (steps_of old.running) (count_of end)
 
 -- It doesn't halt at this position of a turn.
@@ -91,35 +95,25 @@ pub record IsNoHalt (wanted : Wanted) (point : Point) (steps : ℕ) : Type 0 whe
 abbrev pub NoneHalts : Wanted → Point → ℕ → ℕ → Type 0
 NoneHalts wanted point from to = (k : ℕ) → from ≤ k → k < to → IsNoHalt wanted point k
 
--- it is a watch event
-abbrev pub IsWatchEvent : Halt → Type 0
-IsWatchEvent (Watched place) = Unit {0}
-IsWatchEvent _ = ⊥
-
--- the watch event of a call
-abbrev pub IsCallEvent : Halt → Option Executing → Type 0
-IsCallEvent (Watched place) (Some own) = is_call (next_instr own.hart own.memory) ≡ true
-IsCallEvent _ _ = ⊥
-
 -- It goes on over positions at which it doesn't halt, to one at which it does, or as far as it was to go.
 abbrev pub IsWalked : Wanted → Present → Option Halt → Present → Type 0
 IsWalked wanted old None new = NoneHalts wanted (point_at old) (steps_of old.running) (steps_of old.running + (step_of new - step_of old))
 IsWalked wanted old (Some halt) new =
     NoneHalts wanted (point_at old) (steps_of old.running) (steps_of old.running + (step_of new - step_of old))
-    × ((halts_at wanted (moment_of new) ≡ Some halt) ⊎ IsCallEvent halt (own_at (moment_of new)))
+    × (halts_at wanted (moment_of new) ≡ Some halt)
 
 -- The same of a motion that looks at no threads.
 abbrev pub IsPlainWalk : Wanted → Present → Option Halt → Present → Type 0
 IsPlainWalk wanted old None new = ArePlain wanted (point_at old) (steps_of old.running) (steps_of old.running + (step_of new - step_of old))
 IsPlainWalk wanted old (Some halt) new =
     ArePlain wanted (point_at old) (steps_of old.running) (steps_of old.running + (step_of new - step_of old)) × (point_at new ≡ point_at old)
-    × (first_of (address_at wanted (own_at (moment_of new))) (first_of (event_at wanted.watches (own_at (moment_of new))) (end_at (moment_of new))) ≡ Some halt)
+    × (first_of (address_at wanted (own_at (moment_of new))) (step_halt wanted (moment_of new)) ≡ Some halt)
 
 -- A motion halts at none of the positions from one step of a run to another.
 abbrev pub NoneBetween : Wanted → Point → ℕ → ℕ → Type 0
 NoneBetween wanted start from to = (n : ℕ) → from ≤ n → n < to → (moment : Moment) × (moment_at start n ≡ Some moment) × (halts_at wanted moment ≡ None)
 
--- It halts where it stands, at a position or a call, or it has come as far as it was to go.
+-- It halts where it stands, or it has come as far as it was to go.
 abbrev pub HaltsThere : Wanted → ℕ → Halt → Present → Type 0
 HaltsThere wanted goal halt present =
-    ((halt ≡ GoesOn) × (step_of present ≡ goal)) ⊎ ((halts_at wanted (moment_of present) ≡ Some halt) ⊎ IsCallEvent halt (own_at (moment_of present)))
+    ((halt ≡ GoesOn) × (step_of present ≡ goal)) ⊎ ((step_of present < goal) × (halts_at wanted (moment_of present) ≡ Some halt))

@@ -26,6 +26,10 @@ pub record Wanted : Type 0 where
 abbrev pub wanted_by : Stops → Wanted
 wanted_by stops = record { breakpoints = stops.breakpoints.now; watches = stops.watches.now; arrival = stops.arrival; alone = stops.alone; known = stops.known_threads }
 
+-- nothing
+abbrev pub nothing : Wanted
+nothing = record { breakpoints = []; watches = []; arrival = None; alone = None; known = None }
+
 -- loads and stores
 
 abbrev pub load : HartState → ℕ → ℕ → ℕ → Option Access
@@ -115,6 +119,10 @@ IsInstr found (Some instr) = found ≡ Some instr
 abbrev pub is_call : Option Instr → Bool
 is_call (Some Ecall) = true
 is_call _ = false
+
+-- whether an ecall comes next that the bound allows
+abbrev pub calls_next : ℕ → ℕ → HartState → Memory → Bool
+calls_next left steps hart memory = nat_lt steps left && is_call (next_instr hart memory)
 
 abbrev pub first_of : Option Halt → Option Halt → Option Halt
 first_of None other = other

@@ -1,5 +1,8 @@
+pub mod Backward
+pub mod Calls
 pub mod Checkpoint
 pub mod Checkpoints
+pub mod Going
 pub mod Halting
 pub mod Halts
 pub mod Line

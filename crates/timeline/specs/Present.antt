@@ -63,10 +63,10 @@ pub record IsTurnEnd (present : Present) (most : ℕ) (end : Option SegmentEnd) 
 -- It is further in the present turn, it halts there, or the turn ends.
 abbrev pub IsWent : Present → ℕ → Progress → Present → Type 0
 IsWent old most Stays new = IsTurns (point_at new) new.running × (steps_of old.running < steps_of new.running) × (steps_of new.running ≤ most)
-IsWent old most (Halts halt) new = IsTurns (point_at new) new.running × (steps_of old.running ≤ steps_of new.running) × (steps_of new.running ≤ most)
+IsWent old most (Halts halt) new = IsTurns (point_at new) new.running × (steps_of old.running ≤ steps_of new.running) × (steps_of new.running < most)
 IsWent old most (Over end) new = IsTurnEnd old most end
 
 -- It is further, or halts.
 abbrev pub IsStep : Present → ℕ → Option Halt → Present → Type 0
 IsStep old until None new = (step_of old < step_of new) × (step_of new ≤ until)
-IsStep old until (Some halt) new = (step_of old ≤ step_of new) × (step_of new ≤ until)
+IsStep old until (Some halt) new = (step_of old ≤ step_of new) × (step_of new < until)

@@ -3,7 +3,7 @@ use Rattle.std.specs.Prelude.{◌≡◌, ◌≢◌, ◌⊎◌, ℕ, ◌<◌, ◌
 use Rattle.guest_memory.specs.Memory.{Memory}
 use Rattle.hart.specs.HartState.{HartState}
 use Rattle.hart.specs.declared.trap.Trap.{Trap}
-use Rattle.timeline.specs.Halts.{Wanted, instruction_halt, is_call, next_instr}
+use Rattle.timeline.specs.Halts.{Wanted, calls_next, instruction_halt}
 use Rattle.timeline.specs.Moment.{Task, state_in}
 use Rattle.timeline.specs.Running.{task_of}
 use Rattle.timeline.specs.declared.halt.Halt.{Halt}
@@ -17,14 +17,14 @@ use Rattle.twins.specs.View as views
 pub record IsStill (wanted : Wanted) (task : Task) (from to : ℕ) : Type 0 where
   pub instructions : (k : ℕ) (hart : HartState) (memory : Memory) → from ≤ k → k < to → state_in task k ≡ Some (hart, memory)
       → instruction_halt wanted task.work.thread hart memory ≡ None
-  pub calls : (k : ℕ) (hart : HartState) (memory : Memory) → from ≤ k → k < to → state_in task k ≡ Some (hart, memory) → is_call (next_instr hart memory) ≡ false
+  pub calls : (k : ℕ) (hart : HartState) (memory : Memory) → from ≤ k → k < to → state_in task k ≡ Some (hart, memory) → calls_next task.work.segment.left k hart memory ≡ false
 
 -- It halts at none of these for the instruction, and after the first one no call comes next if something is watched.
 pub record IsQuiet (wanted : Wanted) (task : Task) (from to : ℕ) : Type 0 where
   pub instructions : (k : ℕ) (hart : HartState) (memory : Memory) → from ≤ k → k < to → state_in task k ≡ Some (hart, memory)
       → instruction_halt wanted task.work.thread hart memory ≡ None
   pub calls : (k : ℕ) (hart : HartState) (memory : Memory) → from < k → k < to → state_in task k ≡ Some (hart, memory) → wanted.watches ≢ []
-      → is_call (next_instr hart memory) ≡ false
+      → calls_next task.work.segment.left k hart memory ≡ false
 
 -- It halts for the instruction, or at the end for a trap.
 abbrev pub HaltsSo : Wanted → Halt → Running → Type 0

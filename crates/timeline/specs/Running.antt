@@ -77,7 +77,7 @@ IsProgress old until (Over end) new = IfSome end (λ end. IsLast (task_of old) e
 -- The same, where it may have halted for something else.
 abbrev pub IsFurther : Running → ℕ → Progress → Running → Type 0
 IsFurther old until Stays new = IsRunning new × (task_of new ≡ task_of old) × (old.done < new.done) × (new.done ≤ until)
-IsFurther old until (Halts halt) new = IsRunning new × (task_of new ≡ task_of old) × (old.done ≤ new.done) × (new.done ≤ until)
+IsFurther old until (Halts halt) new = IsRunning new × (task_of new ≡ task_of old) × (old.done ≤ new.done) × (new.done < until)
 IsFurther old until (Over end) new = IfSome end (λ end. IsLast (task_of old) end × (old.done < end.count) × (end.count ≤ until)) × IsSome end
 
 -- so many instructions, up to so many in all, end it neither by its bound nor by its quantum

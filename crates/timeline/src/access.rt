@@ -1,5 +1,6 @@
 //! The load or store that an instruction makes.
 ghost use Rattle.std.specs.Prelude.{◌≡◌, Some};
+ghost use Rattle.timeline.specs.Calls as calls;
 ghost use Rattle.timeline.specs.Halts as halts;
 
 use decoder::{Instr, Register};
@@ -53,6 +54,17 @@ impl Access {
             Instr::Sh { rs1, offset, .. } => Some(Access::store(hart, rs1, offset.word(), 2)),
             Instr::Sw { rs1, offset, .. } => Some(Access::store(hart, rs1, offset.word(), 4)),
             _ => None,
+        }
+    }
+
+    /// A store of so many bytes.
+    pub(crate) fn stored(address: u32, width: u32) -> Self
+        ensures { result ≡ calls.stored address width }
+    {
+        Access {
+            address,
+            width,
+            is_store: true,
         }
     }
 

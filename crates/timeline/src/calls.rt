@@ -1,8 +1,11 @@
 //! The watch events of calls: what a `read` stores, and what the commit of a turn joins.
-ghost use Rattle.std.specs.Prelude.{◌≡◌, ◌<◌, ◌^◌, IfOk, IfSome};
-ghost use Rattle.timeline.specs.Halting.{IsCallEvent, IsWatchEvent};
-ghost use Rattle.timeline.specs.Shown.{own_at};
-ghost use Rattle.timeline.specs.Present.{IsSound, moment_of, step_of};
+ghost use Rattle.std.specs.Prelude.{◌≡◌, ◌<◌, ◌+◌, ◌^◌, true, Some, IfOk, option_map};
+ghost use Rattle.std.specs.List.{list_any};
+ghost use Rattle.ecalls.specs.Request as request;
+ghost use Rattle.timeline.specs.Calls as calls;
+ghost use Rattle.timeline.specs.Calls.{joint_in};
+ghost use Rattle.timeline.specs.Halts as halts;
+ghost use Rattle.timeline.specs.Present.{IsBegun, IsSound, moment_of, point_at, step_of, steps_of};
 
 use crate::access::Access;
 use crate::checkpoint::Checkpoint;
@@ -14,6 +17,7 @@ use abi::Call;
 use ecalls::call_of;
 use marked_memory::Watch;
 use std::alloc::AllocError;
+use thread_table::Thread;
 use token::TurnFault;
 
 /// How many addresses of a range are looked at for a commit that joins.
@@ -21,11 +25,11 @@ const JOIN_LIMIT: u32 = 4096;
 
 impl Present {
     /// Why it halts before the call that comes next, none if it doesn't or no call comes next.
-    #[tactic(auto, unfolding(crate::specs::Shown::own_at), using(crate::proofs::Walking::call_event))]
     pub(crate) fn call_halt(&self, stops: &Stops<'_>) -> Result<Option<Halt>, TurnFault>
         requires sound { IsSound self.now }
+        requires begun { IsBegun (point_at self.now) self.now.running }
         requires few { step_of self.now < 2 ^ 63 }
-        ensures { IfOk result (λ halt. IfSome halt (λ halt. IsCallEvent halt (own_at (moment_of self.now)))) }
+        ensures { IfOk result (λ halt. halt ≡ calls.call_at stops.now.watches.now (moment_of self.now)) }
     {
         match &self.running {
             Some(running) if !stops.watches.is_empty() && running.is_at_call() => {
@@ -43,86 +47,125 @@ impl Present {
         read: &Option<Access>,
         watches: &[Watch],
     ) -> Option<Halt>
-        ensures { IfSome result IsWatchEvent }
+        ensures { result ≡ calls.call_event watches.now read.now (joint_in self.now running.now) }
     {
-        let place = watches.iter().position(|watch| {
-            let is_read = match read {
-                Some(access) => access.is_seen_by(watch),
-                None => false,
-            };
-            is_read || self.joins(running, watch)
-        })?;
-        Some(Halt::Watched(place))
+        for place in 0..watches.len() {
+            if self.is_event(running, read, &watches[place]) {
+                return Some(Halt::Watched(place));
+            }
+        }
+        None
+    }
+
+    /// Whether a watch looks for what the call that comes next reads, or for what it joins.
+    fn is_event(&self, running: &Running, read: &Option<Access>, watch: &Watch) -> bool
+        ensures { result ≡ calls.is_event read.now (joint_in self.now running.now) watch.now }
+    {
+        let is_read = match read {
+            Some(access) => access.is_seen_by(watch),
+            None => false,
+        };
+        is_read || self.joins(running, watch)
     }
 
     /// What the call that comes next stores, if it is a `read` into a watched range.
     fn read_access(&self, running: &Running, watches: &[Watch]) -> Result<Option<Access>, TurnFault>
         requires sound { IsSound self.now }
+        requires begun { IsBegun (point_at self.now) self.now.running }
         requires few { step_of self.now < 2 ^ 63 }
+        ensures { IfOk result (λ read. read ≡ calls.read_by watches.now (request.call_of running.now.hart) (calls.count_in (calls.row_after (moment_of self.now) running.now.work.thread))) }
     {
         let Call::Read { address, length } = call_of(&running.hart) else {
             return Ok(None);
         };
-        let most = Access {
-            address,
-            width: length,
-            is_store: true,
-        };
-        if !watches.iter().any(|watch| most.is_seen_by(watch)) {
+        if !is_looked_for(&Access::stored(address, length), watches) {
             return Ok(None);
         }
-        let width = self.count_read(running.work.thread)?;
-        Ok(Some(Access {
-            address,
-            width,
-            is_store: true,
-        }))
+        let count = self.count_read(running.work.thread)?;
+        Ok(Some(Access::stored(address, count)))
     }
 
     /// How many bytes the call of a thread that comes next takes from the input: it is done on a copy of the run, and
     /// answers so in x11 if x10 says that it was done.
     fn count_read(&self, thread: u32) -> Result<u32, TurnFault>
         requires sound { IsSound self.now }
+        requires begun { IsBegun (point_at self.now) self.now.running }
         requires few { step_of self.now < 2 ^ 63 }
+        ensures { IfOk result (λ count. count ≡ calls.count_in (calls.row_after (moment_of self.now) thread)) }
     {
-        let mut after = restored(self)?;
-        after.begin()?;
-        after.proceed(&Stops::none(), self.step_number() + 1)?;
-        match after.row(thread) {
-            Some(row) if row.hart.reg(10) == 0 => Ok(row.hart.reg(11)),
-            _ => Ok(0),
+        let mut after = turn_of(self)?;
+        if after.proceed(&Stops::none(), self.steps() + 1)?.is_some() {
+            return Ok(0);
         }
+        Ok(count_in(after.row(thread)))
     }
 
     /// Whether the commit of a thread makes of a range something else than the thread has itself: it has changed a page of
     /// it, and others changed other bytes of it.
-    fn joins(&self, running: &Running, watch: &Watch) -> bool {
+    fn joins(&self, running: &Running, watch: &Watch) -> bool
+        ensures { result ≡ calls.joins (joint_in self.now running.now) watch.now }
+    {
         if !watch.looks_for_stores() {
             return false;
         }
         for offset in 0..watch.len.min(JOIN_LIMIT) {
-            let Some(address) = watch.start.checked_add(offset) else {
-                return false;
-            };
-            if self.is_behind(running, address) && running.has_changed_page_of(address) {
+            if self.joins_at(running, watch.start, offset) {
                 return true;
             }
         }
         false
     }
 
+    /// Whether it does so of the byte at an offset.
+    fn joins_at(&self, running: &Running, start: u32, offset: u32) -> bool
+        ensures { result ≡ calls.joins_at (joint_in self.now running.now) (start + offset) }
+    {
+        match start.checked_add(offset) {
+            Some(address) => {
+                self.is_behind(running, address) && running.has_changed_page_of(address)
+            }
+            None => false,
+        }
+    }
+
     /// Whether another thread has changed a byte that this one hasn't.
-    fn is_behind(&self, running: &Running, address: u32) -> bool {
-        let own = running.byte(address);
-        own == running.base.byte(address) && own != self.serial.now().byte(address)
+    fn is_behind(&self, running: &Running, address: u32) -> bool
+        ensures { result ≡ calls.is_behind (joint_in self.now running.now) address }
+    {
+        running.agrees_with(&running.base, address)
+            && !running.agrees_with(self.serial.now(), address)
     }
 }
 
-/// A copy of a run at its position.
-fn restored(present: &Present) -> Result<Present, AllocError>
-    requires { IsSound present.now }
-    ensures sound { IfOk result IsSound }
-    ensures step { IfOk result (λ copy. step_of copy ≡ step_of present.now) }
+/// How many bytes the `read` of a thread has stored.
+fn count_in(row: Option<&Thread>) -> u32
+    ensures { result ≡ calls.count_in (option_map (λ row. row.now) row.entry) }
 {
-    Checkpoint::of(present)?.restored()
+    match row {
+        Some(row) if row.hart.reg(10) == 0 => row.hart.reg(11),
+        _ => 0,
+    }
+}
+
+/// Whether any of some watches looks for an access.
+fn is_looked_for(access: &Access, watches: &[Watch]) -> bool
+    ensures { result ≡ list_any (halts.is_seen access.now) watches.now }
+{
+    watches.iter().any(|watch| access.is_seen_by(watch))
+}
+
+/// The present turn of a run, as the first one of a run of its own.
+fn turn_of(present: &Present) -> Result<Present, AllocError>
+    requires sound { IsSound present.now }
+    requires begun { IsBegun (point_at present.now) present.now.running }
+    ensures sound { IfOk result IsSound }
+    ensures begun { IfOk result (λ copy. IsBegun (point_at copy) copy.running) }
+    ensures before { IfOk result (λ copy. copy.before ≡ 0) }
+    ensures point { IfOk result (λ copy. point_at copy ≡ point_at present.now) }
+    ensures steps { IfOk result (λ copy. steps_of copy.running ≡ steps_of present.now.running) }
+{
+    let mut copy = Checkpoint::of(present)?.restored()?;
+    copy.before = 0;
+    copy.begin()?;
+    Ok(copy)
 }

@@ -39,6 +39,7 @@ impl Checkpoint {
         ensures keeps { IfOk result (λ kept. (start : Point) → BeginsAt start present.now → KeepsTurn start kept) }
         ensures step { IfOk result (λ kept. step_at kept ≡ step_of present.now) }
         ensures point { IfOk result (λ kept. point_of kept.serial.value ≡ point_at present.now) }
+        ensures before { IfOk result (λ kept. kept.before ≡ present.now.before) }
     {
         let begun = match &present.running {
             Some(running) => Some(running.begun()?),
@@ -69,6 +70,8 @@ impl Checkpoint {
         ensures sound { IfOk result IsSound }
         ensures begins { IfOk result (λ present. (start : Point) → KeepsTurn start self.now → BeginsAt start present) }
         ensures step { IfOk result (λ present. step_of present ≡ step_at self.now) }
+        ensures point { IfOk result (λ present. point_at present ≡ point_of self.now.serial.value) }
+        ensures before { IfOk result (λ present. present.before ≡ self.now.before) }
     {
         let mut present = Present {
             serial: copied(&self.serial)?,

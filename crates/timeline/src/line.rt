@@ -1,6 +1,7 @@
 //! A run at a position, with its checkpoints, and its motions.
-ghost use Rattle.std.specs.Prelude.{◌≡◌, ◌≤◌, ◌<◌, ◌+◌, ◌-◌, ◌^◌, min, IfOk, IfSome};
+ghost use Rattle.std.specs.Prelude.{◌≡◌, ◌≤◌, ◌<◌, ◌^◌, min, IfOk, IfSome, OnOk};
 ghost use Rattle.token.specs.RunInTurn.{point_of};
+ghost use Rattle.timeline.specs.Backward.{nothing_at};
 
 use crate::checkpoint::Checkpoint;
 use crate::checkpoints::Checkpoints;
@@ -22,6 +23,8 @@ pub struct Line {
 }
 
 impl Line {
+    ghost use Rattle.timeline.specs.Backward.{GoesBack};
+    ghost use Rattle.timeline.specs.Going.{IsSought, IsStepped, goal_of};
     ghost use Rattle.timeline.specs.Halting.{HaltsThere, NoneBetween};
     ghost use Rattle.timeline.specs.Halts.{wanted_by};
     ghost use Rattle.timeline.specs.Line.{IsLine, SameRun, start_of};
@@ -51,9 +54,12 @@ impl Line {
         requires { IsLine self.old }
         ensures line { IsLine self.new }
         ensures run { SameRun self.old self.new }
+        ensures stepped { IfOk result (λ is. IsStepped self.old.present is self.new.present) }
     {
-        let halt = self.forward(&Stops::none(), 1)?;
-        Ok(halt != Halt::End)
+        match self.forward(&Stops::none(), 1)? {
+            Halt::End => Ok(false),
+            _ => Ok(true),
+        }
     }
 
     /// Goes forward to the first position from the present one on at which it is asked to halt, or to the last one.
@@ -63,7 +69,8 @@ impl Line {
         ensures line { IsLine self.new }
         ensures run { SameRun self.old self.new }
         ensures passed { IfOk result (λ halt. NoneBetween (wanted_by stops.now) (start_of self.old) (step_of self.old.present) (step_of self.new.present)) }
-        ensures halts { IfOk result (λ halt. HaltsThere (wanted_by stops.now) (step_of self.old.present + min most (2 ^ 63 - step_of self.old.present)) halt self.new.present) }
+        ensures since { OnOk result (step_of self.old.present ≤ step_of self.new.present) }
+        ensures halts { IfOk result (λ halt. HaltsThere (wanted_by stops.now) (goal_of self.old.present most) halt self.new.present) }
     {
         let here = self.present.step_number();
         let until = here + most.min(MOST_STEPS - here);
@@ -99,6 +106,7 @@ impl Line {
         requires { IsLine self.old }
         ensures line { IsLine self.new }
         ensures run { SameRun self.old self.new }
+        ensures back { IfOk result (λ halt. GoesBack (wanted_by stops.now) (start_of self.old) (step_of self.old.present) halt (step_of self.new.present)) }
     {
         let here = self.present.step_number();
         if here == 0 {
@@ -114,7 +122,7 @@ impl Line {
             }
             None => {
                 self.go_back(from)?;
-                Ok(if from == 0 { Halt::Start } else { Halt::GoesOn })
+                Ok(where_nothing_is(from))
             }
         }
     }
@@ -125,14 +133,17 @@ impl Line {
         requires { IsLine self.old }
         ensures line { IsLine self.new }
         ensures run { SameRun self.old self.new }
+        ensures sought { IfOk result (λ is. IsSought self.old.present step most is self.new.present) }
     {
         let here = self.present.step_number();
         if step < here {
             self.go_back(step)?;
             return Ok(true);
         }
-        let halt = self.forward(&Stops::none(), most.min(step - here))?;
-        Ok(halt == Halt::End || self.present.step_number() == step)
+        match self.forward(&Stops::none(), most.min(step - here))? {
+            Halt::End => Ok(true),
+            _ => Ok(self.present.step_number() == step),
+        }
     }
 
     /// Goes back to a step, and leaves checkpoints on the last steps before it.
@@ -140,6 +151,7 @@ impl Line {
         requires { IsLine self.old }
         ensures line { IsLine self.new }
         ensures run { SameRun self.old self.new }
+        ensures there { OnOk result (step_of self.new.present ≡ min step (step_of self.old.present)) }
     {
         if step >= self.present.step_number() {
             return Ok(());
@@ -157,4 +169,11 @@ impl Line {
         self.present = present;
         Ok(())
     }
+}
+
+/// What a motion back answers that has found nothing, and stands at a step.
+fn where_nothing_is(step: u64) -> Halt
+    ensures { result ≡ nothing_at step }
+{
+    if step == 0 { Halt::Start } else { Halt::GoesOn }
 }

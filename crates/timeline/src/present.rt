@@ -2,6 +2,7 @@
 ghost use Rattle.std.specs.Prelude.{◌≡◌, ◌<◌, ◌≤◌, ◌^◌, None, Some, IfOk, IfSome, OnOk, is_some};
 ghost use Rattle.std.specs.Prelude.{◌+◌, length, option_map, OnErr};
 ghost use Rattle.token.specs.Point.{Point, IsNeededAt, moved, step_at};
+ghost use Rattle.timeline.specs.Backward.{LeadsTo};
 ghost use Rattle.timeline.specs.Checkpoint.{HasBegun};
 ghost use Rattle.timeline.specs.Present.{count_of, IsWent};
 
@@ -33,6 +34,7 @@ impl Present {
     ghost use Rattle.timeline.specs.Moment.{task_at};
     ghost use Rattle.token.specs.Point.{need_at};
     ghost use Rattle.timeline.specs.Halting.{IsPassed, IsPlainWalk, IsWalked, address_at, moves_other, threads_at};
+    ghost use Rattle.timeline.specs.Calls.{call_at};
     ghost use Rattle.timeline.specs.Halts as halts;
     ghost use Rattle.timeline.specs.Present.{BeginsAt, IsBegun, IsSound, IsStep, moment_of, point_at, step_of, steps_of};
     ghost use Rattle.timeline.specs.Shown.{own_at};
@@ -162,6 +164,7 @@ impl Present {
         requires begun { IsBegun (point_at self.old) self.old.running }
         requires further { step_of self.old < until }
         requires few { until ≤ 2 ^ 63 }
+        requires call { call_at stops.now.watches.now (moment_of self.old) ≡ None }
         ensures sound { IsSound self.new }
         ensures begins { (start : Point) → BeginsAt start self.old → BeginsAt start self.new }
         ensures step { IfOk result (λ halt. IsStep self.old until halt self.new) }
@@ -182,17 +185,19 @@ impl Present {
         }
     }
 
-    /// Goes on to a step, or to the last position if the run has none so far on.
+    /// Goes on to a step that the run leads to.
     pub(crate) fn advance(&mut self, step: u64) -> Result<(), TurnFault>
         requires sound { IsSound self.old }
         requires few { step ≤ 2 ^ 63 }
+        requires within { step_of self.old ≤ step }
+        requires leads { LeadsTo self.old step }
         ensures sound { IsSound self.new }
         ensures begins { (start : Point) → BeginsAt start self.old → BeginsAt start self.new }
+        ensures there { OnOk result (step_of self.new ≡ step) }
     {
         while self.step_number() < step {
-            if self.go_on(&Stops::none(), step)?.is_some() {
-                return Ok(());
-            }
+            self.begin()?;
+            self.proceed(&Stops::none(), step)?;
         }
         Ok(())
     }
@@ -202,6 +207,7 @@ impl Present {
         requires sound { IsSound self.old }
         requires begun { IsBegun (point_at self.old) self.old.running }
         requires further { steps_of self.old.running < most }
+        requires call { call_at stops.now.watches.now (moment_of self.old) ≡ None }
         ensures serial { self.new.serial ≡ self.old.serial }
         ensures before { self.new.before ≡ self.old.before }
         ensures progress { IfOk result (λ progress. IsWent self.old most progress self.new) }
@@ -270,7 +276,7 @@ impl Present {
     }
 
     /// Whether another thread has its turn than the one that may move alone.
-    fn moves_other(&self, stops: &Stops<'_>) -> bool
+    pub(crate) fn moves_other(&self, stops: &Stops<'_>) -> bool
         ensures { result ≡ moves_other stops.now.alone (need_at (point_at self.now)) }
     {
         match self.serial.need() {

@@ -51,6 +51,8 @@ impl Running {
     ghost use Rattle.std.specs.Prelude.{◌≡◌, ◌≢◌, ◌<◌, ◌≤◌, [], None, false, IfOk, IfSome, OnOk, option_map};
     ghost use Rattle.twins.specs.View as views;
     ghost use Rattle.paged_memory.specs.Snapshot.{cells_of};
+    ghost use Rattle.paged_memory.specs.Snapshot as snapshots;
+    ghost use Rattle.timeline.specs.Calls as calls;
     ghost use Rattle.timeline.specs.Halts as halts;
     ghost use Rattle.timeline.specs.Halts.{IsInstr};
     ghost use Rattle.timeline.specs.Quiet.{IsLooked, IsStill};
@@ -212,7 +214,7 @@ impl Running {
     /// Whether a call comes next and something is watched.
     fn has_watched_call(&self, stops: &Stops<'_>) -> bool
         requires { IsRunning self.now }
-        ensures { result ≡ false → stops.now.watches.now ≢ [] → halts.is_call (halts.next_instr self.now.hart (views.cells_of self.now.view)) ≡ false }
+        ensures { result ≡ false → stops.now.watches.now ≢ [] → halts.calls_next self.now.work.segment.left self.now.done self.now.hart (views.cells_of self.now.view) ≡ false }
     {
         !stops.watches.is_empty() && self.is_at_call()
     }
@@ -323,9 +325,17 @@ impl Running {
         }
     }
 
+    /// Whether an ecall comes next that the bound allows.
+    pub(crate) fn is_at_call(&self) -> bool
+        requires { IsRunning self.now }
+        ensures { result ≡ halts.calls_next self.now.work.segment.left self.now.done self.now.hart (views.cells_of self.now.view) }
+    {
+        self.done < self.work.segment.left && self.is_at_ecall()
+    }
+
     /// Whether the next instruction is an ecall.
     #[tactic(auto, using(crate::proofs::Instructions::call_is))]
-    pub(crate) fn is_at_call(&self) -> bool
+    fn is_at_ecall(&self) -> bool
         requires { IsRunning self.now }
         ensures { result ≡ halts.is_call (halts.next_instr self.now.hart (views.cells_of self.now.view)) }
     {
@@ -333,17 +343,27 @@ impl Running {
     }
 
     /// Whether the thread has changed a byte of an address's page.
-    pub(crate) fn has_changed_page_of(&self, address: u32) -> bool {
+    pub(crate) fn has_changed_page_of(&self, address: u32) -> bool
+        ensures { result ≡ calls.has_changed_page_of (views.cells_of self.now.view) (snapshots.cells_of self.now.base) address }
+    {
         let first = address / PAGE_SIZE * PAGE_SIZE;
         for offset in 0..PAGE_SIZE {
-            let Some(address) = first.checked_add(offset) else {
-                return false;
-            };
-            if self.byte(address) != self.base.byte(address) {
+            if !self.agrees_with(&self.base, first + offset) {
                 return true;
             }
         }
         false
+    }
+
+    /// Whether the thread and a memory have the same byte at an address, or none.
+    pub(crate) fn agrees_with(&self, memory: &Snapshot, address: u32) -> bool
+        ensures { result ≡ calls.agree (views.cells_of self.now.view) (snapshots.cells_of memory.now) address }
+    {
+        match (self.byte(address), memory.byte(address)) {
+            (Some(one), Some(other)) => one == other,
+            (None, None) => true,
+            _ => false,
+        }
     }
 
     /// The load or store that the next instruction makes.

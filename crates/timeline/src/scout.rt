@@ -1,5 +1,9 @@
 //! The last halt of an interval, found by going through it.
-ghost use Rattle.std.specs.Prelude.{◌≡◌, ◌≤◌, ◌<◌, ◌^◌, OnOk};
+ghost use Rattle.std.specs.Prelude.{◌≡◌, ◌≤◌, ◌<◌, ◌+◌, ◌^◌, false, IfOk, OnOk};
+ghost use Rattle.token.specs.Point.{Point};
+ghost use Rattle.timeline.specs.Backward.{AreSilent, IsFound, IsToldOf, LeadsTo, looks};
+ghost use Rattle.timeline.specs.Halts.{wanted_by};
+ghost use Rattle.timeline.specs.Present.{BeginsAt, IsBegun, IsSound, moment_of, point_at, step_of};
 
 use crate::halt::Halt;
 use crate::present::Present;
@@ -12,15 +16,13 @@ const QUIET: u32 = 4096;
 
 /// A halt, and the step at which it stands.
 #[derive(Clone, Copy)]
-pub(crate) struct Found {
+pub struct Found {
     pub(crate) step: u64,
     pub(crate) halt: Halt,
 }
 
 impl Present {
-    ghost use Rattle.timeline.specs.Present.{IsSound, step_of};
-
-    /// Goes to a step that is to come, and answers the last halt on the way back from there.
+    /// Goes to a step that the run leads to, and answers the last halt on the way back from there.
     pub(crate) fn last_halt(
         &mut self,
         stops: &Stops<'_>,
@@ -28,11 +30,13 @@ impl Present {
     ) -> Result<Option<Found>, TurnFault>
         requires sound { IsSound self.old }
         requires few { until ≤ 2 ^ 63 }
+        requires within { step_of self.old ≤ until }
+        requires leads { LeadsTo self.old until }
+        ensures { IfOk result (λ found. (start : Point) → BeginsAt start self.old → IsFound (wanted_by stops.now) start (step_of self.old) until found) }
     {
         let mut last = None;
         let mut quiet = 0u32;
         while self.step_number() < until {
-            let here = self.step_number();
             let found = self.pass(stops, until)?;
             quiet = if found.is_some() {
                 0
@@ -40,9 +44,6 @@ impl Present {
                 quiet.saturating_add(1)
             };
             last = found.or(last);
-            if self.step_number() <= here {
-                return Ok(last);
-            }
             if quiet == QUIET {
                 self.skip(stops, until)?;
                 quiet = 0;
@@ -51,15 +52,19 @@ impl Present {
         Ok(last)
     }
 
-    /// Goes on in the segment of the present turn, as far as a step, as long as it halts at no instruction for what that is. If
+    /// Goes on in the segment of the present turn, as far as a step, as long as nothing is told of its instructions. If
     /// memory is refused it stands at the turn's start.
     fn skip(&mut self, stops: &Stops<'_>, until: u64) -> Result<(), AllocError>
         requires sound { IsSound self.old }
         requires few { until ≤ 2 ^ 63 }
+        requires within { step_of self.old ≤ until }
         ensures sound { IsSound self.new }
+        ensures begins { (start : Point) → BeginsAt start self.old → BeginsAt start self.new }
         ensures since { OnOk result (step_of self.old ≤ step_of self.new) }
+        ensures within { OnOk result (step_of self.new ≤ until) }
+        ensures silent { OnOk result ((start : Point) → BeginsAt start self.old → AreSilent (wanted_by stops.now) start (step_of self.old) (step_of self.new)) }
     {
-        if until <= self.step_number() {
+        if self.moves_other(stops) {
             return Ok(());
         }
         let skipped = match &mut self.running {
@@ -74,36 +79,93 @@ impl Present {
         skipped
     }
 
-    /// Goes on by a step where it may halt there, else as far as the turn goes, and answers the last halt on the way back from there.
+    /// Goes on by a step if something may be told of it, else as far as the turn goes, and answers the last halt on the way
+    /// back from there.
     fn pass(&mut self, stops: &Stops<'_>, until: u64) -> Result<Option<Found>, TurnFault>
         requires sound { IsSound self.old }
         requires further { step_of self.old < until }
         requires few { until ≤ 2 ^ 63 }
-        ensures { IsSound self.new }
+        requires leads { LeadsTo self.old until }
+        ensures sound { IsSound self.new }
+        ensures begins { (start : Point) → BeginsAt start self.old → BeginsAt start self.new }
+        ensures further { OnOk result (step_of self.old < step_of self.new) }
+        ensures within { OnOk result (step_of self.new ≤ until) }
+        ensures found { IfOk result (λ found. (start : Point) → BeginsAt start self.old → IsFound (wanted_by stops.now) start (step_of self.old) (step_of self.new) found) }
     {
         self.begin()?;
-        let thread = self.thread();
-        let here = self.step_number();
-        let looks = self.running.is_some() && stops.asks_within(thread);
-        let (found, goal) = if looks {
-            (self.back_halt(stops)?, here + 1)
+        if self.looks(stops) {
+            self.pass_step(stops)
         } else {
-            (None, until)
-        };
-        self.go_on(&Stops::none(), goal)?;
-        if stops.forbids(thread) {
+            self.pass_turn(stops, until)
+        }
+    }
+
+    /// Goes on by a step, and answers what is told of it.
+    fn pass_step(&mut self, stops: &Stops<'_>) -> Result<Option<Found>, TurnFault>
+        requires sound { IsSound self.old }
+        requires begun { IsBegun (point_at self.old) self.old.running }
+        requires few { step_of self.old < 2 ^ 63 }
+        requires leads { LeadsTo self.old (step_of self.old + 1) }
+        ensures sound { IsSound self.new }
+        ensures begins { (start : Point) → BeginsAt start self.old → BeginsAt start self.new }
+        ensures next { OnOk result (step_of self.new ≡ step_of self.old + 1) }
+        ensures found { IfOk result (λ found. (start : Point) → BeginsAt start self.old → IsFound (wanted_by stops.now) start (step_of self.old) (step_of self.new) found) }
+    {
+        let moves_other = self.moves_other(stops);
+        let found = self.back_halt(stops)?;
+        let next = self.step_number() + 1;
+        self.proceed(&Stops::none(), next)?;
+        if moves_other {
             return Ok(Some(Found {
-                step: self.step_number(),
+                step: next,
                 halt: Halt::OtherThread,
             }));
         }
         Ok(found)
     }
 
-    /// The last halt on the way back over the next instruction, to the present position.
+    /// Goes on as far as the turn goes, if nothing is told of its instructions for what they are.
+    fn pass_turn(&mut self, stops: &Stops<'_>, until: u64) -> Result<Option<Found>, TurnFault>
+        requires sound { IsSound self.old }
+        requires begun { IsBegun (point_at self.old) self.old.running }
+        requires quiet { looks (wanted_by stops.now) self.old.running ≡ false }
+        requires further { step_of self.old < until }
+        requires few { until ≤ 2 ^ 63 }
+        requires leads { LeadsTo self.old until }
+        ensures sound { IsSound self.new }
+        ensures begins { (start : Point) → BeginsAt start self.old → BeginsAt start self.new }
+        ensures further { OnOk result (step_of self.old < step_of self.new) }
+        ensures within { OnOk result (step_of self.new ≤ until) }
+        ensures found { IfOk result (λ found. (start : Point) → BeginsAt start self.old → IsFound (wanted_by stops.now) start (step_of self.old) (step_of self.new) found) }
+    {
+        let moves_other = self.moves_other(stops);
+        self.proceed(stops, until)?;
+        if moves_other {
+            return Ok(Some(Found {
+                step: self.step_number(),
+                halt: Halt::OtherThread,
+            }));
+        }
+        Ok(None)
+    }
+
+    /// Whether something may be told of the next instruction for what it is.
+    fn looks(&self, stops: &Stops<'_>) -> bool
+        ensures { result ≡ looks (wanted_by stops.now) self.now.running }
+    {
+        match &self.running {
+            Some(running) => stops.asks_within(running.work.thread),
+            None => false,
+        }
+    }
+
+    /// What is told of the next instruction for what it is.
+    #[tactic(auto, unfolding(crate::specs::Shown::own_at))]
     fn back_halt(&self, stops: &Stops<'_>) -> Result<Option<Found>, TurnFault>
         requires sound { IsSound self.now }
+        requires begun { IsBegun (point_at self.now) self.now.running }
         requires few { step_of self.now < 2 ^ 63 }
+        ensures { IfOk result (IsToldOf (wanted_by stops.now) (moment_of self.now) (step_of self.now)) }
     {
         let Some(running) = &self.running else {
             return Ok(None);

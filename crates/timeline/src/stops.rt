@@ -41,7 +41,9 @@ pub struct Stops<'a> {
 
 impl<'a> Stops<'a> {
     /// Nothing.
-    pub fn none() -> Self {
+    pub fn none() -> Self
+        ensures { halts.wanted_by result ≡ halts.nothing }
+    {
         Stops {
             breakpoints: &[],
             watches: &[],

@@ -35,8 +35,10 @@ impl Model for Timeline {
 }
 
 impl Timeline {
-    ghost use Rattle.std.specs.Prelude.{◌≡◌, ◌<◌, ◌+◌, ◌-◌, ◌^◌, min, Some, IfOk, IfSome, option_map};
+    ghost use Rattle.std.specs.Prelude.{◌≡◌, ◌<◌, ◌≤◌, Some, IfOk, IfSome, OnOk, option_map};
     ghost use Rattle.token.specs.RunInTurn.{point_of};
+    ghost use Rattle.timeline.specs.Backward.{GoesBack};
+    ghost use Rattle.timeline.specs.Going.{IsSought, IsStepped, goal_of};
     ghost use Rattle.timeline.specs.Halting.{HaltsThere, NoneBetween};
     ghost use Rattle.timeline.specs.Halts.{wanted_by};
     ghost use Rattle.timeline.specs.Line.{SameRun, start_of};
@@ -169,7 +171,8 @@ impl Timeline {
 
     /// Makes a step. False if the run has none from here.
     pub fn step(&mut self) -> Result<bool, AllocError>
-        ensures { SameRun self.old self.new }
+        ensures run { SameRun self.old self.new }
+        ensures stepped { IfOk result (λ is. IsStepped self.old.present is self.new.present) }
     {
         moved(self.line.step())
     }
@@ -179,7 +182,8 @@ impl Timeline {
     pub fn forward(&mut self, stops: &Stops<'_>, most: u64) -> Result<Halt, AllocError>
         ensures run { SameRun self.old self.new }
         ensures passed { IfOk result (λ halt. NoneBetween (wanted_by stops.now) (start_of self.old) (step_of self.old.present) (step_of self.new.present)) }
-        ensures halts { IfOk result (λ halt. HaltsThere (wanted_by stops.now) (step_of self.old.present + min most (2 ^ 63 - step_of self.old.present)) halt self.new.present) }
+        ensures since { OnOk result (step_of self.old.present ≤ step_of self.new.present) }
+        ensures halts { IfOk result (λ halt. HaltsThere (wanted_by stops.now) (goal_of self.old.present most) halt self.new.present) }
     {
         moved(self.line.forward(stops, most))
     }
@@ -188,7 +192,8 @@ impl Timeline {
     /// through one interval between checkpoints, and if it finds none there it stands at the interval's start and
     /// answers that it goes on.
     pub fn back(&mut self, stops: &Stops<'_>) -> Result<Halt, AllocError>
-        ensures { SameRun self.old self.new }
+        ensures run { SameRun self.old self.new }
+        ensures back { IfOk result (λ halt. GoesBack (wanted_by stops.now) (start_of self.old) (step_of self.old.present) halt (step_of self.new.present)) }
     {
         moved(self.line.back(stops))
     }
@@ -196,7 +201,8 @@ impl Timeline {
     /// Goes to a step, or to the last position if the run has none so far on. False if so many steps were made
     /// and it isn't there yet.
     pub fn seek(&mut self, step: u64, most: u64) -> Result<bool, AllocError>
-        ensures { SameRun self.old self.new }
+        ensures run { SameRun self.old self.new }
+        ensures sought { IfOk result (λ is. IsSought self.old.present step most is self.new.present) }
     {
         moved(self.line.seek(step, most))
     }

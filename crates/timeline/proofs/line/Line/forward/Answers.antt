@@ -27,8 +27,14 @@ loop-self-preserved c =
       line = record { present = c.go_on.ensures.sound; begins = begins_new; checkpoints = c.keep.ensures.sound };
       run = same ∙ c.loop-self.invariant.run;
       few = c.loop-self.invariant.few;
+      since = omega (arith, step, c.loop-self.invariant.since);
       within = omega (arith, step, c.goal-goal.ensures.within);
       passed =
           passed_by_walk (wanted_by c.args.stops.now) (start_of c.args.self.now) old.present c.go_on.new.self c.in_ok-halt.field-0 (step_of c.args.self.now.present) begins
           c.in_ok-halt.ensures.walked c.loop-self.invariant.passed;
     }
+
+pub returns-in-Some-clause-since : goal.returns-in-Some-clause-since
+returns-in-Some-clause-since c =
+    let step = rw c.in-Some.is at c.in_ok-halt.ensures.step in
+    omega (arith, step, c.loop-self.invariant.since)

@@ -11,6 +11,7 @@ invariant-loop-self l =
       line : IsLine l.self;
       run : start_of l.self ≡ start_of l.fn.self;
       few : l.until ≤ 2 ^ 63;
+      since : step_of l.fn.self.present ≤ step_of l.self.present;
       within : step_of l.self.present ≤ l.until;
       passed : NoneBetween (wanted_by l.stops) (start_of l.fn.self) (step_of l.fn.self.present) (step_of l.self.present);
     }

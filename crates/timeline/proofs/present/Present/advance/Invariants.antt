@@ -1,4 +1,4 @@
-use Rattle.std.proofs.Common.{◌-◌}
+use Rattle.std.proofs.Common.{◌-◌, ◌≤◌}
 use Rattle.token.specs.Point.{Point}
 use Rattle.timeline.specs.Present.{BeginsAt, IsSound, step_of}
 use Rattle.timeline.proofs.present.Present.advance.Given as goal
@@ -8,6 +8,7 @@ invariant-loop-self l =
     record {
       sound : IsSound l.self;
       begins : (start : Point) → BeginsAt start l.fn.self → BeginsAt start l.self;
+      within : step_of l.self ≤ l.step;
     }
 
 abbrev pub decreases-loop-self : goal.decreases-loop-self

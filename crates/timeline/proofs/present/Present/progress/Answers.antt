@@ -18,7 +18,7 @@ pub returns-then-asks_within-clause-passed : goal.returns-then-asks_within-claus
 returns-then-asks_within-clause-passed c =
     let turns = rw c.in-Some.is at c.requires.sound.turns in
     let wanted = wanted_by c.args.stops.now in
-    passed wanted c.args.self.now c.in-Some.running _ c.args.most c.go_looking.result c.in-Some.is turns c.go_looking.ensures.further
+    passed wanted c.args.self.now c.in-Some.running _ c.args.most c.go_looking.result c.in-Some.is turns c.requires.call c.go_looking.ensures.further
     (all_looked wanted c.in-Some.running _ c.go_looking.result c.go_looking.ensures.looked)
 
 pub returns-else-asks_within-clause-progress : goal.returns-else-asks_within-clause-progress
@@ -32,7 +32,7 @@ returns-else-asks_within-clause-passed c =
     let turns = rw c.in-Some.is at c.requires.sound.turns in
     let below : c.in-Some.running.done < c.args.most = rw c.in-Some.is at c.requires.further in
     let wanted = wanted_by c.args.stops.now in
-    passed wanted c.args.self.now c.in-Some.running _ c.args.most c.go_on.result c.in-Some.is turns
+    passed wanted c.args.self.now c.in-Some.running _ c.args.most c.go_on.result c.in-Some.is turns c.requires.call
     (further c.in-Some.running _ c.args.most c.go_on.result below c.go_on.ensures)
     (all_unasked wanted c.in-Some.running _ c.args.most c.go_on.result (sym c.asks_within.ensures ∙ c.if-asks_within.false) c.go_on.ensures)
 

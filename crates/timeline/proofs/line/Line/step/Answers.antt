@@ -1,0 +1,22 @@
+use Rattle.std.proofs.Common.{arith}
+use Rattle.timeline.specs.Going.{goal_of}
+use Rattle.timeline.specs.Halts.{wanted_by}
+use Rattle.timeline.proofs.Seeking.{end_there, goes_there}
+use Rattle.timeline.proofs.line.Line.step.Goals as goal
+
+pub returns-in-End-clause-stepped : goal.returns-in-End-clause-stepped
+returns-in-End-clause-stepped c =
+    let old = c.args.self.now.present in
+    let forward = c.in_ok-forward.ensures in
+    let end = end_there (wanted_by c.none.result) (goal_of old 1) c.in_ok-forward.field-0 c.forward.new.self.present c.none.ensures forward.halts c.in-End.is in
+    (omega (arith, forward.since, end.0), end.1)
+
+pub returns-in_default : goal.returns-in_default
+returns-in_default c =
+    record {
+      line = c.forward.ensures.line;
+      run = c.forward.ensures.run;
+      stepped =
+          goes_there (wanted_by c.none.result) (goal_of c.args.self.now.present 1) c.in_ok-forward.field-0 c.forward.new.self.present c.none.ensures c.in_ok-forward.ensures.halts
+          c.in_default.not-End;
+    }

@@ -1,0 +1,111 @@
+-- The watch events of calls: what a `read` stores, and what the commit of a turn joins.
+use Rattle.std.specs.Prelude.{ℕ, zero, suc, ◌+◌, ◌*◌, ◌^◌, ◌==◌, ◌&&◌, ◌||◌, Bool, true, false, not, nat_lt, min, if◌then◌else◌, Option, Some, None, option_map, option_and_then, List}
+use Rattle.std.specs.List.{list_any}
+use Rattle.abi.specs.declared.call.Call.{Call}
+use Rattle.abi.specs.declared.call.Call.TheVariants.{Read}
+use Rattle.ecalls.specs.Request.{call_of}
+use Rattle.guest_memory.specs.Layout.{page_of, page_size}
+use Rattle.guest_memory.specs.Memory.{Memory}
+use Rattle.hart.specs.HartState.{register}
+use Rattle.marked_memory.specs.Marks.{looks_for_stores}
+use Rattle.marked_memory.specs.declared.watch.Watch.{Watch}
+use Rattle.thread_table.specs.declared.thread.Thread.{Thread}
+use Rattle.paged_memory.specs.Snapshot as snapshots
+use Rattle.twins.specs.View as views
+use Rattle.timeline.specs.Halts.{calls_next, first_place, is_seen}
+use Rattle.timeline.specs.Moment.{Moment, Task, next_moment, task_at}
+use Rattle.timeline.specs.Shown.{Executing, own_at, row_at}
+use Rattle.timeline.specs.Present.{point_at}
+use Rattle.timeline.specs.declared.access.Access.{Access}
+use Rattle.timeline.specs.declared.halt.Halt.{Halt}
+use Rattle.timeline.specs.declared.halt.Halt.TheVariants.{Watched}
+use Rattle.timeline.specs.declared.present.Present.{Present}
+use Rattle.timeline.specs.declared.running.Running.{Running}
+
+-- whether a test holds of a number below this one
+unfoldable pub any_below : (ℕ → Bool) → ℕ → Bool
+any_below test zero = false
+any_below test (suc n) = any_below test n || test n
+
+-- what a `read` stores
+
+-- how many bytes a thread's `read` has stored: x11 says it if x10 says that it was done
+abbrev pub count_in : Option Thread → ℕ
+count_in None = 0
+count_in (Some row) = if register row.hart 10 == 0 then register row.hart 11 else 0
+
+-- the row of a thread after the next step
+abbrev pub row_after : Moment → ℕ → Option Thread
+row_after moment thread = option_and_then (λ next. row_at next.point thread) (next_moment moment)
+
+abbrev pub stored : ℕ → ℕ → Access
+stored address count = record { address = address; width = count; is_store = true }
+
+-- the store of a call that may touch a watched range
+abbrev pub read_by : List Watch → Call → ℕ → Option Access
+read_by watches (Read address length) count = if list_any (is_seen (stored address length)) watches then Some (stored address count) else None
+read_by watches _ count = None
+
+-- what a commit joins
+
+-- the memory of a thread at the end of its segment, the one that the segment began with, and the shared one
+pub record Joint : Type 0 where
+  pub own : Memory
+  pub base : Memory
+  pub shared : Memory
+
+abbrev pub is_same : Option ℕ → Option ℕ → Bool
+is_same None None = true
+is_same (Some one) (Some other) = one == other
+is_same _ _ = false
+
+-- whether two memories have the same byte at an address, or none
+abbrev pub agree : Memory → Memory → ℕ → Bool
+agree one other address = is_same (option_map (λ cell. cell.byte) (one address)) (option_map (λ cell. cell.byte) (other address))
+
+-- whether another thread has changed a byte that this one hasn't
+abbrev pub is_behind : Joint → ℕ → Bool
+is_behind joint address = agree joint.own joint.base address && not (agree joint.own joint.shared address)
+
+-- whether a memory has another byte than the one that it began as, in an address's page
+abbrev pub has_changed_page_of : Memory → Memory → ℕ → Bool
+has_changed_page_of own base address = any_below (λ offset. not (agree own base (page_of address * page_size + offset))) page_size
+
+abbrev pub joins_at : Joint → ℕ → Bool
+joins_at joint address = nat_lt address (2 ^ 32) && is_behind joint address && has_changed_page_of joint.own joint.base address
+
+-- whether the commit makes of a range something else than the thread has itself: at most 4,096 of its bytes are looked at
+abbrev pub joins : Joint → Watch → Bool
+joins joint watch = looks_for_stores watch.kind && any_below (λ offset. joins_at joint (watch.start + offset)) (min watch.len 4096)
+
+-- the event
+
+abbrev pub is_read_by : Option Access → Watch → Bool
+is_read_by None watch = false
+is_read_by (Some access) watch = is_seen access watch
+
+abbrev pub is_event : Option Access → Joint → Watch → Bool
+is_event read joint watch = is_read_by read watch || joins joint watch
+
+abbrev pub call_event : List Watch → Option Access → Joint → Option Halt
+call_event watches read joint = option_map Watched (first_place (is_event read joint) watches)
+
+abbrev pub joint_of : Moment → Task → Executing → Joint
+joint_of moment task own = record { own = own.memory; base = task.copy; shared = moment.point.state.memory }
+
+abbrev pub read_at : List Watch → Moment → Executing → Option Access
+read_at watches moment own = read_by watches (call_of own.hart) (count_in (row_after moment own.thread))
+
+abbrev pub call_by : List Watch → Moment → Option Task → Option Executing → Option Halt
+call_by watches moment None own = None
+call_by watches moment (Some task) None = None
+call_by watches moment (Some task) (Some own) =
+    if calls_next task.work.segment.left moment.steps own.hart own.memory then call_event watches (read_at watches moment own) (joint_of moment task own) else None
+
+-- the watch event of the call that comes next, none if no call does
+unfoldable pub call_at : List Watch → Moment → Option Halt
+call_at watches moment = call_by watches moment (task_at moment.point) (own_at moment)
+
+-- the memories of a thread that a run has executed so far
+abbrev pub joint_in : Present → Running → Joint
+joint_in present running = record { own = views.cells_of running.view; base = snapshots.cells_of running.base; shared = (point_at present).state.memory }
