@@ -1,7 +1,9 @@
 -- Where the motions to a step end.
-use Rattle.std.specs.Prelude.{◌≡◌, ◌⊎◌, ℕ, ◌+◌, ◌-◌, ◌<◌, ◌^◌, Bool, true, false, Some, min}
-use Rattle.timeline.specs.Halting.{end_at}
-use Rattle.timeline.specs.Present.{moment_of, step_of}
+use Rattle.std.specs.Prelude.{◌≡◌, ◌⊎◌, ℕ, ◌+◌, ◌-◌, ◌<◌, ◌≤◌, ◌^◌, Bool, true, false, Some, min}
+use Rattle.token.specs.Point.{Point}
+use Rattle.timeline.specs.Halting.{NoneBetween, end_at}
+use Rattle.timeline.specs.Halts.{Wanted}
+use Rattle.timeline.specs.Present.{moment_of, step_of, steps_of}
 use Rattle.timeline.specs.declared.halt.Halt.TheVariants.{End}
 use Rattle.timeline.specs.declared.present.Present.{Present}
 
@@ -12,6 +14,10 @@ goal_of old most = step_of old + min most (2 ^ 63 - step_of old)
 -- it stands at the last position of its run
 abbrev pub IsAtEnd : Present → Type 0
 IsAtEnd present = end_at (moment_of present) ≡ Some End
+
+-- Where memory was refused it stands further on, with no halt on the way, or at the start of its turn.
+abbrev pub IsRefused : Wanted → Point → Present → Present → Type 0
+IsRefused wanted start old new = NoneBetween wanted start (step_of old) (step_of new) × ((step_of old ≤ step_of new) ⊎ (steps_of new.running ≡ 0))
 
 -- A step was made, or there is none.
 abbrev pub IsStepped : Present → Bool → Present → Type 0

@@ -1,5 +1,5 @@
 -- What holds of a run at a position.
-use Rattle.std.specs.Prelude.{◌≡◌, ℕ, ◌+◌, ◌<◌, ◌≤◌, ◌^◌, Option, Some, None, IfSome}
+use Rattle.std.specs.Prelude.{◌≡◌, ◌⊎◌, ℕ, ◌+◌, ◌<◌, ◌≤◌, ◌^◌, Option, Some, None, IfSome}
 use Rattle.token.specs.Point.{Point, IsNeededAt}
 use Rattle.token.specs.RunInTurn.{point_of}
 use Rattle.timeline.specs.Moment.{Moment, beginning, moment_at, task_at, turned}
@@ -65,6 +65,11 @@ abbrev pub IsWent : Present → ℕ → Progress → Present → Type 0
 IsWent old most Stays new = IsTurns (point_at new) new.running × (steps_of old.running < steps_of new.running) × (steps_of new.running ≤ most)
 IsWent old most (Halts halt) new = IsTurns (point_at new) new.running × (steps_of old.running ≤ steps_of new.running) × (steps_of new.running < most)
 IsWent old most (Over end) new = IsTurnEnd old most end
+
+-- It stands where it stood, or at its turn's start.
+pub record IsKeptBack (old new : Present) : Type 0 where
+  pub before : new.before ≡ old.before
+  pub steps : (steps_of new.running ≡ steps_of old.running) ⊎ (steps_of new.running ≡ 0)
 
 -- It is further, or halts.
 abbrev pub IsStep : Present → ℕ → Option Halt → Present → Type 0

@@ -1,5 +1,5 @@
 //! A run at a position, with its checkpoints, and its motions.
-ghost use Rattle.std.specs.Prelude.{◌≡◌, ◌≤◌, ◌<◌, ◌^◌, min, IfOk, IfSome, OnOk};
+ghost use Rattle.std.specs.Prelude.{◌≡◌, ◌≤◌, ◌<◌, ◌^◌, min, IfOk, IfSome, OnErr, OnOk};
 ghost use Rattle.token.specs.RunInTurn.{point_of};
 ghost use Rattle.timeline.specs.Backward.{nothing_at};
 
@@ -24,9 +24,9 @@ pub struct Line {
 
 impl Line {
     ghost use Rattle.timeline.specs.Backward.{GoesBack};
-    ghost use Rattle.timeline.specs.Going.{IsSought, IsStepped, goal_of};
+    ghost use Rattle.timeline.specs.Going.{IsRefused, IsSought, IsStepped, goal_of};
     ghost use Rattle.timeline.specs.Halting.{HaltsThere, NoneBetween};
-    ghost use Rattle.timeline.specs.Halts.{wanted_by};
+    ghost use Rattle.timeline.specs.Halts.{nothing, wanted_by};
     ghost use Rattle.timeline.specs.Line.{IsLine, SameRun, start_of};
     ghost use Rattle.timeline.specs.Present.{step_of};
 
@@ -55,6 +55,7 @@ impl Line {
         ensures line { IsLine self.new }
         ensures run { SameRun self.old self.new }
         ensures stepped { IfOk result (λ is. IsStepped self.old.present is self.new.present) }
+        ensures refused { OnErr result (IsRefused nothing (start_of self.old) self.old.present self.new.present) }
     {
         match self.forward(&Stops::none(), 1)? {
             Halt::End => Ok(false),
@@ -71,6 +72,7 @@ impl Line {
         ensures passed { IfOk result (λ halt. NoneBetween (wanted_by stops.now) (start_of self.old) (step_of self.old.present) (step_of self.new.present)) }
         ensures since { OnOk result (step_of self.old.present ≤ step_of self.new.present) }
         ensures halts { IfOk result (λ halt. HaltsThere (wanted_by stops.now) (goal_of self.old.present most) halt self.new.present) }
+        ensures refused { OnErr result (IsRefused (wanted_by stops.now) (start_of self.old) self.old.present self.new.present) }
     {
         let here = self.present.step_number();
         let until = here + most.min(MOST_STEPS - here);
@@ -107,6 +109,7 @@ impl Line {
         ensures line { IsLine self.new }
         ensures run { SameRun self.old self.new }
         ensures back { IfOk result (λ halt. GoesBack (wanted_by stops.now) (start_of self.old) (step_of self.old.present) halt (step_of self.new.present)) }
+        ensures refused { OnErr result (self.new.present ≡ self.old.present) }
     {
         let here = self.present.step_number();
         if here == 0 {
@@ -134,6 +137,7 @@ impl Line {
         ensures line { IsLine self.new }
         ensures run { SameRun self.old self.new }
         ensures sought { IfOk result (λ is. IsSought self.old.present step most is self.new.present) }
+        ensures refused { OnErr result (IsRefused nothing (start_of self.old) self.old.present self.new.present) }
     {
         let here = self.present.step_number();
         if step < here {
@@ -152,6 +156,7 @@ impl Line {
         ensures line { IsLine self.new }
         ensures run { SameRun self.old self.new }
         ensures there { OnOk result (step_of self.new.present ≡ min step (step_of self.old.present)) }
+        ensures refused { OnErr result (self.new.present ≡ self.old.present) }
     {
         if step >= self.present.step_number() {
             return Ok(());

@@ -36,7 +36,7 @@ impl Present {
     ghost use Rattle.timeline.specs.Halting.{IsPassed, IsPlainWalk, IsWalked, address_at, moves_other, threads_at};
     ghost use Rattle.timeline.specs.Calls.{call_at};
     ghost use Rattle.timeline.specs.Halts as halts;
-    ghost use Rattle.timeline.specs.Present.{BeginsAt, IsBegun, IsSound, IsStep, moment_of, point_at, step_of, steps_of};
+    ghost use Rattle.timeline.specs.Present.{BeginsAt, IsBegun, IsKeptBack, IsSound, IsStep, moment_of, point_at, step_of, steps_of};
     ghost use Rattle.timeline.specs.Shown.{own_at};
 
     /// The first position of a run.
@@ -142,6 +142,7 @@ impl Present {
         ensures begins { (start : Point) → BeginsAt start self.old → BeginsAt start self.new }
         ensures step { IfOk result (λ halt. IsStep self.old until halt self.new) }
         ensures walked { IfOk result (λ halt. IsWalked (halts.wanted_by stops.now) self.old halt self.new) }
+        ensures refused { OnErr result (IsKeptBack self.old self.new) }
     {
         self.begin()?;
         if let Some(halt) = self.halt_here(stops) {
@@ -169,6 +170,7 @@ impl Present {
         ensures begins { (start : Point) → BeginsAt start self.old → BeginsAt start self.new }
         ensures step { IfOk result (λ halt. IsStep self.old until halt self.new) }
         ensures walked { IfOk result (λ halt. IsPlainWalk (halts.wanted_by stops.now) self.old halt self.new) }
+        ensures refused { OnErr result (IsKeptBack self.old self.new) }
     {
         let progress = self.progress(stops, until - self.before);
         match progress {

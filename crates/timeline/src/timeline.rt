@@ -35,12 +35,12 @@ impl Model for Timeline {
 }
 
 impl Timeline {
-    ghost use Rattle.std.specs.Prelude.{◌≡◌, ◌<◌, ◌≤◌, Some, IfOk, IfSome, OnOk, option_map};
+    ghost use Rattle.std.specs.Prelude.{◌≡◌, ◌<◌, ◌≤◌, Some, IfOk, IfSome, OnErr, OnOk, option_map};
     ghost use Rattle.token.specs.RunInTurn.{point_of};
     ghost use Rattle.timeline.specs.Backward.{GoesBack};
-    ghost use Rattle.timeline.specs.Going.{IsSought, IsStepped, goal_of};
+    ghost use Rattle.timeline.specs.Going.{IsRefused, IsSought, IsStepped, goal_of};
     ghost use Rattle.timeline.specs.Halting.{HaltsThere, NoneBetween};
-    ghost use Rattle.timeline.specs.Halts.{wanted_by};
+    ghost use Rattle.timeline.specs.Halts.{nothing, wanted_by};
     ghost use Rattle.timeline.specs.Line.{SameRun, start_of};
     ghost use Rattle.timeline.specs.Moment.{moment_at};
     ghost use Rattle.timeline.specs.Present.{moment_of, step_of, steps_of};
@@ -173,6 +173,7 @@ impl Timeline {
     pub fn step(&mut self) -> Result<bool, AllocError>
         ensures run { SameRun self.old self.new }
         ensures stepped { IfOk result (λ is. IsStepped self.old.present is self.new.present) }
+        ensures refused { OnErr result (IsRefused nothing (start_of self.old) self.old.present self.new.present) }
     {
         moved(self.line.step())
     }
@@ -184,6 +185,7 @@ impl Timeline {
         ensures passed { IfOk result (λ halt. NoneBetween (wanted_by stops.now) (start_of self.old) (step_of self.old.present) (step_of self.new.present)) }
         ensures since { OnOk result (step_of self.old.present ≤ step_of self.new.present) }
         ensures halts { IfOk result (λ halt. HaltsThere (wanted_by stops.now) (goal_of self.old.present most) halt self.new.present) }
+        ensures refused { OnErr result (IsRefused (wanted_by stops.now) (start_of self.old) self.old.present self.new.present) }
     {
         moved(self.line.forward(stops, most))
     }
@@ -194,6 +196,7 @@ impl Timeline {
     pub fn back(&mut self, stops: &Stops<'_>) -> Result<Halt, AllocError>
         ensures run { SameRun self.old self.new }
         ensures back { IfOk result (λ halt. GoesBack (wanted_by stops.now) (start_of self.old) (step_of self.old.present) halt (step_of self.new.present)) }
+        ensures refused { OnErr result (self.new.present ≡ self.old.present) }
     {
         moved(self.line.back(stops))
     }
@@ -203,6 +206,7 @@ impl Timeline {
     pub fn seek(&mut self, step: u64, most: u64) -> Result<bool, AllocError>
         ensures run { SameRun self.old self.new }
         ensures sought { IfOk result (λ is. IsSought self.old.present step most is self.new.present) }
+        ensures refused { OnErr result (IsRefused nothing (start_of self.old) self.old.present self.new.present) }
     {
         moved(self.line.seek(step, most))
     }

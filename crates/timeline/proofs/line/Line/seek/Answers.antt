@@ -3,6 +3,7 @@ use Rattle.std.specs.Prelude.{min}
 use Rattle.timeline.specs.Going.{goal_of}
 use Rattle.timeline.specs.Halts.{wanted_by}
 use Rattle.timeline.specs.Present.{step_of}
+use Rattle.timeline.proofs.Moving.{on_err}
 use Rattle.timeline.proofs.Seeking.{end_there, goes_there, sought}
 use Rattle.timeline.proofs.line.Line.seek.Goals as goal
 
@@ -19,4 +20,7 @@ returns-in_default c =
     let there = goes_there (wanted_by c.none.result) (goal_of old c.min.result) c.in_ok-forward.field-0 new c.none.ensures c.in_ok-forward.ensures.halts c.in_default.not-End in
     let most : c.min.result ≡ min c.args.most (c.args.step - step_of old) = omega (arith, c.min.ensures, c.step_number-here.ensures) in
     let is = sought old new c.args.step c.args.most (omega (arith, c.step_number-here.ensures, c.if-step-here.false)) (rw most at there) in
-    record { line = c.forward.ensures.line; run = c.forward.ensures.run; sought = rw c.step_number.ensures is }
+    record { line = c.forward.ensures.line; run = c.forward.ensures.run; sought = rw c.step_number.ensures is; refused = tt }
+
+pub returns-in_err-forward-clause-refused : goal.returns-in_err-forward-clause-refused
+returns-in_err-forward-clause-refused c = on_err _ _ (rw c.none.ensures at c.in_err-forward.ensures.refused)

@@ -1,6 +1,7 @@
 use Rattle.std.proofs.Common.{arith}
 use Rattle.timeline.specs.Going.{goal_of}
 use Rattle.timeline.specs.Halts.{wanted_by}
+use Rattle.timeline.proofs.Moving.{on_err}
 use Rattle.timeline.proofs.Seeking.{end_there, goes_there}
 use Rattle.timeline.proofs.line.Line.step.Goals as goal
 
@@ -19,4 +20,8 @@ returns-in_default c =
       stepped =
           goes_there (wanted_by c.none.result) (goal_of c.args.self.now.present 1) c.in_ok-forward.field-0 c.forward.new.self.present c.none.ensures c.in_ok-forward.ensures.halts
           c.in_default.not-End;
+      refused = tt;
     }
+
+pub returns-in_err-forward-clause-refused : goal.returns-in_err-forward-clause-refused
+returns-in_err-forward-clause-refused c = on_err _ _ (rw c.none.ensures at c.in_err-forward.ensures.refused)
