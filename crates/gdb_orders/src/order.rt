@@ -1,4 +1,7 @@
 //! What a packet that resumes orders.
+ghost use Rattle.std.specs.Prelude.{◌≡◌, ◌&&◌, nat_le, nat_lt, not};
+ghost use Rattle.gdb_orders.specs.Orders.{alone_in, alone_of, is_step};
+
 /// How the run is to move.
 #[derive(Clone, Copy, Debug, PartialEq, Eq)]
 pub enum Order {
@@ -23,7 +26,9 @@ pub struct Stepper {
 
 impl Stepper {
     /// The thread that moves alone, if one does.
-    pub fn alone(&self) -> Option<u32> {
+    pub fn alone(&self) -> Option<u32>
+        ensures { result ≡ alone_in self.now }
+    {
         if self.is_alone {
             Some(self.thread)
         } else {
@@ -32,19 +37,25 @@ impl Stepper {
     }
 
     /// Whether it executes more than one instruction if they are in its range.
-    pub fn has_range(&self) -> bool {
+    pub fn has_range(&self) -> bool
+        ensures { result ≡ nat_lt self.now.start self.now.end }
+    {
         self.start < self.end
     }
 
     /// Whether an address is in its range.
-    pub fn is_within(&self, pc: u32) -> bool {
+    pub fn is_within(&self, pc: u32) -> bool
+        ensures { result ≡ (nat_le self.now.start pc && nat_lt pc self.now.end) }
+    {
         self.start <= pc && pc < self.end
     }
 }
 
 impl Order {
     /// The thread that moves alone, if one does.
-    pub fn alone(&self) -> Option<u32> {
+    pub fn alone(&self) -> Option<u32>
+        ensures { result ≡ alone_of self.now }
+    {
         match self {
             Order::Continue { alone } => *alone,
             Order::Step(stepper) => stepper.alone(),
@@ -52,7 +63,9 @@ impl Order {
     }
 
     /// Whether it is a step of a thread alone.
-    pub fn is_step_alone(&self) -> bool {
+    pub fn is_step_alone(&self) -> bool
+        ensures { result ≡ is_step self.now (λ stepper. stepper.is_alone) }
+    {
         match self {
             Order::Continue { .. } => false,
             Order::Step(stepper) => stepper.is_alone,
@@ -60,7 +73,9 @@ impl Order {
     }
 
     /// Whether it is a step of a thread among others.
-    pub fn is_step_among_others(&self) -> bool {
+    pub fn is_step_among_others(&self) -> bool
+        ensures { result ≡ is_step self.now (λ stepper. not stepper.is_alone) }
+    {
         match self {
             Order::Continue { .. } => false,
             Order::Step(stepper) => !stepper.is_alone,

@@ -1,4 +1,9 @@
 //! The breakpoints and watchpoints of a session.
+ghost use Rattle.std.specs.Prelude.{◌≡◌, ◌++◌, not, ◌==◌, is_some, IfOk, OnOk, Some, []};
+ghost use Rattle.std.specs.List.{filter, list_any};
+ghost use Rattle.gdb_orders.specs.Points as points;
+ghost use Rattle.gdb_orders.specs.Points.{IsCleared, IsSet};
+
 use gdb_packets::{PointKind, Window};
 use std::alloc::{AllocError, Global};
 use timeline::{Watch, WatchKind};
@@ -21,7 +26,12 @@ pub struct Points {
 
 impl Points {
     /// No points.
-    pub fn new(alloc: Global) -> Self {
+    pub fn new(alloc: Global) -> Self
+        ensures software { result.software.items ≡ [] }
+        ensures hardware { result.hardware.items ≡ [] }
+        ensures addresses { result.addresses.items ≡ [] }
+        ensures watches { result.watches.items ≡ [] }
+    {
         Points {
             software: Vec::new(alloc),
             hardware: Vec::new(alloc),
@@ -31,22 +41,31 @@ impl Points {
     }
 
     /// The addresses of all breakpoints.
-    pub fn addresses(&self) -> &[u32] {
+    pub fn addresses(&self) -> &[u32]
+        ensures { result.now ≡ self.now.addresses.items }
+    {
         self.addresses.as_slice()
     }
 
     /// The watched ranges.
-    pub fn watches(&self) -> &[Watch] {
+    pub fn watches(&self) -> &[Watch]
+        ensures { result.now ≡ self.now.watches.items }
+    {
         self.watches.as_slice()
     }
 
     /// Whether a breakpoint in memory is at this address.
-    pub fn has_software(&self, address: u32) -> bool {
+    pub fn has_software(&self, address: u32) -> bool
+        ensures { result ≡ list_any (λ other. other == address) self.now.software.items }
+    {
         self.software.as_slice().contains(&address)
     }
 
     /// Sets a point, also one that is set. False if it can't be.
-    pub fn set(&mut self, kind: PointKind, window: Window) -> Result<bool, AllocError> {
+    pub fn set(&mut self, kind: PointKind, window: Window) -> Result<bool, AllocError>
+        ensures can { IfOk result (λ can. can ≡ points.can_be kind window) }
+        ensures set { OnOk result (IsSet self.old self.new kind window) }
+    {
         match kind {
             PointKind::Software => set_address(&mut self.software, window.start)?,
             PointKind::Hardware => set_address(&mut self.hardware, window.start)?,
@@ -59,16 +78,15 @@ impl Points {
     }
 
     /// Clears a point, also one that isn't set. False if it can't be set.
-    pub fn clear(&mut self, kind: PointKind, window: Window) -> Result<bool, AllocError> {
+    pub fn clear(&mut self, kind: PointKind, window: Window) -> Result<bool, AllocError>
+        ensures can { IfOk result (λ can. can ≡ points.can_be kind window) }
+        ensures cleared { OnOk result (IsCleared self.old self.new kind window) }
+    {
         match kind {
             PointKind::Software => clear_address(&mut self.software, window.start),
             PointKind::Hardware => clear_address(&mut self.hardware, window.start),
             PointKind::Write | PointKind::Read | PointKind::Access => {
-                let Some(watch) = watch_of(kind, window) else {
-                    return Ok(false);
-                };
-                self.watches.retain(|other| *other != watch);
-                return Ok(true);
+                return Ok(self.clear_watch(kind, window));
             }
         }
         self.gather()?;
@@ -76,7 +94,11 @@ impl Points {
     }
 
     /// Sets a watchpoint.
-    fn set_watch(&mut self, kind: PointKind, window: Window) -> Result<bool, AllocError> {
+    fn set_watch(&mut self, kind: PointKind, window: Window) -> Result<bool, AllocError>
+        ensures can { IfOk result (λ can. can ≡ is_some (points.watch_of kind window)) }
+        ensures watches { OnOk result (self.new.watches.items ≡ points.with_watch self.old.watches.items (points.watch_of kind window)) }
+        ensures rest { self.new ≡ record self.old { watches = self.new.watches } }
+    {
         let Some(watch) = watch_of(kind, window) else {
             return Ok(false);
         };
@@ -86,8 +108,24 @@ impl Points {
         Ok(true)
     }
 
+    /// Clears a watchpoint.
+    fn clear_watch(&mut self, kind: PointKind, window: Window) -> bool
+        ensures can { result ≡ is_some (points.watch_of kind window) }
+        ensures watches { self.new.watches.items ≡ points.without_watch self.old.watches.items (points.watch_of kind window) }
+        ensures rest { self.new ≡ record self.old { watches = self.new.watches } }
+    {
+        let Some(watch) = watch_of(kind, window) else {
+            return false;
+        };
+        drop_watch(&mut self.watches, watch);
+        true
+    }
+
     /// Gathers the addresses of all breakpoints.
-    fn gather(&mut self) -> Result<(), AllocError> {
+    fn gather(&mut self) -> Result<(), AllocError>
+        ensures addresses { OnOk result (self.new.addresses.items ≡ self.old.software.items ++ self.old.hardware.items) }
+        ensures rest { self.new ≡ record self.old { addresses = self.new.addresses } }
+    {
         self.addresses.clear();
         self.addresses.extend_from_slice(self.software.as_slice())?;
         self.addresses.extend_from_slice(self.hardware.as_slice())
@@ -95,7 +133,9 @@ impl Points {
 }
 
 /// Adds an address, unless it is there or no instruction can have it.
-fn set_address(addresses: &mut Vec<u32>, address: u64) -> Result<(), AllocError> {
+fn set_address(addresses: &mut Vec<u32>, address: u64) -> Result<(), AllocError>
+    ensures { OnOk result (addresses.new.items ≡ points.with_address addresses.old.items address) }
+{
     if let Ok(address) = u32::try_from(address)
         && !addresses.as_slice().contains(&address)
     {
@@ -105,12 +145,23 @@ fn set_address(addresses: &mut Vec<u32>, address: u64) -> Result<(), AllocError>
 }
 
 /// Takes an address away.
-fn clear_address(addresses: &mut Vec<u32>, address: u64) {
+fn clear_address(addresses: &mut Vec<u32>, address: u64)
+    ensures { addresses.new.items ≡ points.without_address addresses.old.items address }
+{
     addresses.retain(|other| u64::from(*other) != address);
 }
 
+/// Takes a watch away.
+fn drop_watch(watches: &mut Vec<Watch>, watch: Watch)
+    ensures { watches.new.items ≡ points.without_watch watches.old.items (Some watch) }
+{
+    watches.retain(|other| *other != watch);
+}
+
 /// The watch of a range, none if it is empty or goes past all addresses.
-fn watch_of(kind: PointKind, window: Window) -> Option<Watch> {
+fn watch_of(kind: PointKind, window: Window) -> Option<Watch>
+    ensures { result ≡ points.watch_of kind window }
+{
     let kind = match kind {
         PointKind::Write => WatchKind::Store,
         PointKind::Read => WatchKind::Load,
