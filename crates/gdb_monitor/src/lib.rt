@@ -11,6 +11,6 @@ mod texts;
 mod trace;
 mod writers;
 
-pub use command::{Command, command_of, decimal};
+pub use command::{Command, Span, command_of};
 pub use performing::perform;
 pub use searching::{existing, step_named, step_of};

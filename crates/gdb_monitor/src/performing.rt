@@ -1,4 +1,7 @@
 //! Does the commands.
+ghost use Rattle.std.specs.Prelude.{OnOk};
+ghost use Rattle.gdb_monitor.specs.Searching.{Stays};
+
 use crate::command::Command;
 use crate::searching::{existing, step_of};
 use crate::texts::{locks_text, position_text, shared_text, thread_line};
@@ -29,7 +32,9 @@ pub fn perform(
     timeline: &mut Timeline,
     listed: u32,
     command: Command,
-) -> Result<Option<u64>, AllocError> {
+) -> Result<Option<u64>, AllocError>
+    ensures { OnOk result (Stays timeline.old timeline.new) }
+{
     match command {
         Command::Turn { turn, count } => {
             let step = step_of(timeline, turn, count)?;

@@ -4,6 +4,7 @@ use Rattle.timeline.specs.Moment.{Moment}
 use Rattle.timeline.specs.Present.{moment_of}
 use Rattle.gdb_packets.specs.declared.request.Request.{Request}
 use Rattle.gdb_packets.specs.declared.request.Request.TheVariants as request
+use Rattle.gdb_monitor.specs.Searching.{Stays}
 use Rattle.gdb_shown.specs.Memory.{memory_shown}
 use Rattle.gdb_shown.specs.Registers.{one_register_shown, registers_shown}
 use Rattle.gdb_protocol.specs.Answers.{Answers}
@@ -19,11 +20,13 @@ text_or_error None = codes "E01"
 text_or_error (Some text) = text
 
 -- The registers and the memory are those of the thread that is meant, at the position of the run. A change is refused: of registers
--- with a reason that gdb prints, of memory with an error. Nothing else changes. Of other requests nothing is said.
+-- with a reason that gdb prints, of memory with an error. Nothing else changes. A command of the user's leaves the run where it stands.
+-- Of other requests nothing is said.
 abbrev pub Replies : Session → Session → Request → Type 0
 Replies old new request.Registers = Answers old new (registers_shown (moment_in old) old.selection.general)
 Replies old new (request.Register number) = Answers old new (text_or_error (one_register_shown (moment_in old) old.selection.general number))
 Replies old new (request.Memory window) = Answers old new (text_or_error (memory_shown (moment_in old) old.selection.general window))
 Replies old new request.ChangeRegisters = Answers old new (codes "E.a deterministic run is read-only")
 Replies old new request.ChangeMemory = Answers old new (codes "E01")
+Replies old new (request.Command text) = Stays old.timeline new.timeline
 Replies old new _ = Unit {0}

@@ -13,6 +13,7 @@ const FEATURES: &[u8] =
 impl Session {
     ghost use Rattle.std.specs.Prelude.{◌≡◌, OnOk, option_map};
     ghost use Rattle.std.specs.String.{string_bytes};
+    ghost use Rattle.gdb_monitor.specs.Searching.{Stays};
     ghost use Rattle.gdb_shown.specs.Memory.{memory_shown};
     ghost use Rattle.gdb_shown.specs.Registers.{one_register_shown, registers_shown};
     ghost use Rattle.gdb_protocol.specs.Answers.{Answers};
@@ -163,7 +164,9 @@ impl Session {
     }
 
     /// Does a command of the user's, given in digits.
-    fn command(&mut self, digits: &[u8]) -> Result<(), AllocError> {
+    fn command(&mut self, digits: &[u8]) -> Result<(), AllocError>
+        ensures { OnOk result (Stays self.old.timeline self.new.timeline) }
+    {
         let Some(text) = bytes_of_digits(self.alloc, digits)? else {
             return self.wire.answer(b"E01");
         };

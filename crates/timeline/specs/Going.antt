@@ -3,6 +3,7 @@ use Rattle.std.specs.Prelude.{◌≡◌, ◌⊎◌, ℕ, ◌+◌, ◌-◌, ◌<�
 use Rattle.token.specs.Point.{Point}
 use Rattle.timeline.specs.Halting.{NoneBetween, end_at}
 use Rattle.timeline.specs.Halts.{Wanted}
+use Rattle.timeline.specs.Moment.{moment_at}
 use Rattle.timeline.specs.Present.{moment_of, step_of, steps_of}
 use Rattle.timeline.specs.declared.halt.Halt.TheVariants.{End}
 use Rattle.timeline.specs.declared.present.Present.{Present}
@@ -10,6 +11,10 @@ use Rattle.timeline.specs.declared.present.Present.{Present}
 -- the step that so many more lead to: no more than 2^63 are counted
 abbrev pub goal_of : Present → ℕ → ℕ
 goal_of old most = step_of old + min most (2 ^ 63 - step_of old)
+
+-- it stands at a position of the run that begins there
+abbrev pub IsAt : Point → Present → Type 0
+IsAt start present = moment_at start (step_of present) ≡ Some (moment_of present)
 
 -- it stands at the last position of its run
 abbrev pub IsAtEnd : Present → Type 0

@@ -35,10 +35,10 @@ impl Model for Timeline {
 }
 
 impl Timeline {
-    ghost use Rattle.std.specs.Prelude.{◌≡◌, ◌<◌, ◌≤◌, Some, IfOk, IfSome, OnErr, OnOk, option_map};
+    ghost use Rattle.std.specs.Prelude.{◌≡◌, ◌<◌, ◌≤◌, ◌^◌, Some, IfOk, IfSome, OnErr, OnOk, option_map};
     ghost use Rattle.token.specs.RunInTurn.{point_of};
     ghost use Rattle.timeline.specs.Backward.{GoesBack};
-    ghost use Rattle.timeline.specs.Going.{IsRefused, IsSought, IsStepped, goal_of};
+    ghost use Rattle.timeline.specs.Going.{IsAt, IsRefused, IsSought, IsStepped, goal_of};
     ghost use Rattle.timeline.specs.Halting.{HaltsThere, NoneBetween};
     ghost use Rattle.timeline.specs.Halts.{nothing, wanted_by};
     ghost use Rattle.timeline.specs.Line.{SameRun, start_of};
@@ -60,6 +60,7 @@ impl Timeline {
     pub fn step_number(&self) -> u64
         ensures step { result ≡ step_of self.now.present }
         ensures position { moment_at (start_of self.now) result ≡ Some (moment_of self.now.present) }
+        ensures few { result ≤ 2 ^ 63 }
     {
         self.line.present.step_number()
     }
@@ -205,6 +206,7 @@ impl Timeline {
     /// and it isn't there yet.
     pub fn seek(&mut self, step: u64, most: u64) -> Result<bool, AllocError>
         ensures run { SameRun self.old self.new }
+        ensures position { IsAt (start_of self.new) self.new.present }
         ensures sought { IfOk result (λ is. IsSought self.old.present step most is self.new.present) }
         ensures refused { OnErr result (IsRefused nothing (start_of self.old) self.old.present self.new.present) }
     {
