@@ -1,6 +1,6 @@
 //! The commands that a user of gdb gives by `monitor`: texts about the run, and positions found without moving for gdb.
 //!
-//! - [`command_of`] reads a command, and [`perform`] does it.
+//! - [`command_of`] reads a command, and [`perform_command`] does it.
 //! - [`step_of`] and [`existing`] find a position: the run goes there and comes back.
 #![tactic(auto)]
 
@@ -12,5 +12,5 @@ mod trace;
 mod writers;
 
 pub use command::{Command, Span, command_of};
-pub use performing::perform;
+pub use performing::perform_command;
 pub use searching::{existing, step_named, step_of};

@@ -26,7 +26,7 @@ help               this list
 
 /// Does a command, with so many threads listed, and prints what it has to say. Answers the step to which the next resume is
 /// to go, if the command chooses one.
-pub fn perform(
+pub fn perform_command(
     alloc: Global,
     wire: &mut Wire,
     timeline: &mut Timeline,

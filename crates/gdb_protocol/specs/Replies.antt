@@ -20,7 +20,7 @@ text_or_error None = codes "E01"
 text_or_error (Some text) = text
 
 -- The registers and the memory are those of the thread that is meant, at the position of the run. A change is refused: of registers
--- with a reason that gdb prints, of memory with an error. Nothing else changes. A command of the user's leaves the run where it stands.
+-- with a reason that gdb prints, of memory with an error. Nothing else changes. A command of the user leaves the run where it stands.
 -- Of other requests nothing is said.
 abbrev pub Replies : Session → Session → Request → Type 0
 Replies old new request.Registers = Answers old new (registers_shown (moment_in old) old.selection.general)

@@ -1,7 +1,7 @@
 //! Answers what packets ask for.
 use crate::life::Life;
 use crate::session::Session;
-use gdb_monitor::{command_of, perform, step_named};
+use gdb_monitor::{command_of, perform_command, step_named};
 use gdb_packets::{Request, Window, bytes_of_digits};
 use gdb_shown::{memory_text, part_of, register_text, registers_text, target_description};
 use std::alloc::AllocError;
@@ -172,7 +172,7 @@ impl Session {
         };
         let command = command_of(self.alloc, text.as_slice())?;
         let listed = self.listed();
-        let chosen = perform(
+        let chosen = perform_command(
             self.alloc,
             &mut self.wire,
             &mut self.timeline,
