@@ -2,8 +2,8 @@
 
 `alloc_failures` must print the same text whichever of its requests is refused. With all refused from the first on that comes right before
 its calls that take no memory, it must say of that request and of the last one that they were refused, and of these calls what it says
-else. `dthreads` runs, lists and records small guests, and replays schedules: each answer is the true one or out of memory (125); then
-standard output has a prefix of the true output, and no file was written after the first that lacks. `phase_failures` runs phases of
+else. `dthreads` runs, lists and records small guests, replays schedules, and debugs: each answer is the true one or out of memory (125);
+then standard output has a prefix of the true output, and no file was written after the first that lacks. `phase_failures` runs phases of
 these guests: each of its lines is the true one or says out of memory, and its draws take no memory.
 
 It needs a C compiler. DTHREADS names a built program to run the guests with, or else it is built.
@@ -34,6 +34,40 @@ RECORDS = ["trace", "report", "digest"]
 
 # The schedules of `race`, each with the numbers of workers that it is replayed with.
 SCHEDULES = [("one-worker", "14"), ("three-workers", "34"), ("early-turn", "24")]
+
+
+# The guests that are debugged, and what gdb asks of each: forward to breakpoints and watched words, back, by single steps, and by commands.
+DEBUGGED = ["race", "signal", "release-race"]
+PACKETS = [
+    "QStartNoAckMode",
+    "qSupported:swbreak+;hwbreak+",
+    "?",
+    "Z0,10018,4",
+    "vCont;c",
+    "g",
+    "m20000,10",
+    "vCont;s:1;c",
+    "z0,10018,4",
+    "Z2,20000,4",
+    "vCont;c",
+    "vCont;s:1",
+    "bs",
+    "vCont;c",
+    "bc",
+    "z2,20000,4",
+    "qRcmd," + b"turn 3".hex(),
+    "qRcmd," + b"go 7".hex(),
+    "bs",
+    "vCont;c",
+    "qRcmd," + b"trace".hex(),
+    "qRcmd," + b"writers 20000 4".hex(),
+    "qRcmd," + b"threads".hex(),
+    "qRcmd," + b"locks".hex(),
+    "qXfer:threads:read::0,fff",
+    "bc",
+    "vCont;c",
+    "vCont;c",
+]
 
 
 class Answer:
@@ -97,7 +131,7 @@ class Sweep:
 
     def spread(self):
         """Returns by how many requests two runs can differ: host threads may be started or not."""
-        return 200 if self.words[1:2] == ["run"] and "1" not in self.words else 0
+        return 200 if self.words[1] == "debug" or self.words[1:2] == ["run"] and "1" not in self.words else 0
 
 
 def calls(room, program):
@@ -177,6 +211,18 @@ def replays(room, program):
             yield f"replay race, {schedule}, {workers} workers", Sweep(room, words)
 
 
+def framed(text):
+    """Returns a packet of gdb's remote protocol."""
+    return b"$%s#%02x" % (text.encode(), sum(text.encode()) % 256)
+
+
+def debugs(room, program):
+    """Yields the sweeps of debugging sessions, each with its name."""
+    given = b"+".join(map(framed, PACKETS))
+    for guest in DEBUGGED:
+        yield f"debug {guest}", Sweep(room, [program, "debug", f"{TOP}/samples/{guest}.elf"], given)
+
+
 def library(room):
     """Builds the library that refuses."""
     words = ["cc", "-O2", "-fno-builtin", "-shared", "-fPIC", "-o", f"{room}/refuse.so", f"{TOP}/tools/refuse.c"]
@@ -211,7 +257,7 @@ def sweep(options):
                 progress.at = name
                 does(room, built(name))
         program = dthreads()
-        chosen = [it for it in [*runs(room, program), *replays(room, program)] if options.word in it[0]]
+        chosen = [it for it in [*runs(room, program), *replays(room, program), *debugs(room, program)] if options.word in it[0]]
         progress.total = len(chosen)
         for name, one in progress.each(chosen, lambda it: it[0]):
             one.each(name)
