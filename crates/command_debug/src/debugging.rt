@@ -2,19 +2,19 @@
 ghost use Rattle.std.specs.Prelude.{◌^◌, ◌<◌, IfOk, IfSome};
 ghost use Rattle.token.specs.RunInTurn.{point_of};
 
-use crate::incoming::{Incoming, read_all};
+use crate::incoming::{Incoming, Piece, read_all};
 use crate::serving::{ServeFault, serve};
 use command_requests::{Failure, Target, fail};
 use command_run::open_bytes;
-use crossbeam_channel::bounded;
+use crossbeam_channel::{Sender, bounded};
 use elf32_reader::FILE_LIMIT;
 use gdb_protocol::Session;
 use output_files::Files;
 use runtime::{Config, MAX_INPUT};
-use std::alloc::Global;
+use std::alloc::{AllocError, Global};
 use std::io::{Read, Write};
 use std::sync::Wait;
-use std::thread::{Threads, join};
+use std::thread::{Threads, scope, scope_env};
 use timeline::{Spacing, Timeline};
 use token::Start;
 
@@ -44,19 +44,37 @@ pub fn debug_file<'a, H: Threads + Wait + Sync, F: Files, R: Read + Send, W: Wri
     stdout: &mut W,
 ) -> Result<(), Failure<'a>> {
     let start = open(alloc, debugging, config, files)?;
-    let mut session = session_of(alloc, start, debugging.turn)?;
+    let session = session_of(alloc, start, debugging.turn)?;
     let (sender, receiver) = bounded(alloc, PIECES)?;
-    let mut incoming = Incoming::new(alloc, receiver);
-    let (_, served) = join(
-        rt,
-        move || read_all(rt, alloc, stdin, sender),
-        || serve(rt, &mut session, &mut incoming, stdout),
-    );
-    match served {
+    let incoming = Incoming::new(alloc, receiver);
+    match serve_beside(rt, alloc, stdin, sender, session, incoming, stdout) {
         Ok(()) => Ok(()),
         Err(ServeFault::OutOfMemory) => Err(Failure::OutOfMemory),
         Err(ServeFault::WriteFailed) => Err(Failure::CannotWrite(Target::StandardOutput)),
     }
+}
+
+/// Serves a session, and reads its input in a host thread beside it. Out of memory if there is none.
+fn serve_beside<H: Threads + Wait + Sync, R: Read + Send + Drop, W: Write + Drop>(
+    rt: &H,
+    alloc: Global,
+    input: R,
+    pieces: Sender<Piece, Global>,
+    session: Session,
+    incoming: Incoming,
+    output: W,
+) -> Result<(), ServeFault> {
+    let reader = move || {
+        let mut input = input;
+        read_all(rt, alloc, &mut input, pieces)
+    };
+    scope(scope_env(), rt, move |scope| {
+        let (mut session, mut incoming, mut output) = (session, incoming, output);
+        match scope.spawn(reader) {
+            Ok(_handle) => serve(rt, &mut session, &mut incoming, &mut output),
+            Err(refused) => Err(ServeFault::from(AllocError::from(refused))),
+        }
+    })
 }
 
 /// The run of the program, of which no turn is done.

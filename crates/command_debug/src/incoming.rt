@@ -7,14 +7,25 @@ use std::sync::Wait;
 /// How many bytes are read at once at most.
 const PIECE: usize = 4096;
 
+/// What was read at once.
+#[derive(Drop)]
+pub(crate) enum Piece {
+    /// These bytes.
+    Bytes(Vec<u8>),
+    /// Bytes for which memory was refused. Nothing is read after them.
+    Refused(AllocError),
+}
+
 /// The bytes of gdb that were read, in their order.
 #[derive(Drop)]
 pub(crate) struct Incoming {
-    pieces: Receiver<Vec<u8>, Global>,
+    pieces: Receiver<Piece, Global>,
     /// The piece whose bytes come next.
     piece: Vec<u8>,
     /// How many of its bytes were taken.
     taken: usize,
+    /// The request for memory that was refused, if the input ends for it.
+    refused: Option<AllocError>,
 }
 
 /// What comes next, as far as it is known without waiting.
@@ -30,11 +41,20 @@ pub(crate) enum Coming {
 
 impl Incoming {
     /// The bytes of these pieces.
-    pub fn new(alloc: Global, pieces: Receiver<Vec<u8>, Global>) -> Self {
+    pub fn new(alloc: Global, pieces: Receiver<Piece, Global>) -> Self {
         Incoming {
             pieces,
             piece: Vec::new(alloc),
             taken: 0,
+            refused: None,
+        }
+    }
+
+    /// What its end comes to: memory may have been refused.
+    pub fn end(&self) -> Result<(), AllocError> {
+        match self.refused {
+            Some(refused) => Err(refused),
+            None => Ok(()),
         }
     }
 
@@ -46,7 +66,11 @@ impl Incoming {
                 return Some(byte);
             }
             match self.pieces.recv(rt) {
-                Ok(piece) => self.begin(piece),
+                Ok(Piece::Bytes(piece)) => self.begin(piece),
+                Ok(Piece::Refused(refused)) => {
+                    self.refused = Some(refused);
+                    return None;
+                }
                 Err(_) => return None,
             }
         }
@@ -59,12 +83,16 @@ impl Incoming {
             return Coming::Byte(byte);
         }
         match self.pieces.try_recv(rt) {
-            Ok(piece) => {
+            Ok(Piece::Bytes(piece)) => {
                 self.begin(piece);
                 match self.piece.first().copied() {
                     Some(byte) => Coming::Byte(byte),
                     None => Coming::Nothing,
                 }
+            }
+            Ok(Piece::Refused(refused)) => {
+                self.refused = Some(refused);
+                Coming::End
             }
             Err(TryRecvError::Empty) => Coming::Nothing,
             Err(TryRecvError::Disconnected) => Coming::End,
@@ -88,17 +116,16 @@ pub(crate) fn read_all<H: Wait, R: Read>(
     rt: &H,
     alloc: Global,
     input: &mut R,
-    pieces: Sender<Vec<u8>, Global>,
+    pieces: Sender<Piece, Global>,
 ) {
     let mut room = [0u8; PIECE];
     for _ in rt.forever() {
         match input.read(&mut room) {
             Ok(0) => return,
             Ok(count) => {
-                let Ok(piece) = piece_of(alloc, &room[..count]) else {
-                    return;
-                };
-                if pieces.send(rt, piece).is_err() {
+                let piece = piece_of(alloc, &room[..count]);
+                let is_last = matches!(piece, Piece::Refused(_));
+                if pieces.send(rt, piece).is_err() || is_last {
                     return;
                 }
             }
@@ -109,6 +136,9 @@ pub(crate) fn read_all<H: Wait, R: Read>(
 }
 
 /// A piece with these bytes.
-fn piece_of(alloc: Global, bytes: &[u8]) -> Result<Vec<u8>, AllocError> {
-    Vec::from_slice(alloc, bytes)
+fn piece_of(alloc: Global, bytes: &[u8]) -> Piece {
+    match Vec::from_slice(alloc, bytes) {
+        Ok(bytes) => Piece::Bytes(bytes),
+        Err(refused) => Piece::Refused(refused),
+    }
 }

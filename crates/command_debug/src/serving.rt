@@ -40,12 +40,12 @@ pub(crate) fn serve<H: Wait, W: Write>(
         }
         if session.is_running() {
             if !run(rt, session, incoming, output)? {
-                return Ok(());
+                return Ok(incoming.end()?);
             }
         } else {
             match incoming.next(rt) {
                 Some(byte) => session.hear(byte)?,
-                None => return Ok(()),
+                None => return Ok(incoming.end()?),
             }
         }
     }
