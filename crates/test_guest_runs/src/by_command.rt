@@ -1,13 +1,29 @@
 //! Runs by their command lines.
 
-use crate::case::Case;
-use crate::differences::Differences;
 use crate::memory_files::MemoryFiles;
 use crate::performed::Performed;
-use anyhow::Result;
 use std::alloc::{AllocError, Global};
 use std::sync::Wait;
 use std::thread::Threads;
+use test_guest_rows::{Differences, GuestRun};
+use test_run_ways::Case;
+
+/// Compares what a run gives by its command line: with few and with many workers, and, unless the output is large, when its texts are
+/// printed.
+pub fn compare_by_command(
+    rt: &(impl Threads + Wait + Sync),
+    alloc: Global,
+    case: Case<'_>,
+    found: &mut Differences,
+) -> Result<(), AllocError> {
+    for workers in [1, 2, 64] {
+        compare_written(rt, alloc, case, workers, found)?;
+    }
+    if case.run.output.is_large() {
+        return Ok(());
+    }
+    compare_printed(rt, alloc, case, found)
+}
 
 /// The arguments of a command on the program, with the limits of a run.
 pub fn arguments_of(
@@ -46,38 +62,60 @@ pub fn compare_written(
     case: Case<'_>,
     workers: u32,
     found: &mut Differences,
-) -> Result<()> {
+) -> Result<(), AllocError> {
     let run = case.run;
-    let has_digest = !run.digest.is_empty();
-    let words: &[&str] = if has_digest { &WRITTEN } else { &WRITTEN[..7] };
+    let words: &[&str] = if run.digest.is_empty() {
+        &WRITTEN[..7]
+    } else {
+        &WRITTEN
+    };
     let arguments = arguments_of(alloc, words, workers, (run.bound, run.quantum))?;
     let mut files = MemoryFiles::new(alloc, case.file, &[])?;
     let performed = Performed::new(rt, alloc, &arguments, &mut files, &run.input);
     let how = format!(in alloc; "by the command line with {workers} workers")?;
-    let how = how.as_str();
+    compare_said(run, &performed, how.as_str(), found)?;
+    compare_files(run, &files, how.as_str(), found)
+}
+
+/// Compares the status, the output and the message of a run whose texts were written to files.
+fn compare_said(
+    run: &GuestRun,
+    performed: &Performed,
+    how: &str,
+    found: &mut Differences,
+) -> Result<(), AllocError> {
     found.expect(performed.status == run.status, "status", how)?;
     found.expect(run.output.is(&performed.stdout), "output", how)?;
-    found.expect(performed.is_message(run.message()), "message", how)?;
+    found.expect(performed.is_message(run.message()), "message", how)
+}
+
+/// Compares the files with the texts of a run. The one for the digest is as it was if no digest is wanted.
+fn compare_files(
+    run: &GuestRun,
+    files: &MemoryFiles<'_>,
+    how: &str,
+    found: &mut Differences,
+) -> Result<(), AllocError> {
     let is_trace = files.trace.as_slice() == run.trace.as_bytes();
     found.expect(is_trace, "trace", how)?;
     let is_report = files.report.as_slice() == run.report.as_bytes();
     found.expect(is_report, "report", how)?;
-    let is_digest = if has_digest {
-        files.digest.as_slice() == run.digest.as_bytes()
-    } else {
+    let is_digest = if run.digest.is_empty() {
         MemoryFiles::is_old(&files.digest)
+    } else {
+        files.digest.as_slice() == run.digest.as_bytes()
     };
-    Ok(found.expect(is_digest, "digest", how)?)
+    found.expect(is_digest, "digest", how)
 }
 
 /// Compares what a run gives by its command line when its texts are printed: they stand on standard output after the guest's
 /// output, the trace first.
-pub fn compare_printed(
+fn compare_printed(
     rt: &(impl Threads + Wait + Sync),
     alloc: Global,
     case: Case<'_>,
     found: &mut Differences,
-) -> Result<()> {
+) -> Result<(), AllocError> {
     let run = case.run;
     let how = "where texts are printed";
     let arguments = arguments_of(alloc, &PRINTED, 4, (run.bound, run.quantum))?;
@@ -91,5 +129,5 @@ pub fn compare_printed(
     let is_output = output.is_some_and(|output| run.output.is(output));
     found.expect(is_output, "output", how)?;
     let are_old = MemoryFiles::is_old(&files.trace) && MemoryFiles::is_old(&files.report);
-    Ok(found.expect(are_old, "files", how)?)
+    found.expect(are_old, "files", how)
 }

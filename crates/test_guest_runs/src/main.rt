@@ -4,38 +4,22 @@
 //! for each row: `NAME: ok`, or what differs. `test_guest_runs NAME..` does so for the rows whose names begin with these words; after
 //! the word `brief` it makes runs that take long once. `test_guest_runs walk N [SEED]` walks N times through the short runs by
 //! events that are picked from the seed, and `test_guest_runs write FOLDER` writes the ELF files of the samples to a folder.
+//!
+//! Only what goes through the command line is here: a change of the commands has this crate proved again, and neither
+//! `test_guest_rows` nor `test_run_ways`.
 #![tactic(auto)]
 
 mod by_command;
-mod case;
-mod data;
-mod differences;
-mod fields;
-mod guest;
-mod guest_run;
-mod guest_text;
-mod listings;
 mod memory_files;
-mod output;
 mod performed;
-mod phases;
-mod recorded;
-mod replay_row;
-mod replay_text;
 mod replays;
-mod rounds;
 mod rows;
-mod samples;
-mod single_call;
-mod turn_by_turn;
-mod walked;
-mod whole_runs;
 
 use anyhow::Result;
-use fields::decimal;
-use rows::{Effort, show_rows, show_walks};
-use samples::write_samples;
+use rows::show_rows;
 use std::env;
+use test_guest_rows::{decimal, write_samples};
+use test_run_ways::{Effort, show_walks};
 
 fn main(rt: HostRuntime) -> Result<()> {
     let arguments: Vec<String> = env::args(&rt)?.collect(rt.alloc())?;

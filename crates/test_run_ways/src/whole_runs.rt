@@ -1,13 +1,13 @@
 //! Whole runs by the run time, with few and with many workers.
 
 use crate::case::{Case, ending_text};
-use crate::differences::Differences;
 use anyhow::{Result, anyhow};
 use runtime::{Config, OpenGate, Report, run};
 use sharing_report::report_text;
-use std::alloc::Global;
+use std::alloc::{AllocError, Global};
 use std::sync::Wait;
 use std::thread::Threads;
+use test_guest_rows::Differences;
 use tracer::trace_text;
 
 /// The numbers of workers that each run is made with.
@@ -36,7 +36,7 @@ pub fn compare_once(
     found: &mut Differences,
 ) -> Result<()> {
     let report = report_of(rt, alloc, case, 4)?;
-    compare_report(alloc, case, &report, "with 4 workers", found)
+    Ok(compare_report(alloc, case, &report, "with 4 workers", found)?)
 }
 
 /// The report of a run with so many workers.
@@ -64,7 +64,7 @@ fn compare_report(
     report: &Report,
     how: &str,
     found: &mut Differences,
-) -> Result<()> {
+) -> Result<(), AllocError> {
     let wanted = case.run;
     let trace = trace_text(alloc, &report.trace)?;
     found.expect_text(trace.as_str(), wanted.trace.as_str(), "trace", how)?;
@@ -73,5 +73,5 @@ fn compare_report(
     let ending = ending_text(alloc, report.outcome)?;
     found.expect_text(ending.as_str(), wanted.ending.as_str(), "ending", how)?;
     found.expect(wanted.output.is(&report.output), "output", how)?;
-    Ok(found.expect(case.is_memory(&report.memory), "memory", how)?)
+    found.expect(case.is_memory(&report.memory), "memory", how)
 }

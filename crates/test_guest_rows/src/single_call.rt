@@ -4,11 +4,11 @@ use crate::guest_run::GuestRun;
 use crate::output::Output;
 use anyhow::{Result, anyhow};
 use data_guest_programs::{ECALL, EXIT, file_of, load};
-use std::alloc::Global;
+use std::alloc::{AllocError, Global};
 
 /// What one call gives: a program loads x10, x11 and the call's number, makes the call and exits with the code. No other call
 /// was made before, and there is no input.
-#[derive(Clone, Copy, Debug)]
+#[derive(Clone, Copy)]
 pub struct SingleCall<'a> {
     /// The number of the call.
     number: u32,
@@ -47,42 +47,54 @@ impl<'a> SingleCall<'a> {
     }
 
     /// The bytes of the program's file.
-    pub fn file(&self, alloc: Global) -> Result<Vec<u8>> {
+    pub fn file(&self, alloc: Global) -> Result<Vec<u8>, AllocError> {
+        let [first, second] = self.arguments;
         let mut words = Vec::new(alloc);
-        words.extend_from_slice(&load(10, self.arguments[0]))?;
-        words.extend_from_slice(&load(11, self.arguments[1]))?;
-        words.extend_from_slice(&load(17, self.number))?;
+        for loaded in [load(10, first), load(11, second), load(17, self.number)] {
+            words.extend_from_slice(&loaded)?;
+        }
         words.push(ECALL)?;
         words.extend_from_slice(&EXIT)?;
-        Ok(file_of(alloc, &words)?)
+        file_of(alloc, &words)
     }
 
     /// What its run must give.
-    pub fn run(&self, alloc: Global) -> Result<GuestRun> {
-        let [first, second] = self.arguments;
-        let name = format!(in alloc; "call {} {first:08x} {second:08x}", self.name)?;
+    pub fn run(&self, alloc: Global) -> Result<GuestRun, AllocError> {
+        let asked = self.asked(alloc)?;
+        let name = format!(in alloc; "call {asked}")?;
         let mut run = GuestRun::new(alloc, name.as_str())?;
-        let code = self.code;
-        run.status = (code % 256) as u8;
-        run.ending = format!(in alloc; "exit {code}")?;
-        if let Some(count) = self.value
-            && self.name == "write"
-        {
-            run.output = Output::Zeros(count as usize);
-        }
-        write!(
-            run.trace,
-            "1 0 {} {first:08x} {second:08x} 00000000 -> {code}",
-            self.name
-        )?;
-        if let Some(value) = self.value {
-            write!(run.trace, " {value:08x}")?;
-        }
-        let left = self.value.unwrap_or(second);
-        write!(
-            run.trace,
-            " changed=0 ran=7\n2 0 exit {code:08x} {left:08x} 00000000 -> end changed=0 ran=2\n"
-        )?;
+        run.status = (self.code % 256) as u8;
+        run.ending = format!(in alloc; "exit {}", self.code)?;
+        run.output = Output::Zeros(self.written());
+        run.trace = self.trace(alloc, asked.as_str())?;
         Ok(run)
+    }
+
+    /// Its name and its arguments.
+    fn asked(&self, alloc: Global) -> Result<String, AllocError> {
+        let [first, second] = self.arguments;
+        format!(in alloc; "{} {first:08x} {second:08x}", self.name)
+    }
+
+    /// How many zeros it writes.
+    fn written(&self) -> usize {
+        match self.value {
+            Some(count) if self.name == "write" => count as usize,
+            _ => 0,
+        }
+    }
+
+    /// The trace of its run, if this is its name with its arguments.
+    fn trace(&self, alloc: Global, asked: &str) -> Result<String, AllocError> {
+        let code = self.code;
+        let left = self.value.unwrap_or(self.arguments[1]);
+        let value = match self.value {
+            Some(value) => format!(in alloc; " {value:08x}")?,
+            None => String::new(alloc),
+        };
+        format!(in alloc;
+            "1 0 {asked} 00000000 -> {code}{value} changed=0 ran=7\n\
+             2 0 exit {code:08x} {left:08x} 00000000 -> end changed=0 ran=2\n"
+        )
     }
 }

@@ -1,6 +1,7 @@
 //! The files of `data/`. The program runs in that folder, or in the one that has it.
 
 use crate::guest::Guest;
+use crate::guest_run::GuestRun;
 use crate::guest_text::guest_of;
 use crate::replay_row::ReplayRow;
 use crate::replay_text::push_replays;
@@ -51,11 +52,19 @@ fn guest_at<R: AllocGlobal + Files>(rt: &R, name: &str) -> Result<Guest> {
     if guest.is_sample {
         guest.listing = text_of(rt, name, "listing")?;
     }
-    for run in guest.runs.iter_mut().filter(|run| run.is_sample) {
+    for run in &mut guest.runs {
+        read_texts(rt, name, run)?;
+    }
+    Ok(guest)
+}
+
+/// Takes the trace and the report of a sample's run from their files.
+fn read_texts<R: AllocGlobal + Files>(rt: &R, name: &str, run: &mut GuestRun) -> Result<()> {
+    if run.is_sample {
         run.trace = text_of(rt, name, "trace")?;
         run.report = text_of(rt, name, "report")?;
     }
-    Ok(guest)
+    Ok(())
 }
 
 /// The schedules, in the order of their files.
@@ -64,8 +73,10 @@ pub fn replays<R: AllocGlobal + Files>(rt: &R) -> Result<Vec<ReplayRow>> {
     for path in REPLAYS {
         push_replays(rt.alloc(), &mut rows, text_at(rt, path)?.as_str())?;
     }
-    for row in rows.iter_mut().filter(|row| row.is_sample) {
-        row.text = text_of(rt, row.name.as_str(), "schedule")?;
+    for row in &mut rows {
+        if row.is_sample {
+            row.text = text_of(rt, row.name.as_str(), "schedule")?;
+        }
     }
     Ok(rows)
 }

@@ -6,7 +6,7 @@ static ZEROS: [u8; 4096] = [0; 4096];
 const LARGE: usize = 1_000_000;
 
 /// What a run writes.
-#[derive(Debug, Drop)]
+#[derive(Drop)]
 pub enum Output {
     Bytes(Vec<u8>),
     /// So many bytes that are 0.

@@ -43,12 +43,17 @@ impl Differences {
             return Ok(());
         }
         self.expect(false, what, how)?;
-        let mut wanted_lines = wanted.lines();
-        for line in found.lines() {
-            if wanted_lines.next() != Some(line) {
-                return write!(self.text, " ({line})");
-            }
-        }
-        self.text.push_str(" (a line lacks)")
+        write!(self.text, " ({})", first_difference(found, wanted))
     }
+}
+
+/// The first line that isn't the wanted one, or that one lacks.
+fn first_difference<'a>(found: &'a str, wanted: &str) -> &'a str {
+    let mut wanted_lines = wanted.lines();
+    for line in found.lines() {
+        if wanted_lines.next() != Some(line) {
+            return line;
+        }
+    }
+    "a line lacks"
 }

@@ -1,11 +1,11 @@
 //! Runs turn by turn, on the serial state.
 
 use crate::case::{Case, ending_text, undone};
-use crate::differences::Differences;
 use anyhow::{Result, anyhow};
 use elf32_reader::read;
 use sharing_report::{report, report_text};
 use std::alloc::{AllocError, Global};
+use test_guest_rows::{Differences, GuestRun};
 use token::{Kept, Next, RunOutcome, Serial, Start, Turn, TurnFault, TurnStop, next_turn};
 use tracer::line;
 
@@ -102,24 +102,49 @@ fn lines_of(alloc: Global, turns: &[Turn]) -> Result<String, AllocError> {
 
 /// Compares all that the turns of a run are, do and change.
 pub fn compare(alloc: Global, case: Case<'_>, found: &mut Differences) -> Result<()> {
-    let run = case.run;
-    let Ran {
-        serial,
-        outcome,
-        sent,
-    } = run_serial(alloc, case)?;
+    let ran = run_serial(alloc, case)?;
+    compare_turns(alloc, &ran.serial, case.run, found)?;
+    compare_changes(alloc, &ran.serial, case.run, found)?;
+    Ok(compare_end(alloc, &ran, case, found)?)
+}
+
+/// Compares the lines of the turns, and the versions that they worked on.
+fn compare_turns(
+    alloc: Global,
+    serial: &Serial<Kept>,
+    run: &GuestRun,
+    found: &mut Differences,
+) -> Result<(), AllocError> {
     let trace = lines_of(alloc, serial.turns())?;
     found.expect_text(trace.as_str(), run.trace.as_str(), "trace", HOW)?;
-    found.expect(are_versions(serial.turns()), "versions", HOW)?;
-    found.expect(are_of_turns(&serial), "changes of turns", HOW)?;
-    let addresses = changed(alloc, &serial)?;
+    found.expect(are_versions(serial.turns()), "versions", HOW)
+}
+
+/// Compares the bytes that the turns changed, and the report on them.
+fn compare_changes(
+    alloc: Global,
+    serial: &Serial<Kept>,
+    run: &GuestRun,
+    found: &mut Differences,
+) -> Result<(), AllocError> {
+    found.expect(are_of_turns(serial), "changes of turns", HOW)?;
+    let addresses = changed(alloc, serial)?;
     found.expect(addresses == run.changed, "changed bytes", HOW)?;
-    let sharing = report(alloc, serial.changes())?;
-    let text = report_text(alloc, &sharing)?;
-    found.expect_text(text.as_str(), run.report.as_str(), "report", HOW)?;
-    let ending = ending_text(alloc, outcome)?;
+    let text = report_text(alloc, &report(alloc, serial.changes())?)?;
+    found.expect_text(text.as_str(), run.report.as_str(), "report", HOW)
+}
+
+/// Compares how a run ended, what it wrote and its memory then.
+fn compare_end(
+    alloc: Global,
+    ran: &Ran,
+    case: Case<'_>,
+    found: &mut Differences,
+) -> Result<(), AllocError> {
+    let run = case.run;
+    let ending = ending_text(alloc, ran.outcome)?;
     found.expect_text(ending.as_str(), run.ending.as_str(), "ending", HOW)?;
-    found.expect(run.output.is(serial.output()), "output", HOW)?;
-    found.expect(run.output.is(&sent), "pieces of the output", HOW)?;
-    Ok(found.expect(case.is_memory(serial.now()), "memory", HOW)?)
+    found.expect(run.output.is(ran.serial.output()), "output", HOW)?;
+    found.expect(run.output.is(&ran.sent), "pieces of the output", HOW)?;
+    found.expect(case.is_memory(ran.serial.now()), "memory", HOW)
 }

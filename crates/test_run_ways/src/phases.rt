@@ -1,13 +1,13 @@
 //! Runs phase by phase.
 
 use crate::case::Case;
-use crate::differences::Differences;
 use anyhow::Result;
 use elf32_reader::read;
 use runtime::OpenGate;
 use std::alloc::Global;
 use std::sync::Wait;
 use std::thread::Threads;
+use test_guest_rows::Differences;
 use test_phase_by_phase::trace_of;
 use token::Start;
 

@@ -1,7 +1,7 @@
 //! The text of a guest's file in `data/`: fields by lines, and blocks whose lines begin with two spaces. Lines that begin with
 //! `#` are comments.
 
-use crate::fields::{byte, bytes, decimal, small, split, word};
+use crate::fields::{byte, bytes, decimal, push_whole, small, split, word};
 use crate::guest::Guest;
 use crate::guest_run::GuestRun;
 use crate::output::Output;
@@ -10,7 +10,7 @@ use anyhow::{Result, anyhow};
 use std::alloc::Global;
 
 /// What the lines of a block are of.
-#[derive(Clone, Copy, Debug)]
+#[derive(Clone, Copy)]
 enum Block {
     Nothing,
     Listing,
@@ -36,34 +36,28 @@ pub fn guest_of(alloc: Global, name: &str, text: &str) -> Result<Guest> {
 /// Appends a line of a block.
 fn push_line(guest: &mut Guest, block: Block, line: &str) -> Result<()> {
     if let Block::Listing = block {
-        return push_whole(&mut guest.listing, line);
+        return Ok(push_whole(&mut guest.listing, line)?);
     }
     let Some(run) = guest.runs.last_mut() else {
         return Err(anyhow!("a line of no run: {line}"));
     };
-    match (block, line.strip_prefix("* ")) {
-        (Block::Trace, Some(rounds)) => write_rounds(&mut run.trace, rounds),
-        (Block::Trace, None) => push_whole(&mut run.trace, line),
-        (Block::Report, _) => push_whole(&mut run.report, line),
-        (Block::Digest, _) => push_whole(&mut run.digest, line),
-        (Block::Nothing | Block::Listing, _) => Err(anyhow!("a line of no block: {line}")),
-    }
-}
-
-/// Appends a line and a newline.
-fn push_whole(text: &mut String, line: &str) -> Result<()> {
-    text.push_str(line)?;
-    Ok(text.push('\n')?)
+    let text = match (block, line.strip_prefix("* ")) {
+        (Block::Trace, Some(rounds)) => return write_rounds(&mut run.trace, rounds),
+        (Block::Trace, None) => &mut run.trace,
+        (Block::Report, _) => &mut run.report,
+        (Block::Digest, _) => &mut run.digest,
+        (Block::Nothing | Block::Listing, _) => {
+            return Err(anyhow!("a line of no block: {line}"));
+        }
+    };
+    Ok(push_whole(text, line)?)
 }
 
 /// Takes a field, and answers which block begins after it.
 fn take_field(alloc: Global, guest: &mut Guest, line: &str) -> Result<Block> {
     match split(line) {
         ("listing", "") => return Ok(Block::Listing),
-        ("zeros", segment) => {
-            let (address, size) = split(segment);
-            guest.zeros.push((word(address)?, small(size)?))?;
-        }
+        ("zeros", segment) => guest.zeros.push(segment_of(segment)?)?,
         ("run", name) => guest.runs.push(GuestRun::new(alloc, name)?)?,
         (name, rest) => match guest.runs.last_mut() {
             Some(run) => return take_run_field(alloc, run, name, rest),
@@ -74,6 +68,12 @@ fn take_field(alloc: Global, guest: &mut Guest, line: &str) -> Result<Block> {
     Ok(Block::Nothing)
 }
 
+/// The address and the size of a segment.
+fn segment_of(text: &str) -> Result<(u32, u32)> {
+    let (address, size) = split(text);
+    Ok((word(address)?, small(size)?))
+}
+
 /// Takes a field of a run, and answers which block begins after it.
 fn take_run_field(alloc: Global, run: &mut GuestRun, name: &str, rest: &str) -> Result<Block> {
     match name {
@@ -82,21 +82,32 @@ fn take_run_field(alloc: Global, run: &mut GuestRun, name: &str, rest: &str) -> 
         "digest" => return Ok(Block::Digest),
         "sample" => run.is_sample = true,
         "long" => run.is_long = true,
-        "input" => run.input = bytes(alloc, rest)?,
         "bound" => run.bound = Some(decimal(rest)?),
         "quantum" => run.quantum = Some(decimal(rest)?),
-        "ends" => run.ending = String::from_str(alloc, rest)?,
         "status" => run.status = (small(rest)? % 256) as u8,
+        _ => take_list(alloc, run, name, rest)?,
+    }
+    Ok(Block::Nothing)
+}
+
+/// Takes a field of a run that is a text or a list.
+fn take_list(alloc: Global, run: &mut GuestRun, name: &str, rest: &str) -> Result<()> {
+    match name {
+        "input" => run.input = bytes(alloc, rest)?,
+        "ends" => run.ending = String::from_str(alloc, rest)?,
         "output" => run.output = output_of(alloc, rest)?,
-        "changed" => push_words(&mut run.changed, rest)?,
-        "counted" => {
-            let (address, times) = split(rest);
-            push_counted(&mut run.changed, word(address)?, decimal(times)?)?;
-        }
+        "changed" => return push_words(&mut run.changed, rest),
+        "counted" => return take_counted(&mut run.changed, rest),
         "memory" => run.memory.push(cell_of(rest)?)?,
         _ => return Err(anyhow!("no field of a run: {name}")),
     }
-    Ok(Block::Nothing)
+    Ok(())
+}
+
+/// Appends the addresses of a word that is counted up.
+fn take_counted(changed: &mut Vec<u32>, text: &str) -> Result<()> {
+    let (address, times) = split(text);
+    Ok(push_counted(changed, word(address)?, decimal(times)?)?)
 }
 
 /// The output that bytes say, or `zeros` and their number.

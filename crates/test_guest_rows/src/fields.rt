@@ -1,7 +1,7 @@
 //! Numbers and bytes of the files in `data/`.
 
 use anyhow::{Result, anyhow};
-use std::alloc::Global;
+use std::alloc::{AllocError, Global};
 
 /// The number that a decimal text says.
 pub fn decimal(text: &str) -> Result<u64> {
@@ -47,6 +47,12 @@ pub fn bytes(alloc: Global, text: &str) -> Result<Vec<u8>> {
         rest = others;
     }
     Ok(found)
+}
+
+/// Appends a line and a newline.
+pub fn push_whole(text: &mut String, line: &str) -> Result<(), AllocError> {
+    text.push_str(line)?;
+    text.push('\n')
 }
 
 /// A line's first word, and what comes after the space behind it.

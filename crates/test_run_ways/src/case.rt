@@ -1,11 +1,11 @@
 //! A run with the file that it is of, and how it ended as the data say it.
 ghost use Rattle.std.specs.Prelude.{◌<◌, ◌≤◌, ◌^◌, IfSome};
 
-use crate::guest_run::GuestRun;
 use anyhow::anyhow;
 use paged_memory::Snapshot;
 use runtime::{MAX_BOUND, RunOutcome};
 use std::alloc::{AllocError, Global};
+use test_guest_rows::GuestRun;
 use token::TurnFault;
 
 /// A run, and the file that it is of.

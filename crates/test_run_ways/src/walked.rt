@@ -1,12 +1,14 @@
 //! Runs by picked events: whichever they are, the turns and the end are the run's.
 
 use crate::case::{Case, ending_text};
-use crate::differences::Differences;
 use anyhow::Result;
 use elf32_reader::read;
 use schedule_core::World;
-use std::alloc::Global;
+use std::alloc::{AllocError, Global};
+use std::rt::Files;
+use test_guest_rows::{Differences, Guest, GuestRun, guests, show};
 use test_random_schedules::{Dice, walk_to_end};
+use token::RunOutcome;
 use tracer::trace_text;
 
 /// The numbers of workers that each run is walked through with.
@@ -66,23 +68,59 @@ fn walk(
     tally: &mut Tally,
     found: &mut Differences,
 ) -> Result<()> {
-    let run = case.run;
     let how = format!(in alloc; "walked with {workers} workers and {:?}", tally.dice)?;
-    let how = how.as_str();
-    let image = read(alloc, case.file)?;
-    let workers = workers.max(1).min(64);
-    let mut world = World::open(
-        alloc,
-        &image,
-        &run.input,
-        case.bound(),
-        case.quantum(),
-        workers,
-    )?;
+    let mut world = world_of(alloc, case, workers)?;
     let outcome = walk_to_end(&mut world, workers, &mut tally.dice)?;
     tally.walks = tally.walks.saturating_add(1);
+    Ok(compare_walk(alloc, case.run, &world, outcome, how.as_str(), found)?)
+}
+
+/// A run of which nothing has happened.
+fn world_of(alloc: Global, case: Case<'_>, workers: u32) -> Result<World> {
+    let image = read(alloc, case.file)?;
+    let workers = workers.clamp(1, 64);
+    let input = case.run.input.as_slice();
+    Ok(World::open(alloc, &image, input, case.bound(), case.quantum(), workers)?)
+}
+
+/// Compares the turns and the end of a walk.
+fn compare_walk(
+    alloc: Global,
+    run: &GuestRun,
+    world: &World,
+    outcome: RunOutcome,
+    how: &str,
+    found: &mut Differences,
+) -> Result<(), AllocError> {
     let trace = trace_text(alloc, world.turns())?;
     found.expect_text(trace.as_str(), run.trace.as_str(), "trace", how)?;
     let ending = ending_text(alloc, outcome)?;
-    Ok(found.expect_text(ending.as_str(), run.ending.as_str(), "ending", how)?)
+    found.expect_text(ending.as_str(), run.ending.as_str(), "ending", how)
+}
+
+/// Walks through the short runs of all programs so many times, and prints a line for each walk that differs and one for all.
+pub fn show_walks<R: AllocGlobal + Files + Print>(rt: &R, rounds: u64, seed: u64) -> Result<()> {
+    let guests = guests(rt)?;
+    let mut tally = Tally::new(seed);
+    for _ in 0..rounds {
+        for guest in &guests {
+            walk_guest(rt, guest, &mut tally)?;
+        }
+    }
+    println!(rt; "{} walks", tally.walks())?;
+    Ok(())
+}
+
+/// Walks through the short runs of a program.
+fn walk_guest<R: AllocGlobal + Print>(rt: &R, guest: &Guest, tally: &mut Tally) -> Result<()> {
+    let file = guest.file(rt.alloc())?;
+    for run in &guest.runs {
+        let mut found = Differences::new(rt.alloc());
+        let case = Case { run, file: &file };
+        let compared = compare(rt.alloc(), case, tally, &mut found);
+        if compared.is_err() || !found.text().is_empty() {
+            show(rt, run.name.as_str(), compared, &found)?;
+        }
+    }
+    Ok(())
 }

@@ -13,14 +13,15 @@ use std::alloc::AllocError;
 /// - `asks RAN`: thread 0 asks for 1024 pages, its second to its 16th time, with so many instructions each time.
 pub fn write_rounds(text: &mut String, words: &str) -> Result<()> {
     let (name, ran) = split(words);
-    match name {
-        "creates" => Ok(write_creates(text)?),
-        "creates-and-ends" => Ok(write_creates_and_ends(text)?),
-        "ends" => Ok(write_ends(text)?),
-        "writes" => Ok(write_writes(text, decimal(ran)?)?),
-        "asks" => Ok(write_asks(text, decimal(ran)?)?),
-        _ => Err(anyhow!("no rounds: {words}")),
-    }
+    let written = match name {
+        "creates" => write_creates(text),
+        "creates-and-ends" => write_creates_and_ends(text),
+        "ends" => write_ends(text),
+        "writes" => write_writes(text, decimal(ran)?),
+        "asks" => write_asks(text, decimal(ran)?),
+        _ => return Err(anyhow!("no rounds: {words}")),
+    };
+    Ok(written?)
 }
 
 fn write_creates(text: &mut String) -> Result<(), AllocError> {

@@ -1,12 +1,12 @@
 //! Recorders of runs: what each of them wrote.
 
 use crate::case::{Case, undone};
-use crate::differences::Differences;
 use anyhow::{Result, anyhow};
 use elf32_reader::read;
 use run_digest::DigestRecorder;
 use sharing_report::{SharingRecorder, report_text};
-use std::alloc::Global;
+use std::alloc::{AllocError, Global};
+use test_guest_rows::{Differences, GuestRun};
 use token::{Both, Next, RunOutcome, Serial, Start, next_turn};
 use tracer::TraceRecorder;
 
@@ -54,23 +54,40 @@ fn finish(serial: &mut Serial<Recorders>) -> Result<RunOutcome> {
     Err(anyhow!("the run has no end"))
 }
 
-/// Compares what the recorders of a run have: the trace, the rows of the report, and the digest where one is wanted.
+/// Compares what the recorders of a run have: the trace, the rows of the report, and the digest if one is wanted.
 pub fn compare(alloc: Global, case: Case<'_>, found: &mut Differences) -> Result<()> {
-    let run = case.run;
     let mut serial = start(alloc, case)?;
     let outcome = finish(&mut serial)?;
     let output = Vec::from_slice(alloc, serial.output())?;
     let memory = serial.now().try_clone()?;
     let Both { first, second } = serial.into_recorder();
-    let mut trace = first;
+    compare_trace(first, case.run, found)?;
+    compare_rows(alloc, &second.first, case.run, found)?;
+    if case.run.digest.is_empty() {
+        return Ok(());
+    }
+    let digest = second.second.finish(alloc, outcome, &output, &memory)?;
+    Ok(found.expect_text(digest.as_str(), case.run.digest.as_str(), "digest", HOW)?)
+}
+
+/// Compares the recorded trace.
+fn compare_trace(
+    mut trace: TraceRecorder<Vec<u8>>,
+    run: &GuestRun,
+    found: &mut Differences,
+) -> Result<()> {
     trace.finish().map_err(undone)?;
     let is_trace = trace.writer().as_slice() == run.trace.as_bytes();
-    found.expect(is_trace, "trace", HOW)?;
-    let rows = report_text(alloc, &second.first.rows()?)?;
-    found.expect_text(rows.as_str(), run.report.as_str(), "report", HOW)?;
-    if !run.digest.is_empty() {
-        let digest = second.second.finish(alloc, outcome, &output, &memory)?;
-        found.expect_text(digest.as_str(), run.digest.as_str(), "digest", HOW)?;
-    }
-    Ok(())
+    Ok(found.expect(is_trace, "trace", HOW)?)
+}
+
+/// Compares the recorded rows of the report.
+fn compare_rows(
+    alloc: Global,
+    sharing: &SharingRecorder,
+    run: &GuestRun,
+    found: &mut Differences,
+) -> Result<(), AllocError> {
+    let rows = report_text(alloc, &sharing.rows()?)?;
+    found.expect_text(rows.as_str(), run.report.as_str(), "report", HOW)
 }

@@ -1,7 +1,7 @@
 //! The text of a file of schedules in `data/`: fields by lines, and blocks of events, whose lines begin with two spaces. Lines that
 //! begin with `#` are comments.
 
-use crate::fields::{small, split};
+use crate::fields::{push_whole, small, split};
 use crate::replay_row::{ReplayEnd, ReplayRow};
 use anyhow::{Result, anyhow};
 use std::alloc::Global;
@@ -26,8 +26,7 @@ pub fn push_replays(alloc: Global, rows: &mut Vec<ReplayRow>, text: &str) -> Res
 /// Takes a line of a schedule.
 fn take_line(alloc: Global, row: &mut ReplayRow, line: &str) -> Result<()> {
     if let Some(event) = line.strip_prefix("  ") {
-        row.text.push_str(event)?;
-        return Ok(row.text.push('\n')?);
+        return Ok(push_whole(&mut row.text, event)?);
     }
     match split(line) {
         ("events", "") => {}
