@@ -1,4 +1,4 @@
-/* The fifteen calls of the machine as C functions.
+/* The fifteen calls of the machine as C functions, and hints for tools that look for races.
  *
  * Each is one turn, and a full barrier for the compiler: what the thread stored before it is written to the memory that all
  * threads share, and what it loads after it comes from there. A function returns the call's code; a value, where the call
@@ -158,6 +158,31 @@ static inline uint32_t dthreads_sync(void)
 static inline uint32_t dthreads_release(void *address, uint32_t pages)
 {
     return dthreads_call(DTHREADS_RELEASE, (uint32_t)(uintptr_t)address, pages, 0, 0);
+}
+
+/* Hints for tools that look for races. Each is one instruction that the machine executes without effect: no turn, no change, the
+ * same answers. They tell of order that a tool can't see in the calls, such as that of a program's own locks.
+ *
+ * An object is any word, such as an address. What a thread did before it released an object happens before what another one does
+ * after it acquired the object later. */
+
+/* This thread goes on after all that released the object before. */
+static inline void dthreads_hint_acquire(const volatile void *object)
+{
+    __asm__ volatile("slt x0, %0, x0" : : "r"(object) : "memory");
+}
+
+/* Who acquires the object later goes on after this. */
+static inline void dthreads_hint_release(const volatile void *object)
+{
+    __asm__ volatile("slt x0, x0, %0" : : "r"(object) : "memory");
+}
+
+/* These bytes begin a new life: no access before and no access after this race with each other. So an allocator says that it hands
+ * out memory again. */
+static inline void dthreads_hint_fresh(const volatile void *address, uint32_t length)
+{
+    __asm__ volatile("sltu x0, %0, %1" : : "r"(address), "r"(length) : "memory");
 }
 
 #ifdef __cplusplus

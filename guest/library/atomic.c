@@ -3,39 +3,55 @@
 #include <string.h>
 #include "monitor.h"
 
-void dthreads_atomic_load(size_t size, const volatile void *object, void *result)
+/* Between these an operation on an object is done. It goes on after those before it on the same object, and after plain accesses. */
+
+static void begin(const volatile void *object)
 {
     monitor_enter();
-    memcpy(result, (const void *)object, size);
+    dthreads_hint_acquire(object);
+    dthreads_hint_acquire(ALL_ACCESSES);
+}
+
+static void end(const volatile void *object)
+{
+    dthreads_hint_release(object);
+    dthreads_hint_release(ALL_OPERATIONS);
     monitor_leave();
+}
+
+void dthreads_atomic_load(size_t size, const volatile void *object, void *result)
+{
+    begin(object);
+    memcpy(result, (const void *)object, size);
+    end(object);
 }
 
 void dthreads_atomic_store(size_t size, volatile void *object, const void *value)
 {
-    monitor_enter();
+    begin(object);
     memcpy((void *)object, value, size);
-    monitor_leave();
+    end(object);
 }
 
 void dthreads_atomic_exchange(size_t size, volatile void *object, const void *value, void *result)
 {
     char old[size];
-    monitor_enter();
+    begin(object);
     memcpy(old, (void *)object, size);
     memcpy((void *)object, value, size);
-    monitor_leave();
+    end(object);
     memcpy(result, old, size);
 }
 
 bool dthreads_atomic_compare_exchange(size_t size, volatile void *object, void *expected, const void *desired)
 {
-    monitor_enter();
+    begin(object);
     bool is_equal = memcmp((void *)object, expected, size) == 0;
     if (is_equal)
         memcpy((void *)object, desired, size);
     else
         memcpy(expected, (void *)object, size);
-    monitor_leave();
+    end(object);
     return is_equal;
 }
 
@@ -70,11 +86,11 @@ static uint64_t combined(enum operation operation, uint64_t old, uint64_t value)
 static uint64_t change(size_t size, volatile void *object, enum operation operation, uint64_t value, bool gives_fresh)
 {
     uint64_t old = 0;
-    monitor_enter();
+    begin(object);
     memcpy(&old, (void *)object, size);
     uint64_t fresh = combined(operation, old, value);
     memcpy((void *)object, &fresh, size);
-    monitor_leave();
+    end(object);
     return gives_fresh ? fresh : old;
 }
 

@@ -2,6 +2,15 @@
  * their waking in the next phase and go on in the one after it; so does the last, or its work would take a phase of its own. */
 #include "monitor.h"
 
+/* Set in every second round; `crowd` counts conditions otherwise. */
+#define ODD UINT32_C(0x80000000)
+
+/* The object of hints is another one in the next round, which a thread may begin before the last has left this one. */
+static const char *round_of(const pthread_barrier_t *barrier)
+{
+    return (const char *)barrier + (barrier->crowd & ODD ? 1 : 0);
+}
+
 int pthread_barrier_init(pthread_barrier_t *barrier, const pthread_barrierattr_t *attributes, unsigned count)
 {
     (void)attributes;
@@ -22,14 +31,18 @@ int pthread_barrier_wait(pthread_barrier_t *barrier)
 {
     bool is_last, wakes_others;
     monitor_enter();
+    const char *round = round_of(barrier);
+    dthreads_hint_release(round);
     is_last = ++barrier->arrived == barrier->count;
     wakes_others = is_last && barrier->count > 1;
     if (is_last) {
         barrier->arrived = 0;
+        barrier->crowd ^= ODD;
         monitor_wake_all(&barrier->waiters);
     } else {
         monitor_sleep_in_crowd(&barrier->waiters, barrier->crowd);
     }
+    dthreads_hint_acquire(round);
     monitor_finish();
     if (wakes_others && !own.inside)
         dthreads_sync();

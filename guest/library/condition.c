@@ -1,4 +1,4 @@
-/* Condition variables. */
+/* Condition variables. For hints, a signal is an object of the thread that it wakes: no other thread goes on after it. */
 #include "monitor.h"
 
 /* Takes the mutex again, however often it was held before. */
@@ -18,6 +18,8 @@ static enum wake wait_here(pthread_cond_t *condition, pthread_mutex_t *mutex, ui
     unsigned count = mutex->count;
     mutex_release(mutex);
     enum wake wake = monitor_sleep_lightly(&condition->waiters, deadline, true);
+    if (wake == WOKEN)
+        dthreads_hint_acquire(&self()->wake);
     *code = mutex_retake(mutex, count);
     return wake;
 }
@@ -57,7 +59,9 @@ int pthread_cond_timedwait(pthread_cond_t *condition, pthread_mutex_t *mutex, co
 int pthread_cond_signal(pthread_cond_t *condition)
 {
     monitor_enter();
-    monitor_wake_first(&condition->waiters);
+    struct dthreads_thread *woken = monitor_wake_first(&condition->waiters);
+    if (woken)
+        dthreads_hint_release(&woken->wake);
     monitor_finish();
     return 0;
 }
@@ -65,6 +69,8 @@ int pthread_cond_signal(pthread_cond_t *condition)
 int pthread_cond_broadcast(pthread_cond_t *condition)
 {
     monitor_enter();
+    for (struct dthreads_thread *each = condition->waiters.first; each; each = each->next)
+        dthreads_hint_release(&each->wake);
     monitor_wake_all(&condition->waiters);
     monitor_finish();
     return 0;

@@ -192,6 +192,8 @@ void *heap_map(uint32_t pages)
     char *address = pages_take(pages);
     for (uint32_t i = 0; address && i < pages; i++)
         page_size[page_of(address) + i] = MAPPED;
+    if (address)
+        dthreads_hint_fresh(address, pages * DTHREADS_PAGE);
     monitor_leave();
     return address;
 }
@@ -258,11 +260,14 @@ static void refill(uint32_t index)
     monitor_leave();
 }
 
+/* The block is fresh before its link is read, which its last owner may have stored. */
 static void *small(size_t size)
 {
     uint32_t index = size_index(size);
     if (!cache[index].first)
         refill(index);
+    if (cache[index].first)
+        dthreads_hint_fresh(cache[index].first, sizes[index]);
     return pop(&cache[index]);
 }
 
@@ -312,6 +317,7 @@ static void *large(size_t size, size_t align)
     if (address) {
         page_size[page_of(address)] = LARGE;
         large_pages[page_of(address)] = (uint16_t)pages;
+        dthreads_hint_fresh(address, pages * DTHREADS_PAGE);
     }
     monitor_leave();
     return address;

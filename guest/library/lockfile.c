@@ -6,6 +6,7 @@ void flockfile(FILE *file)
     struct stream *stream = stream_of(file);
     if (stream) {
         stream_enter(stream);
+        dthreads_hint_acquire(stream);
         monitor_leave();
     }
 }
@@ -21,6 +22,7 @@ int ftrylockfile(FILE *file)
     if (is_free) {
         stream->owner = self();
         stream->count++;
+        dthreads_hint_acquire(stream);
     }
     monitor_leave();
     return is_free ? 0 : -1;
@@ -32,8 +34,10 @@ void funlockfile(FILE *file)
     if (!stream)
         return;
     monitor_enter();
-    if (stream->owner == self())
+    if (stream->owner == self()) {
+        dthreads_hint_release(stream);
         stream_leave(stream);
-    else
+    } else {
         monitor_leave();
+    }
 }

@@ -53,22 +53,33 @@ static void move_clock(void)
         wake_due();
 }
 
+/* A thread that is in the monitor, as it holds a mutex or came by a fence. */
+static void stay(void)
+{
+    own.by_fence = false;
+    if (++own.operations >= LONGEST_STAY)
+        monitor_breathe();
+}
+
 void monitor_enter(void)
 {
     if (own.depth++ > 0)
         return;
-    own.by_fence = false;
+    hint_enter();
     if (!own.inside)
         enter_machine();
-    else if (++own.operations >= LONGEST_STAY)
-        monitor_breathe();
+    else
+        stay();
     move_clock();
 }
 
 void monitor_leave(void)
 {
-    if (--own.depth == 0 && own.held == 0)
+    if (--own.depth > 0)
+        return;
+    if (own.held == 0)
         leave_machine();
+    hint_leave();
 }
 
 void monitor_finish(void)
@@ -88,8 +99,10 @@ void monitor_hold(void)
 void monitor_breathe(void)
 {
     if (own.inside) {
+        hint_enter();
         leave_machine();
         enter_machine();
+        hint_leave();
     }
 }
 
@@ -148,14 +161,6 @@ void monitor_wake(struct dthreads_thread *thread, enum wake wake)
     mark(thread, wake);
     if (thread != self())
         ring(thread->condition);
-}
-
-struct dthreads_thread *monitor_wake_first(struct dthreads_queue *queue)
-{
-    struct dthreads_thread *thread = queue->first;
-    if (thread)
-        monitor_wake(thread, WOKEN);
-    return thread;
 }
 
 void monitor_wake_all(struct dthreads_queue *queue)
@@ -247,6 +252,14 @@ void monitor_sleep_in_crowd(struct dthreads_queue *queue, uint32_t crowd)
     sleep_here(thread);
 }
 
+/* The access between two fences is no data of the library's. Its object isn't known, so it is ordered with all atomic objects. */
+static void fence_hints(void)
+{
+    dthreads_hint_acquire(ALL_OPERATIONS);
+    dthreads_hint_acquire(ALL_ACCESSES);
+    dthreads_hint_release(ALL_ACCESSES);
+}
+
 /* Compilers bracket each plain access of an atomic object by two fences: the first enters the monitor, the second leaves it.
  * After a lone fence the thread stays until its next call of the library. */
 void dthreads_fence(void)
@@ -254,14 +267,19 @@ void dthreads_fence(void)
     if (own.depth > 0)
         return;
     if (own.by_fence) {
+        hint_enter();
         own.by_fence = false;
+        fence_hints();
         if (own.held == 0)
             leave_machine();
+        hint_leave();
         return;
     }
     monitor_enter();
     own.depth--;
     own.by_fence = true;
+    fence_hints();
+    hint_leave();
 }
 
 void dthreads_synchronise(void)

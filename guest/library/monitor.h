@@ -12,6 +12,7 @@
 #include <stdbool.h>
 #include <pthread.h>
 #include <dthreads.h>
+#include "hints.h"
 #include "offsets.h"
 #include "names.h"
 
@@ -174,7 +175,14 @@ enum wake monitor_sleep_lightly(struct dthreads_queue *queue, uint64_t deadline,
 void monitor_sleep_in_crowd(struct dthreads_queue *queue, uint32_t crowd);
 void monitor_wake(struct dthreads_thread *thread, enum wake wake);
 /* Wakes the first of a queue, or nobody. */
-struct dthreads_thread *monitor_wake_first(struct dthreads_queue *queue);
+static inline struct dthreads_thread *monitor_wake_first(struct dthreads_queue *queue)
+{
+    struct dthreads_thread *thread = queue->first;
+    if (thread)
+        monitor_wake(thread, WOKEN);
+    return thread;
+}
+
 void monitor_wake_all(struct dthreads_queue *queue);
 /* One thread sleeps or has ended: where nobody is awake, the clock jumps to the next deadline. */
 void monitor_one_less(void);

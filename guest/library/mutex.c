@@ -6,16 +6,23 @@ void mutex_acquire(pthread_mutex_t *mutex)
     mutex->owner = self();
     mutex->count = 1;
     own.held++;
+    dthreads_hint_acquire(mutex);
     if (mutex->robust)
         robust_hold(mutex);
 }
 
-void mutex_release(pthread_mutex_t *mutex)
+static inline void release(pthread_mutex_t *mutex)
 {
     own.held--;
+    dthreads_hint_release(mutex);
     if (mutex->robust)
         robust_drop(mutex);
     mutex->owner = mutex->robust == NOT_RECOVERABLE ? NULL : monitor_wake_first(&mutex->waiters);
+}
+
+void mutex_release(pthread_mutex_t *mutex)
+{
+    release(mutex);
 }
 
 int mutex_code(const pthread_mutex_t *mutex)
@@ -28,6 +35,7 @@ static void mutex_free(pthread_mutex_t *mutex)
 {
     if (mutex->owner && mutex->owner->life == LIVING)
         mutex->owner->own->held--;
+    dthreads_hint_release(mutex);
     mutex->owner = monitor_wake_first(&mutex->waiters);
 }
 
@@ -61,8 +69,12 @@ static int mutex_take(pthread_mutex_t *mutex, uint64_t deadline)
 
 static int mutex_lock(pthread_mutex_t *mutex, uint64_t deadline)
 {
+    int code = 0;
     monitor_enter();
-    int code = mutex_take(mutex, deadline);
+    if (!mutex->owner && !mutex->robust)
+        mutex_acquire(mutex);
+    else
+        code = mutex_take(mutex, deadline);
     monitor_finish();
     return code;
 }
@@ -100,7 +112,7 @@ int pthread_mutex_unlock(pthread_mutex_t *mutex)
     bool is_mine = mutex->owner == self();
     int code = is_mine || (mutex->kind == PTHREAD_MUTEX_NORMAL && !mutex->robust) ? 0 : EPERM;
     if (is_mine && --mutex->count == 0)
-        mutex_release(mutex);
+        release(mutex);
     else if (!is_mine && code == 0)
         mutex_free(mutex);
     monitor_finish();
@@ -189,14 +201,19 @@ int pthread_spin_destroy(pthread_spinlock_t *lock)
     return lock->owner ? EBUSY : 0;
 }
 
+static void spin_take(pthread_spinlock_t *lock)
+{
+    lock->owner = self();
+    own.held++;
+    dthreads_hint_acquire(lock);
+}
+
 int pthread_spin_trylock(pthread_spinlock_t *lock)
 {
     monitor_enter();
     int code = lock->owner ? EBUSY : 0;
-    if (code == 0) {
-        lock->owner = self();
-        own.held++;
-    }
+    if (code == 0)
+        spin_take(lock);
     monitor_finish();
     return code;
 }
@@ -208,8 +225,7 @@ int pthread_spin_lock(pthread_spinlock_t *lock)
     if (code == 0) {
         if (lock->owner)
             monitor_sleep(&lock->waiters, NEVER, false);
-        lock->owner = self();
-        own.held++;
+        spin_take(lock);
     }
     monitor_finish();
     return code;
@@ -221,6 +237,7 @@ int pthread_spin_unlock(pthread_spinlock_t *lock)
     int code = lock->owner == self() ? 0 : EPERM;
     if (code == 0) {
         own.held--;
+        dthreads_hint_release(lock);
         lock->owner = monitor_wake_first(&lock->waiters);
     }
     monitor_finish();

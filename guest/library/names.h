@@ -60,7 +60,6 @@
 #define monitor_sleep_lightly dthreads_own_monitor_sleep_lightly
 #define monitor_wake dthreads_own_monitor_wake
 #define monitor_wake_all dthreads_own_monitor_wake_all
-#define monitor_wake_first dthreads_own_monitor_wake_first
 #define mutex_acquire dthreads_own_mutex_acquire
 #define mutex_code dthreads_own_mutex_code
 #define mutex_release dthreads_own_mutex_release

@@ -76,13 +76,13 @@ uint32_t node_read(const struct node *node, uint32_t place, char *bytes, uint32_
         return 0;
     uint32_t count = length < node->size - place ? length : node->size - place;
     if (node->image) {
-        memcpy(bytes, node->image + place, count);
+        hint_copy(bytes, node->image + place, count);
         return count;
     }
     for (uint32_t done = 0; done < count;) {
         uint32_t index = (place + done) / CHUNK, part = piece_at(place + done, count - done);
         if (index < node->room && node->chunks[index])
-            memcpy(bytes + done, node->chunks[index] + (place + done) % CHUNK, part);
+            hint_copy(bytes + done, node->chunks[index] + (place + done) % CHUNK, part);
         else
             memset(bytes + done, 0, part);
         done += part;

@@ -16,6 +16,7 @@ static bool begin(pthread_once_t *once)
     bool is_first = once->state == NOT_BEGUN;
     if (is_first)
         once->state = BEGUN;
+    dthreads_hint_acquire(once);
     monitor_finish();
     return is_first;
 }
@@ -23,6 +24,7 @@ static bool begin(pthread_once_t *once)
 static void end(pthread_once_t *once, int state)
 {
     monitor_enter();
+    dthreads_hint_release(once);
     once->state = state;
     monitor_wake_all(&once->waiters);
     monitor_finish();
@@ -36,7 +38,11 @@ static void give_up(void *once)
 
 int pthread_once(pthread_once_t *once, void (*routine)(void))
 {
-    if (once->state == FINISHED || !begin(once))
+    if (once->state == FINISHED) {
+        dthreads_hint_acquire(once);
+        return 0;
+    }
+    if (!begin(once))
         return 0;
     pthread_cleanup_push(give_up, once);
     routine();

@@ -1,4 +1,5 @@
-/* Pipes, and which events hold for an open file. */
+/* Pipes, and which events hold for an open file. For hints, who reads goes on after those who wrote or closed, though POSIX promises it
+ * of no pipe: the bytes tell of what was done before. */
 #include <poll.h>
 #include <stdlib.h>
 #include <unistd.h>
@@ -34,6 +35,7 @@ void pipe_attach(struct open_file *file)
 void pipe_detach(struct open_file *file)
 {
     struct pipe *pipe = file->node->pipe;
+    dthreads_hint_release(pipe);
     pipe->readers -= may_read(file);
     pipe->writers -= may_write(file);
     tell(may_read(file) ? &pipe->writing : &pipe->reading);
@@ -53,8 +55,8 @@ static uint32_t take(struct pipe *pipe, char *bytes, size_t length)
 {
     uint32_t count = length < pipe->length ? (uint32_t)length : pipe->length;
     uint32_t part = part_from(pipe->first, count);
-    memcpy(bytes, pipe->bytes + pipe->first, part);
-    memcpy(bytes + part, pipe->bytes, count - part);
+    hint_copy(bytes, pipe->bytes + pipe->first, part);
+    hint_copy(bytes + part, pipe->bytes, count - part);
     pipe->first = (pipe->first + count) % ROOM;
     pipe->length -= count;
     return count;
@@ -74,13 +76,16 @@ ssize_t pipe_read(struct open_file *file, char *bytes, size_t length)
 {
     struct pipe *pipe = file->node->pipe;
     while (pipe->length == 0) {
-        if (pipe->writers == 0)
+        if (pipe->writers == 0) {
+            dthreads_hint_acquire(pipe);
             return 0;
+        }
         if (file->flags & O_NONBLOCK)
             return -EAGAIN;
         if (monitor_sleep(&pipe->reading, NEVER, true) == CANCELLED)
             return -ECANCELED;
     }
+    dthreads_hint_acquire(pipe);
     uint32_t count = take(pipe, bytes, length);
     tell(&pipe->writing);
     return (ssize_t)count;
@@ -107,6 +112,7 @@ ssize_t pipe_write(struct open_file *file, const char *bytes, size_t length)
         int code = wait_for_room(file, done ? 1 : length);
         if (code < 0)
             return done && code == -EAGAIN ? (ssize_t)done : code;
+        dthreads_hint_release(file->node->pipe);
         done += put(file->node->pipe, bytes + done, length - done);
         tell(&file->node->pipe->reading);
     }

@@ -12,16 +12,19 @@ struct plain {
 /* Threads that create others at once must not lose each other's count. A program without pthread.h may hold the mutex itself. */
 static void count_others(uint32_t change)
 {
+    hint_enter();
     bool is_taken = !alone() && dthreads_lock(MONITOR_MUTEX) == DTHREADS_DONE;
     monitor.others += change;
     if (is_taken)
         dthreads_unlock(MONITOR_MUTEX);
+    hint_leave();
 }
 
 uint32_t dthreads_create(void (*entry)(void *), void *argument, void *stack_top, uint32_t *number)
 {
     struct plain *plain = (struct plain *)((uintptr_t)stack_top & ~(uintptr_t)15) - 1;
     char *block = block_below((char *)plain);
+    dthreads_hint_fresh(block, (uint32_t)((char *)(plain + 1) - block));
     tls_fill(block);
     *plain = (struct plain){entry, argument, block};
     count_others(1);

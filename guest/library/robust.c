@@ -25,6 +25,7 @@ void robust_leave(struct dthreads_thread *thread)
     while (thread->robust) {
         pthread_mutex_t *mutex = thread->robust;
         thread->robust = mutex->next;
+        dthreads_hint_release(mutex);
         mutex->robust = OWNER_DEAD;
         own.held--;
         mutex->owner = monitor_wake_first(&mutex->waiters);

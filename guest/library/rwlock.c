@@ -1,5 +1,6 @@
 /* Read-write locks. A waiting writer goes before new readers, but not before a thread that reads already. Readers leave the
- * monitor, so that they run side by side; a writer stays in it. */
+ * monitor, so that they run side by side; a writer stays in it. For hints a lock is two objects, that of its writers and that of its
+ * readers, which no reader acquires. */
 #include <stdlib.h>
 #include <string.h>
 #include "monitor.h"
@@ -122,8 +123,10 @@ static int read_until(pthread_rwlock_t *lock, uint64_t deadline)
         lock->readers++;
     else
         code = wait_for_turn(lock, false, deadline);
-    if (code == 0)
+    if (code == 0) {
         reading_begin(lock);
+        dthreads_hint_acquire(&lock->writer);
+    }
     monitor_finish();
     return code;
 }
@@ -138,8 +141,11 @@ static int write_until(pthread_rwlock_t *lock, uint64_t deadline)
         lock->writer = self();
     else
         code = wait_for_turn(lock, true, deadline);
-    if (code == 0)
+    if (code == 0) {
         own.held++;
+        dthreads_hint_acquire(&lock->writer);
+        dthreads_hint_acquire(&lock->readers);
+    }
     monitor_finish();
     return code;
 }
@@ -194,9 +200,11 @@ int pthread_rwlock_unlock(pthread_rwlock_t *lock)
     monitor_enter();
     struct reading *reading = reading_of(lock);
     if (lock->writer == self()) {
+        dthreads_hint_release(&lock->writer);
         lock->writer = NULL;
         own.held--;
     } else if (reading) {
+        dthreads_hint_release(&lock->readers);
         lock->readers--;
         reading_end(reading);
     } else {

@@ -33,6 +33,8 @@ static enum wake take(sem_t *semaphore, uint64_t deadline)
         semaphore->value--;
     else
         wake = monitor_sleep_lightly(&semaphore->waiters, deadline, true);
+    if (wake == WOKEN)
+        dthreads_hint_acquire(semaphore);
     monitor_leave();
     return wake;
 }
@@ -68,8 +70,10 @@ int sem_trywait(sem_t *semaphore)
 {
     monitor_enter();
     bool is_free = semaphore->value > 0;
-    if (is_free)
+    if (is_free) {
         semaphore->value--;
+        dthreads_hint_acquire(semaphore);
+    }
     monitor_finish();
     return is_free ? 0 : refuse(EAGAIN);
 }
@@ -82,6 +86,8 @@ int sem_post(sem_t *semaphore)
         code = EOVERFLOW;
     else if (!monitor_wake_first(&semaphore->waiters))
         semaphore->value++;
+    if (code == 0)
+        dthreads_hint_release(semaphore);
     monitor_finish();
     return code ? refuse(code) : 0;
 }

@@ -86,6 +86,7 @@ bool stack_attach(struct dthreads_thread *thread, const pthread_attr_t *attribut
         top = (char *)thread->stack;
         thread->stack_base = (char *)(thread->stack + 1) - (size_t)thread->stack->pages * DTHREADS_PAGE;
     }
+    dthreads_hint_fresh(thread->stack_base, (uint32_t)(top - thread->stack_base));
     thread->block = block_below(top);
     thread->stack_top = (uint32_t)(uintptr_t)thread->block & ~UINT32_C(15);
     return true;

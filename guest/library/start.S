@@ -36,6 +36,8 @@
     outermost dthreads_thread_entry
     load_gp
     mv s0, a0
+    # The hint by which the library's own data begin.
+    sltu x0, x0, x0
 .Lagain:
     lw sp, THREAD_STACK(s0)
     lw tp, THREAD_BLOCK(s0)

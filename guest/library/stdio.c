@@ -75,6 +75,13 @@ __attribute__((noinline)) void stream_leave(struct stream *stream)
     monitor_leave();
 }
 
+static void fail(FILE *file)
+{
+    hint_enter();
+    file->flags |= __SERR;
+    hint_leave();
+}
+
 /* Writes whole; false where the output is full. */
 static __attribute__((noinline)) bool write_all(int descriptor, const char *bytes, uint32_t length)
 {
@@ -97,7 +104,7 @@ __attribute__((noinline)) void output_flush(void)
         uint32_t length = line.length;
         line.length = 0;
         if (!write_all(STDOUT_FILENO, line.bytes, length))
-            stdout->flags |= __SERR;
+            fail(stdout);
     }
 }
 
@@ -141,7 +148,7 @@ static __attribute__((noinline)) bool emit(struct stream *stream, const char *by
         return true;
     bool is_done = stream->file.flags & __SWR && emit_in_turn(stream, bytes, length);
     if (!is_done)
-        stream->file.flags |= __SERR;
+        fail(&stream->file);
     return is_done;
 }
 
@@ -266,7 +273,7 @@ static size_t put_bytes(const char *bytes, size_t length, FILE *file)
 {
     struct stream *stream = stream_of(file);
     if (!(file->flags & __SWR)) {
-        file->flags |= __SERR;
+        fail(file);
         return 0;
     }
     if (stream)
@@ -300,7 +307,7 @@ size_t fwrite(const void *bytes, size_t size, size_t count, FILE *stream)
     if (size == 0 || count == 0)
         return 0;
     if (__builtin_mul_overflow(size, count, &all)) {
-        stream->flags |= __SERR;
+        fail(stream);
         errno = EFAULT;
         return 0;
     }
@@ -355,16 +362,40 @@ int fileno(FILE *file)
 
 /* Input. */
 
-static ssize_t read_some(struct stream *stream, void *bytes, uint32_t length)
+static ssize_t read_file(struct stream *stream, void *bytes, uint32_t length)
 {
-    int console = files_console ? files_console(stream->descriptor) : stream->descriptor;
-    if (console == STDIN_FILENO)
-        return console_read_some(bytes, length);
     bool was_disabled = own.cancel_disabled;
     own.cancel_disabled = true;
     ssize_t count = files_read ? files_read(stream->descriptor, bytes, length) : -1;
     own.cancel_disabled = was_disabled;
     return count;
+}
+
+/* Into the stream's buffer, which is the library's. */
+static ssize_t read_inside(struct stream *stream)
+{
+    hint_enter();
+    ssize_t count = read_file(stream, stream->buffer, stream->room);
+    hint_leave();
+    return count;
+}
+
+/* Into memory of the caller. */
+static ssize_t read_outside(void *bytes, uint32_t length)
+{
+    hint_leave();
+    ssize_t count = console_read_some(bytes, length);
+    hint_enter();
+    return count;
+}
+
+static ssize_t read_some(struct stream *stream, void *bytes, uint32_t length)
+{
+    int console = files_console ? files_console(stream->descriptor) : stream->descriptor;
+    bool is_inside = bytes == stream->buffer;
+    if (console == STDIN_FILENO)
+        return is_inside ? console_read_some(bytes, length) : read_outside(bytes, length);
+    return is_inside ? read_inside(stream) : read_file(stream, bytes, length);
 }
 
 /* Reads into the stream's buffer, or to another place; how many bytes came. */
@@ -452,7 +483,7 @@ static size_t copy_input(struct stream *stream, char *bytes, size_t wanted)
         return 0;
     size_t left = stream->length - stream->place;
     size_t count = left < wanted ? left : wanted;
-    memcpy(bytes, stream->buffer + stream->place, count);
+    hint_copy(bytes, stream->buffer + stream->place, count);
     stream->place += (uint32_t)count;
     return count;
 }

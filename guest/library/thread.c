@@ -75,6 +75,7 @@ static int thread_make(pthread_t *name, const pthread_attr_t *attributes, void *
     thread->detached = attributes->detach_state == PTHREAD_CREATE_DETACHED;
     *name = name_of(thread);
     thread->created = ++monitor.created;
+    dthreads_hint_release(&thread->start);
     monitor_hold();
     monitor.living++;
     if (is_new) {
@@ -118,12 +119,15 @@ static void begin_together(const struct dthreads_thread *thread)
     } while (monitor.created != seen && !is_batch_full(thread));
 }
 
+/* What start.S and pthread_exit entered is left when the start routine begins. */
 void dthreads_thread_run(struct dthreads_thread *thread)
 {
     tls_fill(thread->block);
     own.thread = thread;
     thread->own = &own;
     begin_together(thread);
+    dthreads_hint_acquire(&thread->start);
+    hint_leave();
     pthread_exit(thread->start(thread->argument));
 }
 
@@ -158,8 +162,12 @@ void pthread_exit(void *value)
     if (readings_drop)
         readings_drop();
     monitor_enter();
-    if (monitor.living == 1)
+    if (monitor.living == 1) {
+        /* (what exit calls is the program's) */
+        hint_leave();
         exit(0);
+    }
+    dthreads_hint_release(&thread->result);
     heap_flush();
     if (robust_leave)
         robust_leave(thread);
@@ -203,6 +211,7 @@ static int join(pthread_t name, void **value, uint64_t deadline)
         return EAGAIN;
     if (thread->life != ENDED)
         return ETIMEDOUT;
+    dthreads_hint_acquire(&thread->result);
     reap(thread, value);
     return 0;
 }

@@ -1,0 +1,219 @@
+"""Traces the hints that the C library gives to tools that look for races, and compares them with what they must be.
+
+guest/tests/hints.c has a row for each function that orders threads, gives memory or has data of the library's own, and some that must
+execute no hint. guest/tests/hints.wanted has a line for each thread's row, with its hints in their order, so that a lost or a moved hint is
+refused. The other programs of guest/tests named here are traced whole: in each thread what is entered must be left again. The debugger
+executes them, with a breakpoint at each hint. DTHREADS names the program, or else ./dthreads.
+"""
+import os
+import re
+import subprocess
+import sys
+import tempfile
+from collections import namedtuple
+
+from dt_commands import guest_runs, guest_tests
+from dt_commands.measure_debugger import Debugged
+from dt_commands.progress import Progress
+from dt_commands.texts import contents, first_difference
+
+NAME = "hints"
+WANTED = f"{guest_tests.FOLDER}/{NAME}.wanted"
+# Programs in which each thread leaves what it entered, also if it is cancelled, jumps out of a signal's handler or ends the run.
+BALANCED = ["aborts", "alarm_ends", "atomics", "barriers", "c11", "cancel", "cancel_points", "conditions", "detached", "ends", "joins",
+            "mutexes", "named_semaphores", "once_keys", "others", "pipes", "plusplus", "poll_signals", "pool", "raises", "readers_writers",
+            "robust", "semaphores", "signals", "threads"]
+TOOLS = "riscv64-unknown-elf"
+HEAP, STACK = 0x20000000, 0x7ffc0000
+# A hint that a thread executed: where, its kind, and the values of its two registers.
+Hint = namedtuple("Hint", "thread pc kind first second")
+ROW, FIELD, THREADS = "row_", "field_", "dthreads_own_threads"
+# Functions whose hints a thread executes outside of all rows, as it begins and ends. That of assembler has no size.
+LIVES = ("dthreads_thread_entry", "dthreads_thread_run", "dthreads_own_robust_leave", "pthread_exit")
+
+
+def kind_of(word):
+    """Returns the kind of the hint that a word encodes, or None: SLT and SLTU with x0 as their target (ISA, section 2.9)."""
+    first, second, function = word >> 15 & 31, word >> 20 & 31, word >> 12 & 7
+    if word & 0xfe000fff != 0x33 or function not in (2, 3):
+        return None
+    kinds = {(2, True, False): "acquire", (2, False, True): "release", (2, False, False): "leave", (3, False, False): "enter",
+             (3, True, True): "fresh"}
+    return kinds.get((function, first != 0, second != 0))
+
+
+class Program:
+    """A built program: its hints, as words by their addresses, and its symbols, each with its address, size and name."""
+
+    def __init__(self, elf):
+        self.elf = elf
+        listing = self.said("objdump", "-d")
+        words = {int(at, 16): int(word, 16) for at, word in re.findall(r"(?m)^\s*([0-9a-f]+):\s+([0-9a-f]{8})\s", listing)}
+        self.hints = {at: word for at, word in words.items() if kind_of(word)}
+        found = re.findall(r"(?m)^([0-9a-f]+) (?:([0-9a-f]+) )?\w (\S+)$", self.said("nm", "-S"))
+        self.symbols = sorted((int(at, 16), int(size or "10", 16), name) for at, size, name in found if size or name in LIVES)
+
+    def said(self, tool, *words):
+        return subprocess.run([f"{TOOLS}-{tool}", *words, self.elf], stdout=subprocess.PIPE, check=True, text=True).stdout
+
+    def symbol_at(self, address):
+        """Returns the symbol that covers an address, or None."""
+        return next((it for it in self.symbols if it[0] <= address < it[0] + it[1]), None)
+
+
+class Traced(Debugged):
+    """A program in the debugger, with a breakpoint at each of its hints."""
+
+    def __init__(self, program, given):
+        words = [guest_runs.program(), "debug", program.elf, *(["--input", given] if given else [])]
+        self.process = subprocess.Popen(words, stdin=subprocess.PIPE, stdout=subprocess.PIPE, bufsize=0)
+        self.heard, self.program = b"", program
+        self.ask("QStartNoAckMode")
+        self.ask("qSupported:swbreak+")
+        for at in program.hints:
+            self.ask(f"Z0,{at:x},4")
+
+    def hints(self):
+        """Yields the hints in the order in which the run executes them."""
+        said = self.ask("vCont;c")
+        while said.startswith("T05") and "replaylog" not in said:
+            pc = int.from_bytes(bytes.fromhex(re.search(r";20:([0-9a-f]{8})", said)[1]), "little")
+            if pc in self.program.hints:
+                yield self.hint(int(re.search(r"thread:([0-9a-f]+)", said)[1], 16) - 1, pc)
+            # (a breakpoint at the place itself would stop the run again)
+            said = self.ask("vCont;s")
+            if said.startswith("T05") and "replaylog" not in said and not self.stops_at_hint(said):
+                said = self.ask("vCont;c")
+
+    def stops_at_hint(self, said):
+        pc = int.from_bytes(bytes.fromhex(re.search(r";20:([0-9a-f]{8})", said)[1]), "little")
+        return pc in self.program.hints
+
+    def hint(self, thread, pc):
+        word, registers = self.program.hints[pc], bytes.fromhex(self.ask("g"))
+        value = lambda number: int.from_bytes(registers[4 * number:4 * number + 4], "little")
+        return Hint(thread, pc, kind_of(word), value(word >> 15 & 31), value(word >> 20 & 31))
+
+
+def traced(program, given=None):
+    """Returns the hints that a run of the program executes."""
+    debugged = Traced(program, given)
+    try:
+        return list(debugged.hints())
+    finally:
+        debugged.end()
+
+
+def unbalanced(hints):
+    """Yields in which thread something is left that wasn't entered, or more than one stays entered at the end."""
+    depths = {}
+    for it in hints:
+        depths[it.thread] = depths.get(it.thread, 0) + {"enter": 1, "leave": -1}.get(it.kind, 0)
+        if depths[it.thread] < 0:
+            yield f"thread {it.thread} leaves at {it.pc:08x} what it hasn't entered"
+            depths[it.thread] = 0
+    # (a thread that has ended waits in the library for the next start routine)
+    yield from (f"thread {thread} has entered {depth} times at its end" for thread, depth in sorted(depths.items()) if depth > 1)
+
+
+class Rows:
+    """The rows of each thread, with their hints as texts. What a thread executes elsewhere is no row."""
+
+    def __init__(self, program):
+        self.program, self.lines, self.open = program, [], {}
+        self.fields = {self.number_at(at): name[len(FIELD):] for at, _, name in program.symbols if name.startswith(FIELD)}
+
+    def number_at(self, address):
+        """Returns a constant of the program."""
+        said = self.program.said("objdump", "-s", f"--start-address={address}", f"--stop-address={address + 4}")
+        word = re.search(rf"(?m)^ {address:x} ([0-9a-f]{{8}}) ", said)[1]
+        return int.from_bytes(bytes.fromhex(word), "little")
+
+    def name_of(self, address):
+        """Returns how a line names an object."""
+        found = self.program.symbol_at(address)
+        if address >= 0xfffffffe:
+            return {0xffffffff: "all operations", 0xfffffffe: "all accesses"}[address]
+        if not found:
+            return "heap" if HEAP <= address < STACK else "stack" if address >= STACK else f"{address:x}"
+        start, size, name = found
+        if name == THREADS:
+            number, place = divmod(address - start, size // 256)
+            return f"thread {number}'s {self.fields.get(place, place)}"
+        return name + (f"+{address - start}" if address != start else "")
+
+    def row_of(self, hint):
+        found = self.program.symbol_at(hint.first if hint.kind == "acquire" else hint.second)
+        name = found[2] if found else ""
+        return re.sub(r"\.\d+$", "", name[len(ROW):]) if name.startswith(ROW) else None
+
+    def take(self, hint):
+        row = self.row_of(hint) if hint.kind in ("acquire", "release") else None
+        if row and hint.kind == "acquire":
+            self.open[hint.thread] = [f"thread {hint.thread} {row}:"]
+            self.lines.append(self.open[hint.thread])
+        elif row:
+            del self.open[hint.thread]
+        elif hint.thread in self.open:
+            self.open[hint.thread].append(self.text_of(hint))
+        elif self.function_of(hint) in LIVES:
+            self.lines.append([f"thread {hint.thread} in {self.function_of(hint)}:", self.text_of(hint)])
+
+    def function_of(self, hint):
+        found = self.program.symbol_at(hint.pc)
+        return found and found[2]
+
+    def text_of(self, hint):
+        if hint.kind == "fresh":
+            return f"fresh({self.name_of(hint.first)}, {hint.second})"
+        if hint.kind in ("acquire", "release"):
+            return f"{hint.kind}({self.name_of(hint.first if hint.kind == 'acquire' else hint.second)})"
+        return hint.kind
+
+
+def built(name, room):
+    elf = f"{room}/{name}.elf"
+    said = guest_runs.compiled(["-O2", "-w", guest_tests.source_of(name)], elf, guest_tests.FOLDER)
+    if said is not None:
+        raise SystemExit(f"{said}{name}: doesn't build")
+    return Program(elf)
+
+
+def rows(room):
+    """Returns the text of the rows, and what is wrong with the whole trace."""
+    program, given = built(NAME, room), f"{room}/input"
+    with open(given, "w", encoding="utf-8") as file:
+        file.write("a line of input\n" * 2000)
+    found, hints = Rows(program), traced(program, given)
+    for it in hints:
+        found.take(it)
+    return "".join(" ".join(line) + "\n" for line in found.lines), list(unbalanced(hints))
+
+
+def test(options):
+    """Traces the hints of guest/tests/hints.c, and those of other programs, in which each thread leaves what it entered."""
+    tally = guest_runs.Tally()
+    tally.tried = 1 + len(BALANCED)
+    with tempfile.TemporaryDirectory() as room, Progress("programs", tally.tried) as progress:
+        for name in progress.each([NAME, *BALANCED]):
+            if name == NAME:
+                text, wrong = rows(room)
+                if text.encode() != contents(WANTED):
+                    wrong.append(first_difference(text.encode(), contents(WANTED)))
+            else:
+                given = f"{guest_tests.FOLDER}/{name}.in"
+                wrong = list(unbalanced(traced(built(name, room), given if os.path.exists(given) else None)))
+            for it in wrong:
+                tally.fail(f"{name}: {it}")
+    return tally.status("programs", ": the wanted hints, and each thread leaves what it entered")
+
+
+def write(options):
+    """Traces the hints of guest/tests/hints.c, and writes the lines that they must be."""
+    with tempfile.TemporaryDirectory() as room:
+        text, wrong = rows(room)
+    for it in wrong:
+        print(it, file=sys.stderr)
+    with open(WANTED, "w", encoding="utf-8") as file:
+        file.write(text)
+    return 1 if wrong else 0
