@@ -1,8 +1,9 @@
 """Installs the program, the kit for programs in C, the samples and the pages below a prefix.
 
-Below PREFIX, bin/ has dthreads, and dthreads-cc, dthreads-c++, dthreads-exec and dthreads-gdb as links to the kit; share/dthreads/ has
-the kit (guest/) and the samples, share/doc/dthreads the pages, and share/man/man1 the manual page. All of it works without the checkout,
-from any folder, and may be moved as a whole. What an earlier call left below share/dthreads and share/doc/dthreads is replaced.
+Below PREFIX, bin/ has dthreads, and dthreads-cc, dthreads-c++, dthreads-exec, dthreads-gdb and dthreads-lines as links to the kit;
+share/dthreads/ has the kit (guest/) and the samples, share/doc/dthreads the pages, and share/man/man1 the manual page. All of it works
+without the checkout, from any folder, and may be moved as a whole. What an earlier call left below share/dthreads and share/doc/dthreads
+is replaced.
 
 The program is the one built here from the sources as they are, or the release if it is theirs; else build it first. If the compiler of
 guest programs is there, the C library is built, since a user may not write below PREFIX; what the checkout has built of it serves if no
@@ -21,7 +22,7 @@ from dt_commands.repository import TOP
 BIN, SHARE, DOC, MAN = "bin", "share/dthreads", "share/doc/dthreads", "share/man/man1"
 # What of guest/ isn't the kit: its tests, the lists that a page is made from, and what was built.
 NOT_KIT = ("tests", "reference", "out")
-COMMANDS = ("dthreads-cc", "dthreads-c++", "dthreads-exec", "dthreads-gdb")
+COMMANDS = ("dthreads-cc", "dthreads-c++", "dthreads-exec", "dthreads-gdb", "dthreads-lines")
 # C++'s library, if guest/build-libstdcxx was done, and C's, if a program was compiled here.
 LIBSTDCXX, LIBRARY = "guest/out/libstdcxx", "guest/out/libdthreads.a"
 PAGES = ("README.md", "LICENSE-APACHE", "LICENSE-MIT")

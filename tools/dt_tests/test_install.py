@@ -146,6 +146,7 @@ class Installed(OfACopy):
             self.assertEqual((ran.returncode, ran.stdout), (2, it.read()))
         self.assertEqual(self.called("dthreads-exec", "--help").returncode, 0)
         self.assertEqual(self.called("dthreads-gdb", "--help").returncode, 0)
+        self.assertEqual(self.called("dthreads-lines", "--help").returncode, 0)
         self.assertTrue(os.path.exists(f"{self.prefix}/share/dthreads/guest/dthreads.gdb"))
         self.executes_a_linked_sample()
         self.compiles()

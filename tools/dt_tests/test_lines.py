@@ -1,0 +1,108 @@
+"""Tests of guest/dthreads-lines. The lines of a real program need the compiler of guest programs."""
+import os
+import shutil
+import subprocess
+import tempfile
+import unittest
+
+from dt_commands import guest_runs
+
+LINES = f"{guest_runs.KIT}/dthreads-lines"
+# A program whose places are found by their text.
+SOURCE = """struct { int first, others[7]; } table;
+int counter;
+
+__attribute__((noinline)) void add(int *number)
+{
+    *number += 1;
+}
+
+int main(void)
+{
+    add(&counter);
+    add(&table.others[2]);
+    return 0;
+}
+"""
+# Answers of a script that stands for addr2line, by the addresses that it is given.
+ANSWERS = """#!/bin/sh
+while read address; do
+    case $address in
+    0x10100) echo "$PWD/one.c:7" ;;
+    0x10104) echo "/other/two words.c:12 (discriminator 3)" ;;
+    0x18200) echo "$PWD/below/three.c:1" ;;
+    0x18300) echo "four.c:?" ;;
+    *) echo "??:0" ;;
+    esac
+done
+"""
+
+
+class Lines(unittest.TestCase):
+    """What guest/dthreads-lines makes of a list of races."""
+
+    def setUp(self):
+        room = tempfile.TemporaryDirectory()
+        self.addCleanup(room.cleanup)
+        self.room = os.path.realpath(room.name)
+
+    def lines(self, text, *words, path=None):
+        environment = {**os.environ, "PATH": f"{path or self.room}:{os.environ['PATH']}"}
+        how = {"input": text, "stdout": subprocess.PIPE, "stderr": subprocess.PIPE, "universal_newlines": True}
+        return subprocess.run([LINES, *words], cwd=self.room, env=environment, **how)
+
+    def write(self, name, text):
+        with open(f"{self.room}/{name}", "w", encoding="utf-8") as it:
+            it.write(text)
+        os.chmod(f"{self.room}/{name}", 0o755)
+
+    def test_places_are_put_behind_what_they_are_of(self):
+        self.write("riscv64-unknown-elf-addr2line", ANSWERS)
+        self.write("a.elf", "")
+        race = "race address=00018203 bytes=1 load thread=0 turn=1 pc=00010100{} store thread=1 turn=2 pc=00010104{} object=it+3{} in=a+4\n"
+        rest = "race address=00018300 bytes=4 load thread=0 turn=1 pc=00010108 store thread=1 turn=2 pc=0001010c object=a+0\nand 3 more\n"
+        ran = self.lines(race.format("", "", "") + rest, "a.elf")
+        self.assertEqual((ran.returncode, ran.stderr), (0, ""))
+        self.assertEqual(ran.stdout, race.format(" at=one.c:7", " at=/other/two words.c:12", " at=below/three.c:1") + rest)
+
+    def test_a_program_without_lines_is_told(self):
+        self.write("riscv64-unknown-elf-addr2line", ANSWERS)
+        self.write("a.elf", "")
+        race = "race address=00018300 bytes=4 load thread=0 turn=1 pc=00010108 store thread=1 turn=2 pc=0001010c\n"
+        ran = self.lines(race, "a.elf")
+        self.assertEqual((ran.returncode, ran.stdout), (1, race))
+        self.assertEqual(ran.stderr, "dthreads-lines: a.elf has none of these lines: compile it with -g\n")
+
+    def test_an_empty_list_asks_nothing(self):
+        self.write("riscv64-unknown-elf-addr2line", "#!/bin/sh\nexit 1\n")
+        self.write("a.elf", "")
+        ran = self.lines("", "a.elf")
+        self.assertEqual((ran.returncode, ran.stdout, ran.stderr), (0, "", ""))
+
+    def test_a_failure_of_the_tool_is_told(self):
+        self.write("riscv64-unknown-elf-addr2line", "#!/bin/sh\necho 'file format not recognized' >&2\nexit 1\n")
+        self.write("a.elf", "")
+        ran = self.lines("race address=00018300 bytes=4 load thread=0 turn=1 pc=00010108 store thread=1 turn=2 pc=0001010c\n", "a.elf")
+        self.assertEqual((ran.returncode, ran.stdout, ran.stderr), (2, "", "dthreads-lines: file format not recognized\n"))
+
+    def test_wrong_words(self):
+        self.assertEqual((self.lines("").returncode, self.lines("", "a", "b").returncode), (2, 2))
+        self.assertEqual(self.lines("", "none.elf").stderr, "dthreads-lines: none.elf: no such program\n")
+        self.assertIn("addr2line", self.lines("", "--help").stdout)
+
+    @unittest.skipUnless(shutil.which("riscv64-unknown-elf-gcc"), "there is no compiler of guest programs")
+    def test_the_lines_of_a_real_program(self):
+        self.write("program.c", SOURCE)
+        said = guest_runs.compiled(["-O1", "-g", "program.c"], f"{self.room}/program.elf", self.room)
+        self.assertIsNone(said)
+        ran = subprocess.run(["riscv64-unknown-elf-nm", "program.elf"], cwd=self.room, stdout=subprocess.PIPE, check=True, text=True)
+        at = {name: int(address, 16) for address, _, name in map(str.split, ran.stdout.splitlines())}
+        race = f"race address={at['table'] + 12:08x} bytes=4 load thread=0 turn=1 pc={at['add']:08x}{{}} store thread=1 turn=2 " \
+               f"pc={at['exit']:08x} object=table+12{{}} in=add+0 in=exit+0\n"
+        ran = self.lines(race.format("", ""), "program.elf", path="/usr/bin")
+        self.assertEqual((ran.returncode, ran.stderr), (0, ""))
+        self.assertEqual(ran.stdout, race.format(" at=program.c:6", " at=program.c:1"))
+
+
+if __name__ == "__main__":
+    unittest.main()
