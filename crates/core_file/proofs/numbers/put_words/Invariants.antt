@@ -1,0 +1,7 @@
+use Rattle.std.proofs.Common.{◌≡◌, ◌++◌, take}
+use Rattle.std.specs.List.{flat_map}
+use Rattle.core_file.specs.Fields.{word}
+use Rattle.core_file.proofs.numbers.put_words.Given as goal
+
+abbrev pub invariant-loop-number : goal.invariant-loop-number
+invariant-loop-number l = l.bytes.items ≡ l.initial.bytes.items ++ flat_map word (take l.number-index l.numbers)

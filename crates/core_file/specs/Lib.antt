@@ -1,0 +1,6 @@
+pub mod Core
+pub mod Fields
+pub mod Loads
+pub mod Notes
+pub mod Runs
+pub mod Shown
