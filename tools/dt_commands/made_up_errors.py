@@ -18,19 +18,24 @@ FAKES = {
     "crates/test_alloc_failures/src/worlds.rt",
 }
 
-# Lines that hand on the only error that the call before them has, an `AllocError`, or that a run which writes nothing can have.
+# Lines that hand on the only error that the call before them has, an `AllocError`, or that a run which writes nothing can have; and those
+# of a recorder that says so again, once a request was refused.
 HANDED_ON = {
     ("crates/schedule_core/src/event_fault.rt", "EventFault::OutOfMemory"),
     ("crates/elf32_reader/src/reader.rt", "Err(_) => Err(ElfFault::OutOfMemory),"),
     ("crates/command_requests/src/arguments.rt", ".map_err(|_| Failure::OutOfMemory),"),
     ("crates/command_disasm/src/listings.rt", "Err(_) => Err(Failure::OutOfMemory),"),
     ("crates/timeline/src/motion.rt", "Err(_) => Err(AllocError),"),
+    ("crates/races/src/recorder.rt", "return Err(AllocError);"),
 }
 
-# Lines that say so where no host could have the time: a run of 2^63 turns, or of 2^62 turns and changed bytes.
+# Lines that say so where no host could have the time: a run of 2^63 turns, of 2^62 turns and changed bytes, or of 2^62
+# events, and 2^64 library regions in one another.
 BEYOND_ANY_HOST = {
     ("crates/token/src/serial.rt", "return Err(TurnFault::OutOfMemory);"),
     ("crates/sharing_report/src/sharing_recorder.rt", "return Err(TurnFault::OutOfMemory);"),
+    ("crates/races/src/steps.rt", "return Err(AllocError);"),
+    ("crates/races/src/depths.rt", "None => Err(AllocError),"),
 }
 
 

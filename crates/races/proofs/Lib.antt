@@ -1,0 +1,11 @@
+pub mod Clocked
+pub mod Follow
+pub mod Finding
+pub mod Gathered
+pub mod Kept
+pub mod Mapped
+pub mod Noting
+pub mod Order
+pub mod Racing
+pub mod Telling
+pub mod Times

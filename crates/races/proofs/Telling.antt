@@ -1,0 +1,28 @@
+-- What a recorder has recorded with one event more.
+use Rattle.std.proofs.Common.{◌≡◌, ℕ, List, [], ◌∷◌, ◌++◌, refl, sym, ◌∙◌, ap, subst, append_assoc}
+use Rattle.std.proofs.Math.Path.{fun_ext}
+use Rattle.std.proofs.lemmas.List.{append-nil}
+use Rattle.races.specs.Recording.{KnowsSteps, Records, depth_of, depths_from, depths_in}
+use Rattle.races.specs.Steps.{Step, depth_after, steps_from, steps_in, steps_of}
+use Rattle.races.specs.declared.event.Event.{Event}
+use Rattle.races.specs.declared.recorder.RaceRecorder.{RaceRecorder}
+
+depths_more : (depth : ℕ → ℕ) (history : List Event) (event : Event) → depths_from depth (history ++ event ∷ []) ≡ depth_after (depths_from depth history) event
+depths_more depth [] event = refl
+depths_more depth (first ∷ history) event = depths_more (depth_after depth first) history event
+
+steps_more : (depth : ℕ → ℕ) (history : List Event) (event : Event) → steps_from depth (history ++ event ∷ []) ≡ steps_from depth history ++ steps_of (depths_from depth history) event
+steps_more depth [] event = append-nil (steps_of depth event)
+steps_more depth (first ∷ history) event =
+    ap (λ (rest : List Step). steps_of depth first ++ rest) (steps_more (depth_after depth first) history event)
+    ∙ sym (append_assoc (steps_of depth first) (steps_from (depth_after depth first) history) (steps_of (depths_from (depth_after depth first) history) event))
+
+-- the depths and the steps with an event more
+pub told_more : (old new : RaceRecorder) (history : List Event) (event : Event) → ((thread : ℕ) → depth_of new.depths thread ≡ depth_after (depth_of old.depths) event thread)
+    → ((steps : List Step) → KnowsSteps old.steps steps → KnowsSteps new.steps (steps ++ steps_of (depth_of old.depths) event)) → Records old history → Records new (history ++ event ∷ [])
+told_more old new history event depths steps records =
+    let same : depth_of old.depths ≡ depths_in history = fun_ext records.depths in record {
+      depths = λ thread.
+          depths thread ∙ ap (λ (depth : ℕ → ℕ). depth_after depth event thread) same ∙ ap (λ (depth : ℕ → ℕ). depth thread) (sym (depths_more (λ one. 0) history event));
+      steps = subst (KnowsSteps new.steps) (ap (λ (depth : ℕ → ℕ). steps_in history ++ steps_of depth event) same ∙ sym (steps_more (λ one. 0) history event)) (steps (steps_in history) records.steps);
+    }

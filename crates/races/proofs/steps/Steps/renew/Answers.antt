@@ -1,0 +1,18 @@
+use Rattle.std.proofs.Common.{arith}
+use Rattle.std.proofs.lemmas.List.{length_push}
+use Rattle.races.specs.Clocks.{time_at}
+use Rattle.races.specs.Steps.{Step}
+use Rattle.races.specs.Steps.Step.{Renew}
+use Rattle.races.proofs.Follow.{after_renew}
+use Rattle.races.proofs.steps.Steps.renew.Goals as goal
+
+pub returns : goal.returns
+returns c steps knows =
+    let step : Step = Renew c.args.address c.args.length in
+    let more = c.in_ok-more.ensures.more in
+    let count = knows.count in
+    record {
+      count = omega (arith, length_push steps step);
+      times = after_renew steps (time_at c.args.self.now.clocks) (time_at c.args.self.now.clocks) knows.times c.args.address c.args.length;
+      words = c.renew.ensures steps knows.words;
+    }

@@ -1,0 +1,41 @@
+-- The text of races.
+use Rattle.std.specs.Prelude.{ℕ, ◌+◌, ◌-◌, ◌*◌, ◌%◌, ◌^◌, ◌==◌, if◌then◌else◌, List, [], ◌++◌, codes, decimal, length}
+use Rattle.std.specs.List.{flat_map}
+use Rattle.std.proofs.Common.{take}
+use Rattle.text_output.specs.Digits.{hexadecimal}
+use Rattle.races.specs.declared.byte_set.ByteSet.{ByteSet}
+use Rattle.races.specs.declared.race.Race.{Race}
+use Rattle.races.specs.declared.site.Site.{Site}
+
+-- the lowest place of a byte
+abbrev pub lowest : ByteSet → ℕ
+lowest bytes = if bytes.first then 0 else if bytes.second then 1 else if bytes.third then 2 else 3
+
+-- how many bytes there are
+abbrev pub size_of : ByteSet → ℕ
+size_of bytes = (if bytes.first then 1 else 0) + (if bytes.second then 1 else 0) + (if bytes.third then 1 else 0) + (if bytes.fourth then 1 else 0)
+
+-- the address of a race's lowest byte
+abbrev pub address_of : Race → ℕ
+address_of race = (race.word * 4 + lowest race.bytes) % 2 ^ 32
+
+-- an access
+unfoldable pub site_text : Site → List ℕ
+site_text site =
+    (if site.is_store then codes " store" else codes " load") ++ codes " thread=" ++ decimal site.thread ++ codes " turn=" ++ decimal site.turn ++ codes " pc=" ++ hexadecimal 8 site.pc
+
+-- which bytes race
+unfoldable pub bytes_text : Race → List ℕ
+bytes_text race = codes "race address=" ++ hexadecimal 8 (address_of race) ++ codes " bytes=" ++ decimal (size_of race.bytes)
+
+-- the line of a race
+unfoldable pub race_text : Race → List ℕ
+race_text race = bytes_text race ++ site_text race.first ++ site_text race.second ++ codes "\n"
+
+-- how many lines were left out, if any were
+unfoldable pub left_text : ℕ → List ℕ
+left_text count = if count == 0 then [] else codes "left out=" ++ decimal count ++ codes "\n"
+
+-- the text of races: a line for each of the first 10,000
+unfoldable pub text_of : List Race → List ℕ
+text_of races = flat_map race_text (take 10000 races) ++ left_text (length races - 10000)

@@ -1,0 +1,78 @@
+//! Which of a word's four bytes.
+ghost use Rattle.std.specs.Prelude.{◌≡◌, ℕ, ◌&&◌, ◌||◌, not};
+ghost use Rattle.races.specs.Bytes.{has, is_none};
+
+/// Some of a word's four bytes, which stand at the places 0 to 3.
+#[derive(Clone, Copy, Debug, PartialEq, Eq)]
+pub struct ByteSet {
+    /// Whether the byte at place 0 is among them.
+    pub first: bool,
+    /// Whether the byte at place 1 is.
+    pub second: bool,
+    /// Whether the byte at place 2 is.
+    pub third: bool,
+    /// Whether the byte at place 3 is.
+    pub fourth: bool,
+}
+
+impl ByteSet {
+    ghost use Rattle.races.specs.Texts.{lowest};
+
+    /// Whether there is no byte.
+    pub fn is_empty(self) -> bool
+        ensures { result ≡ is_none self }
+    {
+        !(self.first || self.second || self.third || self.fourth)
+    }
+
+    /// The lowest place of a byte, or 3 if there is none.
+    pub(crate) fn lowest(self) -> u8
+        ensures { result ≡ lowest self }
+    {
+        if self.first {
+            0
+        } else if self.second {
+            1
+        } else if self.third {
+            2
+        } else {
+            3
+        }
+    }
+
+    /// The bytes that are in both.
+    pub(crate) fn common(self, other: ByteSet) -> ByteSet
+        ensures { (place : ℕ) → has result place ≡ (has self place && has other place) }
+    {
+        ByteSet {
+            first: self.first && other.first,
+            second: self.second && other.second,
+            third: self.third && other.third,
+            fourth: self.fourth && other.fourth,
+        }
+    }
+
+    /// The bytes that are in one of them.
+    pub(crate) fn joined(self, other: ByteSet) -> ByteSet
+        ensures { (place : ℕ) → has result place ≡ (has self place || has other place) }
+    {
+        ByteSet {
+            first: self.first || other.first,
+            second: self.second || other.second,
+            third: self.third || other.third,
+            fourth: self.fourth || other.fourth,
+        }
+    }
+
+    /// The bytes that are not in the other.
+    pub(crate) fn without(self, other: ByteSet) -> ByteSet
+        ensures { (place : ℕ) → has result place ≡ (has self place && not (has other place)) }
+    {
+        ByteSet {
+            first: self.first && !other.first,
+            second: self.second && !other.second,
+            third: self.third && !other.third,
+            fourth: self.fourth && !other.fourth,
+        }
+    }
+}

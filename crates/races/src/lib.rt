@@ -1,0 +1,24 @@
+//! Data races of a history of threads: what is told of a run, the order that its events have, and the pairs of accesses that have none.
+#![tactic(auto)]
+
+mod byte_set;
+mod clock;
+mod clocks;
+mod depths;
+mod event;
+mod place;
+mod race;
+mod recorder;
+mod site;
+mod steps;
+mod text;
+mod told;
+mod word;
+mod words;
+
+pub use byte_set::ByteSet;
+pub use event::Event;
+pub use race::Race;
+pub use recorder::RaceRecorder;
+pub use site::{Access, Site};
+pub use text::{MOST_LINES, races_text};

@@ -1,0 +1,197 @@
+//! The recorder of races: it is told a run's events one after another, and says where they race.
+ghost use Rattle.std.specs.Prelude.{◌≡◌, ℕ, List, [], ◌∷◌, ◌++◌, IfOk, OnOk, OnErr, true, false, map};
+ghost use Rattle.races.specs.Races.{AreRaces};
+ghost use Rattle.races.specs.Recording.{KnowsSteps, Records, depth_of};
+ghost use Rattle.races.specs.Steps.{Step, outside, steps_in, steps_of, threads_outside};
+ghost use Rattle.races.specs.Steps.Step.{Order, Touch};
+ghost use Rattle.races.specs.declared.event.Event.{Event as RunEvent};
+ghost use Rattle.races.specs.declared.place.Place.{Place as ClockPlace};
+ghost use Rattle.races.specs.declared.place.Place.TheVariants.{Thread};
+
+use crate::depths::Depths;
+use crate::event::Event;
+use crate::place::Place;
+use crate::race::Race;
+use crate::site::Access;
+use crate::steps::Steps;
+use crate::told::Told;
+use std::alloc::{AllocError, Global};
+
+/// Is told the events of a run in the order of its turns, and finds the races.
+///
+/// It keeps a clock for each thread, mutex and object, and for each word that was ever accessed the latest access of each
+/// of its bytes by each instruction of a thread, and the races found.
+#[derive(Drop)]
+pub struct RaceRecorder {
+    alloc: Global,
+    /// How many library regions each thread is in.
+    depths: Depths,
+    /// What is kept of the steps.
+    steps: Steps,
+    /// Whether an event could not be recorded.
+    is_broken: bool,
+}
+
+impl RaceRecorder {
+    /// A recorder that was told nothing.
+    ///
+    /// # Errors
+    ///
+    /// Only out of memory.
+    pub fn new(alloc: Global) -> Result<Self, AllocError>
+        ensures { IfOk result (λ recorder. Records recorder []) }
+    {
+        Ok(RaceRecorder {
+            alloc,
+            depths: Depths::new(alloc)?,
+            steps: Steps::new(alloc),
+            is_broken: false,
+        })
+    }
+
+    /// Records an event.
+    ///
+    /// # Errors
+    ///
+    /// Out of memory. Then the recorder is broken: each later call fails in the same way. An event past 2^62 of them, and
+    /// a library region inside 2^64 others, count as out of memory too.
+    pub fn record(&mut self, event: &Event) -> Result<(), AllocError>
+        ensures recorded { OnOk result ((history : List RunEvent) → Records self.old history → Records self.new (history ++ event.now ∷ [])) }
+        ensures broken { OnErr result (self.new.is_broken ≡ true) }
+        ensures stays { OnOk result (self.old.is_broken ≡ false) }
+    {
+        if self.is_broken {
+            return Err(AllocError);
+        }
+        match self.tell(event) {
+            Ok(()) => Ok(()),
+            Err(error) => {
+                self.is_broken = true;
+                Err(error)
+            }
+        }
+    }
+
+    /// The races of the events that were told, in the order of their second accesses: one for each pair of instructions
+    /// and each word at which they race, with the first two of their accesses that do.
+    ///
+    /// # Errors
+    ///
+    /// Out of memory, or the recorder is broken.
+    pub fn races(&self) -> Result<Vec<Race>, AllocError>
+        ensures races { IfOk result (λ races. (history : List RunEvent) → Records self.now history → AreRaces (steps_in history) races.items) }
+        ensures whole { OnOk result (self.now.is_broken ≡ false) }
+    {
+        if self.is_broken {
+            return Err(AllocError);
+        }
+        let mut told = self.steps.told()?;
+        told.sort_by_key(|one| one.step)?;
+        races_of(self.alloc, &told)
+    }
+
+    /// Tells what is looked at of an event.
+    fn tell(&mut self, event: &Event) -> Result<(), AllocError>
+        ensures { OnOk result ((history : List RunEvent) → Records self.old history → Records self.new (history ++ event.now ∷ [])) }
+    {
+        match event {
+            Event::Access(access) => self.access(access),
+            Event::Create { thread, created } => self.pass(*thread, Place::Thread(*created)),
+            Event::End { thread } => self.pass_outside(*thread, Place::Ended(*thread)),
+            Event::Join { thread, ended } => self.take_outside(*thread, Place::Ended(*ended)),
+            Event::Unlock { thread, mutex } => self.pass_outside(*thread, Place::Mutex(*mutex)),
+            Event::Lock { thread, mutex } => self.take_outside(*thread, Place::Mutex(*mutex)),
+            Event::LetGo { thread, waiter } => self.pass_outside(*thread, Place::Thread(*waiter)),
+            Event::Round { threads } => self.meet(threads),
+            Event::Acquire { thread, object } => self.take(*thread, Place::Object(*object)),
+            Event::Release { thread, object } => self.pass(*thread, Place::Object(*object)),
+            Event::Enter { thread } => self.depths.enter(*thread),
+            Event::Leave { thread } => {
+                self.depths.leave(*thread);
+                Ok(())
+            }
+            Event::Fresh { address, length } => self.steps.renew(*address, *length),
+        }
+    }
+
+    /// An access.
+    fn access(&mut self, access: &Access) -> Result<(), AllocError>
+        ensures steps { OnOk result ((steps : List Step) → KnowsSteps self.old.steps steps → KnowsSteps self.new.steps (steps ++ outside (depth_of self.old.depths) access.now.site.thread (Touch access.now))) }
+        ensures depths { self.new.depths ≡ self.old.depths }
+    {
+        if self.depths.is_outside(access.site.thread) {
+            self.steps.touch(access)
+        } else {
+            Ok(())
+        }
+    }
+
+    /// A thread passes its past on to a place.
+    fn pass(&mut self, thread: u8, place: Place) -> Result<(), AllocError>
+        ensures steps { OnOk result ((steps : List Step) → KnowsSteps self.old.steps steps → KnowsSteps self.new.steps (steps ++ Order (Thread thread ∷ []) (Thread thread ∷ place ∷ []) ∷ [])) }
+        ensures depths { self.new.depths ≡ self.old.depths }
+    {
+        let own = Place::Thread(thread);
+        self.steps.order(&[own], &[own, place])
+    }
+
+    /// A thread takes over a place's past.
+    fn take(&mut self, thread: u8, place: Place) -> Result<(), AllocError>
+        ensures steps { OnOk result ((steps : List Step) → KnowsSteps self.old.steps steps → KnowsSteps self.new.steps (steps ++ Order (Thread thread ∷ place ∷ []) (Thread thread ∷ []) ∷ [])) }
+        ensures depths { self.new.depths ≡ self.old.depths }
+    {
+        let own = Place::Thread(thread);
+        self.steps.order(&[own, place], &[own])
+    }
+
+    /// A thread passes its past on to a place, if it is in no library region.
+    fn pass_outside(&mut self, thread: u8, place: Place) -> Result<(), AllocError>
+        ensures steps { OnOk result ((steps : List Step) → KnowsSteps self.old.steps steps → KnowsSteps self.new.steps (steps ++ outside (depth_of self.old.depths) thread (Order (Thread thread ∷ []) (Thread thread ∷ place ∷ [])))) }
+        ensures depths { self.new.depths ≡ self.old.depths }
+    {
+        if self.depths.is_outside(thread) {
+            self.pass(thread, place)
+        } else {
+            Ok(())
+        }
+    }
+
+    /// A thread takes over a place's past, if it is in no library region.
+    fn take_outside(&mut self, thread: u8, place: Place) -> Result<(), AllocError>
+        ensures steps { OnOk result ((steps : List Step) → KnowsSteps self.old.steps steps → KnowsSteps self.new.steps (steps ++ outside (depth_of self.old.depths) thread (Order (Thread thread ∷ place ∷ []) (Thread thread ∷ [])))) }
+        ensures depths { self.new.depths ≡ self.old.depths }
+    {
+        if self.depths.is_outside(thread) {
+            self.take(thread, place)
+        } else {
+            Ok(())
+        }
+    }
+
+    /// A barrier lets threads go.
+    fn meet(&mut self, threads: &[u8]) -> Result<(), AllocError>
+        ensures steps { OnOk result ((steps : List Step) → KnowsSteps self.old.steps steps → KnowsSteps self.new.steps (steps ++ Order (threads_outside (depth_of self.old.depths) threads.now) (threads_outside (depth_of self.old.depths) threads.now) ∷ [])) }
+        ensures depths { self.new.depths ≡ self.old.depths }
+    {
+        let places = places_outside(self.alloc, &self.depths, threads)?;
+        self.steps.order(&places, &places)
+    }
+}
+
+/// Those of some threads that are in no library region.
+fn places_outside(alloc: Global, depths: &Depths, threads: &[u8]) -> Result<Vec<Place>, AllocError>
+    ensures { IfOk result (λ places. places.items ≡ threads_outside (depth_of depths.now) threads.now) }
+{
+    threads
+        .iter()
+        .filter(|thread| depths.is_outside(**thread))
+        .map(|thread| Place::Thread(*thread))
+        .collect(alloc)
+}
+
+/// The races themselves.
+fn races_of(alloc: Global, told: &[Told]) -> Result<Vec<Race>, AllocError>
+    ensures { IfOk result (λ races. races.items ≡ map (λ one. one.race) told.now) }
+{
+    told.iter().map(|one| one.race).collect(alloc)
+}

@@ -1,0 +1,92 @@
+//! The steps of a run: accesses, orders, and bytes that begin a new life.
+ghost use Rattle.std.specs.Prelude.{◌≡◌, ℕ, ◌+◌, ◌-◌, ◌^◌, ◌<◌, List, [], ◌∷◌, ◌++◌, IfOk, OnOk};
+ghost use Rattle.std.specs.Ordering.{nat_cmp};
+ghost use Rattle.std.specs.BTreeMap.{IsOrdered};
+ghost use Rattle.races.specs.Recording.{KnowsSteps};
+ghost use Rattle.races.specs.Steps.{Step};
+ghost use Rattle.races.specs.Steps.Step.{Touch, Order, Renew};
+ghost use Rattle.races.specs.Words.{told_of};
+
+use crate::clocks::Clocks;
+use crate::place::Place;
+use crate::site::Access;
+use crate::told::Told;
+use crate::words::Words;
+use std::alloc::{AllocError, Global};
+
+/// As many steps are taken at most. No run comes near: that would take thousands of years.
+const MOST_STEPS: u64 = 1 << 62;
+
+/// What is kept of the steps of a run.
+#[derive(Drop)]
+pub(crate) struct Steps {
+    /// How many they are.
+    count: u64,
+    /// What the past of each place has.
+    clocks: Clocks,
+    /// What is kept of each word.
+    words: Words,
+}
+
+impl Steps {
+    /// No step.
+    pub(crate) fn new(alloc: Global) -> Self
+        ensures { KnowsSteps result [] }
+    {
+        Steps {
+            count: 0,
+            clocks: Clocks::new(alloc),
+            words: Words::new(alloc),
+        }
+    }
+
+    /// An access.
+    pub(crate) fn touch(&mut self, access: &Access) -> Result<(), AllocError>
+        ensures { OnOk result ((steps : List Step) → KnowsSteps self.old steps → KnowsSteps self.new (steps ++ Touch access.now ∷ [])) }
+    {
+        let more = self.more()?;
+        self.words.touch(access, self.count, &self.clocks)?;
+        self.clocks.touch(access.site.thread, self.count)?;
+        self.count = more;
+        Ok(())
+    }
+
+    /// An event that takes over the pasts of some places and passes its own on to others.
+    pub(crate) fn order(&mut self, acquired: &[Place], released: &[Place]) -> Result<(), AllocError>
+        ensures { OnOk result ((steps : List Step) → KnowsSteps self.old steps → KnowsSteps self.new (steps ++ Order acquired.now released.now ∷ [])) }
+    {
+        let more = self.more()?;
+        self.clocks.order(acquired, released)?;
+        self.count = more;
+        Ok(())
+    }
+
+    /// The bytes from an address on, so many, begin a new life.
+    pub(crate) fn renew(&mut self, address: u32, length: u32) -> Result<(), AllocError>
+        ensures { OnOk result ((steps : List Step) → KnowsSteps self.old steps → KnowsSteps self.new (steps ++ Renew address length ∷ [])) }
+    {
+        let more = self.more()?;
+        self.words.renew(address, length);
+        self.count = more;
+        Ok(())
+    }
+
+    /// The races found.
+    pub(crate) fn told(&self) -> Result<Vec<Told>, AllocError>
+        ensures told { IfOk result (λ told. told.items ≡ told_of self.now.words.words.entries) }
+        ensures ordered { IsOrdered nat_cmp self.now.words.words }
+    {
+        self.words.told()
+    }
+
+    /// How many steps there are with one more.
+    fn more(&self) -> Result<u64, AllocError>
+        ensures more { IfOk result (λ more. more ≡ self.now.count + 1) }
+        ensures few { OnOk result (self.now.count < 2 ^ 64 - 1) }
+    {
+        if self.count >= MOST_STEPS {
+            return Err(AllocError);
+        }
+        Ok(self.count + 1)
+    }
+}
