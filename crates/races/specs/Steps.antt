@@ -29,6 +29,10 @@ depth_after depth event other = depth other
 abbrev pub outside : (ℕ → ℕ) → ℕ → Step → List Step
 outside depth thread step = if depth thread == 0 then step ∷ [] else []
 
+-- and only of two threads of which neither is in one
+abbrev pub both_outside : (ℕ → ℕ) → (thread other : ℕ) → Step → List Step
+both_outside depth thread other step = if depth other == 0 then outside depth thread step else []
+
 -- those of a round's threads that are in no library region
 abbrev pub threads_outside : (ℕ → ℕ) → List ℕ → List Place
 threads_outside depth threads = map Thread (filter (λ thread. depth thread == 0) threads)
@@ -44,7 +48,7 @@ steps_of depth (event.End thread) = outside depth thread (Order (Thread thread �
 steps_of depth (event.Join thread ended) = outside depth thread (Order (Thread thread ∷ Ended ended ∷ []) (Thread thread ∷ []))
 steps_of depth (event.Unlock thread mutex) = outside depth thread (Order (Thread thread ∷ []) (Thread thread ∷ Mutex mutex ∷ []))
 steps_of depth (event.Lock thread mutex) = outside depth thread (Order (Thread thread ∷ Mutex mutex ∷ []) (Thread thread ∷ []))
-steps_of depth (event.LetGo thread waiter) = outside depth thread (Order (Thread thread ∷ []) (Thread thread ∷ Thread waiter ∷ []))
+steps_of depth (event.LetGo thread waiter) = both_outside depth thread waiter (Order (Thread thread ∷ []) (Thread thread ∷ Thread waiter ∷ []))
 steps_of depth (event.Round threads) = Order (threads_outside depth threads.items) (threads_outside depth threads.items) ∷ []
 steps_of depth (event.Acquire thread object) = Order (Thread thread ∷ Object object ∷ []) (Thread thread ∷ []) ∷ []
 steps_of depth (event.Release thread object) = Order (Thread thread ∷ []) (Thread thread ∷ Object object ∷ []) ∷ []

@@ -2,7 +2,7 @@
 ghost use Rattle.std.specs.Prelude.{◌≡◌, ℕ, List, [], ◌∷◌, ◌++◌, IfOk, OnOk, OnErr, true, false, map};
 ghost use Rattle.races.specs.Races.{AreRaces};
 ghost use Rattle.races.specs.Recording.{KnowsSteps, Records, depth_of};
-ghost use Rattle.races.specs.Steps.{Step, outside, steps_in, steps_of, threads_outside};
+ghost use Rattle.races.specs.Steps.{Step, both_outside, outside, steps_in, steps_of, threads_outside};
 ghost use Rattle.races.specs.Steps.Step.{Order, Touch};
 ghost use Rattle.races.specs.declared.event.Event.{Event as RunEvent};
 ghost use Rattle.races.specs.declared.place.Place.{Place as ClockPlace};
@@ -101,7 +101,7 @@ impl RaceRecorder {
             Event::Join { thread, ended } => self.take_outside(*thread, Place::Ended(*ended)),
             Event::Unlock { thread, mutex } => self.pass_outside(*thread, Place::Mutex(*mutex)),
             Event::Lock { thread, mutex } => self.take_outside(*thread, Place::Mutex(*mutex)),
-            Event::LetGo { thread, waiter } => self.pass_outside(*thread, Place::Thread(*waiter)),
+            Event::LetGo { thread, waiter } => self.let_go(*thread, *waiter),
             Event::Round { threads } => self.meet(threads),
             Event::Acquire { thread, object } => self.take(*thread, Place::Object(*object)),
             Event::Release { thread, object } => self.pass(*thread, Place::Object(*object)),
@@ -163,6 +163,18 @@ impl RaceRecorder {
     {
         if self.depths.is_outside(thread) {
             self.take(thread, place)
+        } else {
+            Ok(())
+        }
+    }
+
+    /// A signal or broadcast lets a thread go, if neither is in a library region.
+    fn let_go(&mut self, thread: u8, waiter: u8) -> Result<(), AllocError>
+        ensures steps { OnOk result ((steps : List Step) → KnowsSteps self.old.steps steps → KnowsSteps self.new.steps (steps ++ both_outside (depth_of self.old.depths) thread waiter (Order (Thread thread ∷ []) (Thread thread ∷ Thread waiter ∷ [])))) }
+        ensures depths { self.new.depths ≡ self.old.depths }
+    {
+        if self.depths.is_outside(waiter) {
+            self.pass_outside(thread, Place::Thread(waiter))
         } else {
             Ok(())
         }

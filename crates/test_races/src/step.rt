@@ -67,12 +67,20 @@ fn finish(mut step: Step, before: &[Event], event: &Event) -> Result<Option<Step
     let Some((thread, is_hidden_inside)) = thread_of(event) else {
         return Ok(Some(step));
     };
-    if is_hidden_inside && is_inside(before, thread) {
+    if is_hidden_inside && is_inside(before, thread) || is_for_one_inside(before, event) {
         return Ok(None);
     }
     step.from.push(Way::Thread(thread))?;
     step.to.push(Way::Thread(thread))?;
     Ok(Some(step))
+}
+
+/// Whether an event lets a thread go that waited in a library region.
+fn is_for_one_inside(before: &[Event], event: &Event) -> bool {
+    match event {
+        Event::LetGo { waiter, .. } => is_inside(before, *waiter),
+        _ => false,
+    }
 }
 
 /// The thread of an event that has one, and whether a library region hides it.

@@ -50,9 +50,9 @@ returns-in-Lock c =
 
 pub returns-in-LetGo : goal.returns-in-LetGo
 returns-in-LetGo c =
-    on_ok_weaker c.pass_outside-in-LetGo.result
-    (λ steps. told c.args.self.now c.pass_outside-in-LetGo.new.self c.args.event.now (LetGo c.in-LetGo.thread c.in-LetGo.waiter) c.in-LetGo.is (λ depth thread. refl) c.pass_outside-in-LetGo.ensures.depths steps)
-    c.pass_outside-in-LetGo.ensures.steps
+    on_ok_weaker c.let_go.result
+    (λ steps. told c.args.self.now c.let_go.new.self c.args.event.now (LetGo c.in-LetGo.thread c.in-LetGo.waiter) c.in-LetGo.is (λ depth thread. refl) c.let_go.ensures.depths steps)
+    c.let_go.ensures.steps
 
 pub returns-in-Acquire : goal.returns-in-Acquire
 returns-in-Acquire c =
