@@ -1,9 +1,8 @@
-//! How a run ended and what it left, for its core file and its digest.
+//! How a run ended and what it left, for its digest.
 use paged_memory::Snapshot;
-use thread_table::Thread;
 use token::RunOutcome;
 
-/// How a run ended, and what it left: what its core file and its digest are made of.
+/// How a run ended, and what it left: what its digest is made of.
 #[derive(Drop)]
 pub struct Ended {
     /// How it ended.
@@ -12,6 +11,4 @@ pub struct Ended {
     pub output: Vec<u8>,
     /// The shared memory at the end.
     pub memory: Snapshot,
-    /// All threads that were made, by their numbers: at most 256.
-    pub threads: Vec<Thread>,
 }

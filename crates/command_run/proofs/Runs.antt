@@ -1,5 +1,5 @@
 -- What a run answers, put together of its parts.
-use Rattle.std.proofs.Common.{◌≡◌, ◌⊎◌, ◌∙◌, inl, inr, ℕ, Option, Some, None, Result, Ok, Err, List, IfOk, ap, refl, subst, sym}
+use Rattle.std.proofs.Common.{◌≡◌, ◌⊎◌, ◌∙◌, inl, inr, ℕ, Option, Some, None, Result, Ok, Err, List, IfOk, refl, subst, sym}
 use Rattle.std.proofs.KnownBytes.{Appends-trans}
 use Rattle.std.specs.Io.KnownBytes.{Appends}
 use Rattle.std.specs.Result.{IsErrAnd}
@@ -16,9 +16,8 @@ use Rattle.runtime.specs.declared.interruption.Interruption.{Interruption}
 use Rattle.runtime.specs.declared.interruption.Interruption.TheVariants as stop
 use Rattle.sharing_report.specs.Recording.{AreInOrder}
 use Rattle.token.proofs.ChangesInOrder.{phases_ascend, thread_numbers_small}
-use Rattle.thread_table.specs.declared.thread.Thread.{Thread}
 use Rattle.token.specs.Change.{Change}
-use Rattle.token.specs.History.{History, changes_of, present, turns_of}
+use Rattle.token.specs.History.{History, changes_of, turns_of}
 use Rattle.token.specs.Law.{Determinism, Progress}
 use Rattle.token.specs.Legal.{IsLegal}
 use Rattle.token.specs.RunInTurn.{point_of}
@@ -29,7 +28,7 @@ use Rattle.token.specs.declared.turn.Turn.{Turn}
 use Rattle.command_run.specs.Failure.{failure_of_interruption}
 use Rattle.command_outputs.specs.Records.{AreTextsOf, AreUnwritten, AreWritten, IsUnwritten, KeepsButParts, Left, Texts}
 use Rattle.command_outputs.specs.Recorders.{AreFor, AreSame}
-use Rattle.command_run.specs.Serves.{left_after, AreOneFile, AreRun, Concludes, Host, IsBegun, IsOpenedFrom, IsStopped, IsUnrun, LeavesTexts, RunRequest, RunsInto}
+use Rattle.command_run.specs.Serves.{AreOneFile, AreRun, Concludes, Host, IsBegun, IsOpenedFrom, IsStopped, IsUnrun, LeavesTexts, RunRequest, RunsInto}
 use Rattle.command_requests.specs.declared.destination.Destination.{Destination}
 use Rattle.command_requests.specs.declared.failure.Failure.{Failure}
 use Rattle.command_requests.specs.declared.records.Records.{Records}
@@ -52,7 +51,7 @@ pub ends_as : {R Q : Type 0} (records : Recording R) (others : Recording Q) (set
 ends_as records others setup end recorder other tells ends = answer_so setup (IsRecordedEnd records setup end recorder) (IsRecordedEnd others setup end other) same_end ends
   where
     same_end : (history : History) → IsRecordedEnd records setup end recorder history → IsRecordedEnd others setup end other history
-    same_end history is = record { ends = is.ends; output = is.output; memory = is.memory; threads = is.threads; few = is.few; recorded = tells (turns_of history) (changes_of history) is.recorded }
+    same_end history is = record { ends = is.ends; output = is.output; memory = is.memory; recorded = tells (turns_of history) (changes_of history) is.recorded }
 
 -- the changes of a legal history come in order
 pub in_order : (setup : Setup) (history : History) → IsLegal setup history → AreInOrder (changes_of history)
@@ -74,35 +73,21 @@ all_sent records setup end recorder old new ends sent =
 
 -- what a run left that had these turns and changes, and this end
 abbrev left_with : List Turn → List Change → RunEnd → Left
-left_with turns changes end =
-    record { turns = turns; changes = changes; ends = end.outcome; output = end.output.items; memory = cells_of end.memory; threads = end.threads.items }
+left_with turns changes end = record { turns = turns; changes = changes; ends = end.outcome; output = end.output.items; memory = cells_of end.memory }
 
 module _ {R : Type 0} (told : Recording R) (tells : Type 0) (records : Records) (setup : Setup) (end : RunEnd) (recorders : R)
     (before after : Host) (now : Content) (mid : Option (List ℕ)) (ends : Ends told setup end recorders) where
   abbrev history : History
   history = ends.some.0
 
-  abbrev left_put : List ℕ → Left
-  left_put output =
-      record { turns = turns_of history; changes = changes_of history; ends = end.outcome; output = output; memory = cells_of end.memory; threads = end.threads.items }
-
-  left_so : (output : List ℕ)
-      → left_put output ≡ left_after setup history end.outcome output
-  left_so output =
-      ap
-      (λ (memory : Memory). record { turns = turns_of history; changes = changes_of history; ends = end.outcome; output = output; memory = memory; threads = end.threads.items })
-      (sym ends.some.2.memory)
-      ∙ ap
-      (λ (threads : List Thread).
-      record { turns = turns_of history; changes = changes_of history; ends = end.outcome; output = output; memory = (present setup history).memory; threads = threads })
-      (sym ends.some.2.threads)
-
   leaves_texts : (texts : Texts) → AreTextsOf records (left_with (turns_of history) (changes_of history) end) texts
       → LeavesTexts setup records end.outcome end.output.items texts history
   leaves_texts texts are = record {
     ends_so = ends.some.2.ends;
     output_is = ends.some.2.output;
-    texts_are = subst (λ (left : Left). AreTextsOf records left texts) (left_so end.output.items) are;
+    texts_are =
+        subst (λ (memory : Memory). AreTextsOf records (record { turns = turns_of history; changes = changes_of history; ends = end.outcome; output = end.output.items; memory = memory }) texts)
+        (sym ends.some.2.memory) are;
   }
 
   -- the run came to its end, and its texts are where they are to be
@@ -119,38 +104,34 @@ module _ {R : Type 0} (told : Recording R) (tells : Type 0) (records : Records) 
         λ can. Appends-trans before.output mid after.output _ _ sent (made.2.printed_after can),
       )
 
-  unwritten_since : (left : Left) (failure : Failure) → KeepsButParts records before.files now
-      → AreUnwritten tells records left now after.files mid after.output failure
-      → AreUnwritten tells records left before.files after.files mid after.output failure
-  unwritten_since left failure kept (inl missing) =
-      inl (record { trace = missing.trace; others = λ path file trace report core digest. missing.others path file trace report core digest ∙ kept path trace report core digest })
-  unwritten_since left failure kept (inr missing) = inr missing
+  unwritten_since : (turns : List Turn) (changes : List Change) (failure : Failure) → KeepsButParts records before.files now
+      → AreUnwritten tells records turns changes now after.files mid after.output failure
+      → AreUnwritten tells records turns changes before.files after.files mid after.output failure
+  unwritten_since turns changes failure kept (inl left) =
+      inl (record { trace = left.trace; others = λ path file trace report digest. left.others path file trace report digest ∙ kept path trace report digest })
+  unwritten_since turns changes failure kept (inr left) = inr left
 
   -- the run came to its end, and one of its texts isn't where it is to be
   pub concludes_left_out : (failure : Failure) (answer : Result RunOutcome Failure) → KeepsButParts records before.files now → Appends before.output mid end.output.items
       → ((turns : List Turn) (changes : List Change) → told recorders turns changes → AreInOrder changes
-      → AreUnwritten tells records (left_with turns changes end) now after.files mid after.output failure)
+      → AreUnwritten tells records turns changes now after.files mid after.output failure)
       → IsErrAnd answer (λ given. given ≡ failure) → Concludes tells records before after setup answer
   concludes_left_out failure answer kept sent left given =
       handed_on (λ (given : Result RunOutcome Failure). Concludes tells records before after setup given) failure answer
       (inr (record {
         history = history;
         complete = ends.some.1;
-        ends = end.outcome;
-        ends_so = ends.some.2.ends;
         between = mid;
         put_out = subst (λ (output : List ℕ). Appends before.output mid output) (sym ends.some.2.output) sent;
         unwritten =
-            unwritten_since (left_after setup history end.outcome (present setup history).output) failure kept
-            (subst (λ (left : Left). AreUnwritten tells records left now after.files mid after.output failure)
-            (ap (λ (output : List ℕ). left_put output) (sym ends.some.2.output) ∙ left_so (present setup history).output)
-            (left (turns_of history) (changes_of history) ends.some.2.recorded (in_order setup history ends.some.1.legal)));
+            unwritten_since (turns_of history) (changes_of history) failure kept
+            (left (turns_of history) (changes_of history) ends.some.2.recorded (in_order setup history ends.some.1.legal));
       }))
       given
 
 -- the parts alone change twice
 pub but_parts_twice : (records : Records) (old now new : Content) → KeepsButParts records old now → KeepsButParts records now new → KeepsButParts records old new
-but_parts_twice records old now new first second = λ path trace report core digest. second path trace report core digest ∙ first path trace report core digest
+but_parts_twice records old now new first second = λ path trace report digest. second path trace report digest ∙ first path trace report digest
 
 -- the output of a text couldn't be begun, and nothing was put out
 pub concludes_unbegun : (tells : Type 0) (records : Records) (setup : Setup) (files now : Content) (out : Option (List ℕ)) (failure : Failure) (answer : Result RunOutcome Failure)

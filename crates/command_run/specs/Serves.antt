@@ -59,14 +59,7 @@ IsUnrun path content input config failure =
 -- what a run left that had this history and ended so, with this output
 abbrev pub left_after : Setup → History → RunOutcome → List ℕ → Left
 left_after setup history ends output =
-    record {
-      turns = turns_of history;
-      changes = changes_of history;
-      ends = ends;
-      output = output;
-      memory = (present setup history).memory;
-      threads = (present setup history).threads;
-    }
+    record { turns = turns_of history; changes = changes_of history; ends = ends; output = output; memory = (present setup history).memory }
 
 -- how a history ends, its output, and the texts of its turns and changes
 pub record LeavesTexts (setup : Setup) (records : Records) (ends : RunOutcome) (output : List ℕ) (texts : Texts) (history : History) : Type 0 where
@@ -93,11 +86,9 @@ IsHalted records old new failure setup = (IsUnwritten records failure × (new �
 pub record IsLeftOut (tells : Type 0) (records : Records) (before after : Host) (failure : Failure) (setup : Setup) : Type 0 where
   pub history : History
   pub complete : IsComplete setup history
-  pub ends : RunOutcome
-  pub ends_so : outcome setup history ≡ Some ends
   pub between : Option (List ℕ)
   pub put_out : Appends before.output between (present setup history).output
-  pub unwritten : AreUnwritten tells records (left_after setup history ends (present setup history).output) before.files after.files between after.output failure
+  pub unwritten : AreUnwritten tells records (turns_of history) (changes_of history) before.files after.files between after.output failure
 
 -- What a run that nothing refuses answers: its outcome, with the output put out and each text where it is to be. Or it has no answer,
 -- and the files are as they were but for the parts; or a text didn't get to where it is to be.

@@ -81,7 +81,6 @@ fn run_opened_file<'a, H: Threads + Wait + Sync, F: Files, W: Write>(
                 outcome: end.outcome,
                 output: end.output,
                 memory: end.memory,
-                threads: end.threads,
             };
             write_records(
                 alloc,

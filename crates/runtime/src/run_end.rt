@@ -1,6 +1,5 @@
-//! The end of a run: outcome, output, memory and threads.
+//! The end of a run: outcome, output and memory.
 use paged_memory::Snapshot;
-use thread_table::Thread;
 use token::RunOutcome;
 
 /// How a run ended, and what it left.
@@ -12,6 +11,4 @@ pub struct RunEnd {
     pub output: Vec<u8>,
     /// The shared memory at the end.
     pub memory: Snapshot,
-    /// All threads that were made, by their numbers: at most 256.
-    pub threads: Vec<Thread>,
 }

@@ -18,24 +18,20 @@ pub const TRACE: &str = "trace";
 /// The path of the file of `MemoryFiles` for a report.
 pub const REPORT: &str = "report";
 
-/// The path of the file of `MemoryFiles` for a core file.
-pub const CORE: &str = "core";
-
 /// The path of the file of `MemoryFiles` for a digest.
 pub const DIGEST: &str = "digest";
 
 /// A path of `MemoryFiles` that can't be compared with another one, since memory is refused for that.
 pub const REFUSED: &str = "refused";
 
-/// A program, a schedule, and files in memory for a trace, a report, a core file and a digest. No other path has a file,
-/// and none can be written.
+/// A program, a schedule, and files in memory for a trace, a report and a digest. No other path has a file, and none can be
+/// written.
 #[derive(Drop)]
 pub struct MemoryFiles<'a> {
     pub program: &'a [u8],
     pub schedule: &'a [u8],
     pub trace: Vec<u8>,
     pub report: Vec<u8>,
-    pub core: Vec<u8>,
     pub digest: Vec<u8>,
     /// How many bytes each output takes before its writes fail.
     pub room: usize,
@@ -50,7 +46,6 @@ pub struct MemoryFiles<'a> {
 struct Parts {
     trace: bool,
     report: bool,
-    core: bool,
     digest: bool,
 }
 
@@ -67,14 +62,12 @@ impl<'a> MemoryFiles<'a> {
             schedule,
             trace: Vec::new(alloc),
             report: Vec::new(alloc),
-            core: Vec::new(alloc),
             digest: Vec::new(alloc),
             room: usize::MAX,
             good_ends: u32::MAX,
             parts: Parts {
                 trace: false,
                 report: false,
-                core: false,
                 digest: false,
             },
         }
@@ -85,7 +78,6 @@ impl<'a> MemoryFiles<'a> {
         let mut files = MemoryFiles::new(alloc, program);
         files.trace.resize(1000, b'x')?;
         files.report.resize(1000, b'x')?;
-        files.core.resize(1000, b'x')?;
         files.digest.resize(1000, b'x')?;
         Ok(files)
     }
@@ -94,14 +86,13 @@ impl<'a> MemoryFiles<'a> {
     pub fn assert_no_part(&self, rt: &impl Abort) {
         assert!(rt; !self.parts.trace, "the trace's part is left");
         assert!(rt; !self.parts.report, "the report's part is left");
-        assert!(rt; !self.parts.core, "the core file's part is left");
         assert!(rt; !self.parts.digest, "the digest's part is left");
     }
 
     /// Fails the test unless the files are still those of `with_old_files`, and no part is left.
     pub fn assert_old(&self, rt: &impl Abort) {
         self.assert_no_part(rt);
-        for file in [&self.trace, &self.report, &self.core, &self.digest] {
+        for file in [&self.trace, &self.report, &self.digest] {
             assert_eq!(rt; file.len(), 1000);
             assert!(rt; file.as_slice().ends_with(b"x"));
         }
@@ -112,7 +103,6 @@ impl<'a> MemoryFiles<'a> {
         match path {
             TRACE => Some(&mut self.trace),
             REPORT => Some(&mut self.report),
-            CORE => Some(&mut self.core),
             DIGEST => Some(&mut self.digest),
             _ => None,
         }
@@ -123,7 +113,6 @@ impl<'a> MemoryFiles<'a> {
         match path {
             TRACE => self.parts.trace = is_there,
             REPORT => self.parts.report = is_there,
-            CORE => self.parts.core = is_there,
             DIGEST => self.parts.digest = is_there,
             _ => {}
         }
@@ -156,7 +145,7 @@ impl Files for MemoryFiles<'_> {
 
     fn begin(&mut self, alloc: Global, path: &str) -> Result<MemoryOutput, WriteFault> {
         match path {
-            TRACE | REPORT | CORE | DIGEST => {
+            TRACE | REPORT | DIGEST => {
                 self.note_part(path, true);
                 Ok(MemoryOutput::new(alloc, self.room))
             }

@@ -6,8 +6,6 @@ mod argument_texts;
 #[cfg(test)]
 mod command_lines;
 #[cfg(test)]
-mod core_files;
-#[cfg(test)]
 mod destinations;
 #[cfg(test)]
 mod failing_writes;
