@@ -1,0 +1,4 @@
+pub mod Choosing
+pub mod Law
+pub mod Reaching
+pub mod Rows

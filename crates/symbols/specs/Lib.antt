@@ -1,0 +1,9 @@
+pub mod Covering
+pub mod Entries
+pub mod Fields
+pub mod Format
+pub mod Kept
+pub mod Names
+pub mod Sections
+pub mod Symbol
+pub mod Symbols

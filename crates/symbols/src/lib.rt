@@ -1,0 +1,20 @@
+//! The symbols of ELF32 little-endian files: which object or function covers an address. No file is refused; what is damaged, missing or
+//! out of range only leaves names out.
+//!
+//! - [`Symbols::read`] reads the symbol table of a file.
+//! - [`Symbols::object_at`] and [`Symbols::function_at`] name an address.
+#![tactic(auto)]
+
+mod covering;
+mod entry;
+mod fields;
+mod kept;
+mod names;
+mod place;
+mod reading;
+mod section;
+mod sections;
+mod symbols;
+
+pub use place::Place;
+pub use symbols::Symbols;
