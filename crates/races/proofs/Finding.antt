@@ -6,7 +6,7 @@ use Rattle.std.proofs.lemmas.List.{length_push}
 use Rattle.std.proofs.lemmas.List.Elements.{Contains-push_cases}
 use Rattle.races.specs.Before.{at}
 use Rattle.races.specs.Bytes.{has}
-use Rattle.races.specs.Clocks.{time_in}
+use Rattle.races.specs.Clocks.{time_of}
 use Rattle.races.specs.Races.{AreRacing, IsRace, IsSamePair, IsToldBy}
 use Rattle.races.specs.Steps.{Step}
 use Rattle.races.specs.Steps.Step.{Touch}
@@ -14,8 +14,8 @@ use Rattle.races.specs.Words.{IsFinding, IsHit, IsLatest, IsNoted, KnowsFound, K
 use Rattle.races.specs.declared.clocks.Clocks.{Clocks}
 use Rattle.races.specs.declared.site.Access.{Access}
 use Rattle.races.specs.declared.site.Site.{Site}
-use Rattle.races.specs.declared.word.Found.{Found}
-use Rattle.races.specs.declared.word.Latest.{Latest}
+use Rattle.races.specs.declared.found.Found.{Found}
+use Rattle.races.specs.declared.latest.Latest.{Latest}
 use Rattle.races.proofs.Clocked.{none_contained}
 use Rattle.races.proofs.Follow.{access_inside}
 use Rattle.races.proofs.Noting.{noted_kept, noted_own, noted_sound, pair_refl, pair_trans}
@@ -31,20 +31,20 @@ module _ (steps : List Step) (access : Access) (clocks : Clocks) where
   }
 
   -- held against one more that doesn't race
-  pub finding_skip : (done : List Latest) (past : Latest) (found : List Found) → ((place : ℕ) → IsHit (time_in clocks.threads access.site.thread) past access → has past.bytes place ≡ true → has access.bytes place ≡ true → ⊥)
+  pub finding_skip : (done : List Latest) (past : Latest) (found : List Found) → ((place : ℕ) → IsHit (time_of clocks.threads.clocks.items access.site.thread) past access → has past.bytes place ≡ true → has access.bytes place ≡ true → ⊥)
       → IsFinding steps access clocks done found → IsFinding steps access clocks (done ++ past ∷ []) found
   finding_skip done past found none finding = record {
     sound = finding.sound;
     old = finding.old;
     new = λ one place among hit there here. ⊎_elim
         (λ before. finding.new one place before hit there here)
-        (λ same. absurd (none place (subst (λ (p : Latest). IsHit (time_in clocks.threads access.site.thread) p access) (sym same) hit) (ap (λ (p : Latest). has p.bytes place) same ∙ there) here))
+        (λ same. absurd (none place (subst (λ (p : Latest). IsHit (time_of clocks.threads.clocks.items access.site.thread) p access) (sym same) hit) (ap (λ (p : Latest). has p.bytes place) same ∙ there) here))
         (Contains-push_cases done past one among);
   }
 
   -- held against one more that races
   pub finding_hit : (latest done : List Latest) (past : Latest) (found more : List Found) (race : Found) → Times steps clocks → KnowsLatest steps access.word latest → Contains latest past
-      → IsHit (time_in clocks.threads access.site.thread) past access → race.first ≡ past.site → race.second ≡ access.site
+      → IsHit (time_of clocks.threads.clocks.items access.site.thread) past access → race.first ≡ past.site → race.second ≡ access.site
       → ((place : ℕ) → has race.bytes place ≡ true → (has past.bytes place ≡ true) × (has access.bytes place ≡ true)) → ((place : ℕ) → has past.bytes place ≡ true → has access.bytes place ≡ true → has race.bytes place ≡ true)
       → (place : ℕ) → has race.bytes place ≡ true
       → IsNoted found more race → IsFinding steps access clocks done found → IsFinding steps access clocks (done ++ past ∷ []) more

@@ -1,22 +1,27 @@
 -- The accesses that are kept of a word, with one step more at the end.
 use Rattle.std.proofs.Common.{◌≡◌, ℕ, zero, suc, ◌+◌, ◌≤◌, ◌<◌, Bool, true, false, not, cond, Option, Some, None, List, [], ◌∷◌, ◌++◌, length, filter, get_or, set, refl, sym, ◌∙◌, ap, subst, arith, ⊎_elim, inl, inr}
-use Rattle.std.specs.Prelude.{◌⊎◌, ◌↔◌, Contains}
+use Rattle.std.specs.Prelude.{◌⊎◌, ◌↔◌, Contains, MatchOption}
+use Rattle.std.specs.Option.{option_to_list}
 use Rattle.std.proofs.lemmas.Bool.{cases_lt, cases_eq}
 use Rattle.std.proofs.lemmas.List.{get_or-set_same, get_or-set_other, get_or_default, length_push}
 use Rattle.std.proofs.lemmas.List.Elements.{All-contains, All-contains_itself, All-filter, Contains-append_cases, Contains-append_left, Contains-append_right, Contains-push, Contains-push_cases}
 use Rattle.races.specs.Before.{at}
 use Rattle.races.specs.Bytes.{has, is_none}
+use Rattle.races.specs.Clocks.{Reaches}
 use Rattle.races.specs.Races.{IsOf, Renews}
 use Rattle.races.specs.Steps.{Step}
 use Rattle.races.specs.Steps.Step.{Touch, Renew}
-use Rattle.races.specs.Words.{IsCleaned, IsErased, IsLatest, IsSameAuthor, IsTaken, KnowsLatest}
+use Rattle.races.specs.Words.{IsCleaned, IsCovered, IsErased, IsKept, IsLatest, IsRenewed, IsReplaced, IsSameAuthor, IsTaken, KnowsLatest}
 use Rattle.races.specs.declared.byte_set.ByteSet.{ByteSet}
+use Rattle.races.specs.declared.place.Place.{Place}
+use Rattle.races.specs.declared.place.Place.TheVariants.{Thread}
 use Rattle.races.specs.declared.site.Access.{Access}
 use Rattle.races.specs.declared.site.Site.{Site}
-use Rattle.races.specs.declared.word.Latest.{Latest}
+use Rattle.races.specs.declared.latest.Latest.{Latest}
 use Rattle.races.proofs.Clocked.{none_contained}
-use Rattle.races.proofs.Follow.{access_cases, access_inside}
-use Rattle.races.proofs.Order.{at_before, at_last}
+use Rattle.races.proofs.Follow.{access_cases, access_inside, later_last, reaches_thread}
+use Rattle.races.proofs.Noting.{set_cases, set_here, set_kept}
+use Rattle.races.proofs.Order.{at_before, at_last, reaches_cases, reaches_more, reaches_own, reaches_through}
 use Rattle.races.proofs.Racing.{renews_inside, small_place}
 
 -- ---- cleaned accesses
@@ -147,6 +152,21 @@ module _ (steps : List Step) (step : Step) (word : ℕ) where
             (cases_lt later (length steps));
       }
 
+  -- what has one step in its past still has another
+  pub covered_more : (kept index : ℕ) → kept < length steps → IsCovered steps kept index → IsCovered (steps ++ step ∷ []) kept index
+  covered_more kept index inside covers place reaches = ⊎_elim
+      (λ before. reaches_more steps step index place (covers place before))
+      (λ has. reaches_through steps step index has.1.0 place has.1.1 (covers has.1.0 has.1.2) has.0)
+      (reaches_cases steps step kept place inside reaches)
+
+  -- a kept access still stands for one
+  stands : (latest : List Latest) (index : ℕ) (site : Site) (place : ℕ) → KnowsLatest steps word latest
+      → (past : Latest) × Contains latest past × IsSameAuthor past.site site × (has past.bytes place ≡ true) × IsCovered steps past.step index
+      → (past : Latest) × Contains latest past × IsSameAuthor past.site site × (has past.bytes place ≡ true) × IsCovered (steps ++ step ∷ []) past.step index
+  stands latest index site place knows was =
+      let sound = knows.sound was.0 was.1 in
+      (was.0, was.1, was.2, was.3, covered_more was.0.step index (access_inside steps was.0.step sound.access sound.is) was.4)
+
   -- what is alive with the step was alive without it
   pub was_alive : (index place : ℕ) → ((later : ℕ) → index < later → Renews (at (steps ++ step ∷ []) later) word place → ⊥) → (later : ℕ) → index < later → Renews (at steps later) word place → ⊥
   was_alive index place alive later after renews =
@@ -171,42 +191,197 @@ module _ (steps : List Step) (step : Step) (word : ℕ) where
   latest_other latest not_of not_renews knows = record {
     sound = λ past among. still_latest past past refl refl (λ place there. (there, not_renews place (small_place past.bytes place there))) (knows.sound past among);
     complete = λ index access place is of alive. ⊎_elim
-        (λ before. knows.complete index access place before.1 of (was_alive index place alive))
+        (λ before. stands latest index access.site place knows (knows.complete index access place before.1 of (was_alive index place alive)))
         (λ last. absurd (not_of access last.1 of.word_is))
         (access_cases steps step index access is);
   }
 
 -- bytes of the word begin a new life
-pub latest_renewed : (steps : List Step) (address long word : ℕ) (bytes : ByteSet) (old new : List Latest) → ((place : ℕ) → place < 4 → (has bytes place ≡ true) ↔ Renews (Renew address long) word place)
-    → IsErased None bytes old new → KnowsLatest steps word old → KnowsLatest (steps ++ Renew address long ∷ []) word new
-latest_renewed steps address long word bytes old new fresh erases knows = record {
+pub latest_renewed : (steps : List Step) (address long word : ℕ) (old new : List Latest) → IsRenewed address long word old new → KnowsLatest steps word old → KnowsLatest (steps ++ Renew address long ∷ []) word new
+latest_renewed steps address long word old new renewed knows = record {
   sound = λ past among.
-      let from = erases.less past among in
-      still_latest steps (Renew address long) word from.0 past from.2.0 from.2.1
-      (λ place there. let both_of = from.3 place there in (both_of.0, λ renews. both_of.1 (tt, (fresh place (small_place past.bytes place there)).1 renews)))
-      (knows.sound from.0 from.1);
+      let from = renewed.less past among in
+      still_latest steps (Renew address long) word from.0 past from.2.0 from.2.1 (λ place there. from.3 place there) (knows.sound from.0 from.1);
   complete = λ index access place is of alive. ⊎_elim
       (λ before.
       let was = knows.complete index access place before.1 of (was_alive steps (Renew address long) word index place alive) in
-      let still = erases.rest was.0 place was.1 was.3
-      (λ taken. not_renewed steps (Renew address long) word index place before.0 alive ((fresh place (small_place access.bytes place of.has_it)).0 taken.1)) in
-      let site = still.2.0 in
-      let stepped = still.2.1 in
-      let order = was.4 in (
+      let still = renewed.rest was.0 place was.1 was.3 (not_renewed steps (Renew address long) word index place before.0 alive) in
+      let sound = knows.sound was.0 was.1 in
+      let covers = covered_more steps (Renew address long) word was.0.step index (access_inside steps was.0.step sound.access sound.is) was.4 in (
         still.0,
         still.1,
-        subst (λ (one : Site). IsSameAuthor one access.site) (sym site) was.2,
+        subst (λ (one : Site). IsSameAuthor one access.site) (sym still.2.0) was.2,
         still.3,
-        omega arith,
+        subst (λ (step : ℕ). IsCovered (steps ++ Renew address long ∷ []) step index) (sym still.2.1) covers,
       ))
       (λ last. absurd (cc (last.1)))
       (access_cases steps (Renew address long) index access is);
 }
 
+-- ---- accesses without the bytes of a new life
+
+module _ (address long word : ℕ) where
+  pub renewed_erased : (bytes : ByteSet) (old new : List Latest) → ((place : ℕ) → place < 4 → (has bytes place ≡ true) ↔ Renews (Renew address long) word place) → IsErased None bytes old new → IsRenewed address long word old new
+  renewed_erased bytes old new fresh erases = record {
+    less = λ now among.
+        let from = erases.less now among in (
+          from.0,
+          from.1,
+          from.2,
+          λ place there. let stays = from.3 place there in (stays.0, λ renews. stays.1 (tt, (fresh place (small_place now.bytes place there)).1 renews)),
+        );
+    rest = λ was place among there free. erases.rest was place among there (λ taken. free ((fresh place (small_place was.bytes place there)).0 taken.1));
+  }
+
+  pub renewed_outside : (latest : List Latest) → ((place : ℕ) → place < 4 → Renews (Renew address long) word place → ⊥) → IsRenewed address long word latest latest
+  renewed_outside latest outside = record {
+    less = λ now among. (now, among, (refl, refl), λ place there. (there, outside place (small_place now.bytes place there)));
+    rest = λ was place among there free. (was, among, (refl, refl), there);
+  }
+
+  pub renewed_none : IsRenewed address long word [] []
+  renewed_none = record { less = λ now among. absurd (none_contained now among); rest = λ was place among there free. absurd (none_contained was among) }
+
+  pub renewed_same : (old new was now : List Latest) → old ≡ was → new ≡ now → IsRenewed address long word old new → IsRenewed address long word was now
+  renewed_same old new was now one other renewed = subst (λ (all : List Latest). IsRenewed address long word all now) one (subst (λ (all : List Latest). IsRenewed address long word old all) other renewed)
+
+pub renewed_both : (address long word : ℕ) (a b c d : List Latest) → IsRenewed address long word a b → IsRenewed address long word c d → IsRenewed address long word (a ++ c) (b ++ d)
+renewed_both address long word a b c d one other = record {
+  less = λ now among. ⊎_elim
+      (λ left. let from = one.less now left in (from.0, Contains-append_left a c from.0 from.1, from.2, from.3))
+      (λ right. let from = other.less now right in (from.0, Contains-append_right a c from.0 from.1, from.2, from.3))
+      (Contains-append_cases b d now among);
+  rest = λ was place among there free. ⊎_elim
+      (λ left. let still = one.rest was place left there free in (still.0, Contains-append_left b d still.0 still.1, still.2, still.3))
+      (λ right. let still = other.rest was place right there free in (still.0, Contains-append_right b d still.0 still.1, still.2, still.3))
+      (Contains-append_cases a c was among);
+}
+
+-- ---- parts of a list without some bytes
+
+one_contained : {X : Type 0} (x y : X) → Contains (x ∷ []) y → x ≡ y
+one_contained x y there = ⊎_elim (λ none. absurd (none_contained y none)) (λ same. same) (Contains-push_cases [] x y there)
+
+contains_one : {X : Type 0} (x : X) → Contains (x ∷ []) x
+contains_one x = Contains-push [] x
+
+module _ (of : Option Site) (bytes : ByteSet) where
+  pub erased_both : (a b c d : List Latest) → IsErased of bytes a b → IsErased of bytes c d → IsErased of bytes (a ++ c) (b ++ d)
+  erased_both a b c d one other = record {
+    less = λ now among. ⊎_elim
+        (λ left. let from = one.less now left in (from.0, Contains-append_left a c from.0 from.1, from.2, from.3))
+        (λ right. let from = other.less now right in (from.0, Contains-append_right a c from.0 from.1, from.2, from.3))
+        (Contains-append_cases b d now among);
+    rest = λ was place among there free. ⊎_elim
+        (λ left. let still = one.rest was place left there free in (still.0, Contains-append_left b d still.0 still.1, still.2, still.3))
+        (λ right. let still = other.rest was place right there free in (still.0, Contains-append_right b d still.0 still.1, still.2, still.3))
+        (Contains-append_cases a c was among);
+  }
+
+  pub erased_nothing : IsErased of bytes [] []
+  erased_nothing = record { less = λ now among. absurd (none_contained now among); rest = λ was place among there free. absurd (none_contained was among) }
+
+  pub erased_one : (was now : Latest) → IsCleaned of bytes was now → IsErased of bytes (was ∷ []) (now ∷ [])
+  erased_one was now clean = record {
+    less = λ one among.
+        let same = one_contained now one among in (
+          was,
+          contains_one was,
+          (ap (λ (past : Latest). past.site) (sym same) ∙ clean.site, ap (λ (past : Latest). past.step) (sym same) ∙ clean.step),
+          λ place there. clean.less place (ap (λ (past : Latest). has past.bytes place) same ∙ there),
+        );
+    rest = λ one place among there free.
+        let same = one_contained was one among in (
+          now,
+          contains_one now,
+          (clean.site ∙ ap (λ (past : Latest). past.site) same, clean.step ∙ ap (λ (past : Latest). past.step) same),
+          clean.rest place (ap (λ (past : Latest). has past.bytes place) same ∙ there) (λ taken. free (subst (λ (past : Latest). IsTaken of bytes past.site place) same taken)),
+        );
+  }
+
+  pub erased_last : (was left : Latest) → IsCleaned of bytes was left → is_none left.bytes ≡ true → IsErased of bytes (was ∷ []) []
+  erased_last was left clean none = record {
+    less = λ one among. absurd (none_contained one among);
+    rest = λ one place among there free.
+        let same = one_contained was one among in
+        let still = clean.rest place (ap (λ (past : Latest). has past.bytes place) same ∙ there) (λ taken. free (subst (λ (past : Latest). IsTaken of bytes past.site place) same taken)) in
+        absurd (cc (none, not_none left.bytes place still));
+  }
+
+-- ---- one access kept among others
+
+pub kept_erased : (own : Latest) (old left : List Latest) → IsErased (Some own.site) own.bytes old left → IsKept own old (left ++ own ∷ [])
+kept_erased own old left erases = record {
+  there = Contains-push left own;
+  less = λ now among. ⊎_elim
+      (λ before. let from = erases.less now before in inr (from.0, from.1, from.2, λ place there. (from.3 place there).0))
+      (λ same. inl same)
+      (Contains-push_cases left own now among);
+  rest = λ was place among there. ⊎_elim
+      (λ taken. inl taken)
+      (λ free. let still = erases.rest was place among there free in inr (still.0, Contains-append_left left (own ∷ []) still.0 still.1, still.2, still.3))
+      (taken_cases own.site own.bytes was.site place);
+}
+
+pub kept_at : (own was : Latest) (old : List Latest) (index : ℕ) → index < length old → get_or old index was ≡ was → IsReplaced was own → IsKept own old (set old index own)
+kept_at own was old index inside at_index replaced = record {
+  there = set_here old index own inside;
+  less = λ now among. ⊎_elim (λ same. inl same) (λ before. inr (now, before, (refl, refl), λ place there. there)) (set_cases old index own now inside among);
+  rest = λ past place among there. ⊎_elim
+      (λ same. inl (subst (λ (one : Latest). IsSameAuthor own.site one.site) same replaced.author, replaced.bytes place (ap (λ (one : Latest). has one.bytes place) same ∙ there)))
+      (λ kept. inr (past, kept, (refl, refl), there))
+      (set_kept old index was own past inside at_index among);
+}
+
+pub kept_after : (own : Latest) (xs old new : List Latest) → IsKept own old new → IsKept own (xs ++ old) (xs ++ new)
+kept_after own xs old new kept = record {
+  there = Contains-append_right xs new own kept.there;
+  less = λ now among. ⊎_elim
+      (λ left. inr (now, Contains-append_left xs old now left, (refl, refl), λ place there. there))
+      (λ right. ⊎_elim (λ same. inl same) (λ from. inr (from.0, Contains-append_right xs old from.0 from.1, from.2, from.3)) (kept.less now right))
+      (Contains-append_cases xs new now among);
+  rest = λ was place among there. ⊎_elim
+      (λ left. inr (was, Contains-append_left xs new was left, (refl, refl), there))
+      (λ right. ⊎_elim (λ taken. inl taken) (λ still. inr (still.0, Contains-append_right xs new still.0 still.1, still.2, still.3)) (kept.rest was place right there))
+      (Contains-append_cases xs old was among);
+}
+
+-- after others without its bytes
+pub kept_both : (own : Latest) (a b c d : List Latest) → IsErased (Some own.site) own.bytes a b → IsKept own c d → IsKept own (a ++ c) (b ++ d)
+kept_both own a b c d erases kept = record {
+  there = Contains-append_right b d own kept.there;
+  less = λ now among. ⊎_elim
+      (λ left. let from = erases.less now left in inr (from.0, Contains-append_left a c from.0 from.1, from.2, λ place there. (from.3 place there).0))
+      (λ right. ⊎_elim (λ same. inl same) (λ from. inr (from.0, Contains-append_right a c from.0 from.1, from.2, from.3)) (kept.less now right))
+      (Contains-append_cases b d now among);
+  rest = λ was place among there. ⊎_elim
+      (λ left. ⊎_elim
+      (λ taken. inl taken)
+      (λ free. let still = erases.rest was place left there free in inr (still.0, Contains-append_left b d still.0 still.1, still.2, still.3))
+      (taken_cases own.site own.bytes was.site place))
+      (λ right. ⊎_elim (λ taken. inl taken) (λ still. inr (still.0, Contains-append_right b d still.0 still.1, still.2, still.3)) (kept.rest was place right there))
+      (Contains-append_cases a c was among);
+}
+
+-- the only one
+pub kept_alone : (first : Option Latest) (own : Latest) → MatchOption first (Unit {0}) (λ was. IsReplaced was own) → IsKept own (option_to_list first) (own ∷ [])
+kept_alone None own free = record {
+  there = contains_one own;
+  less = λ now among. inl (one_contained own now among);
+  rest = λ was place among there. absurd (none_contained was among);
+}
+kept_alone (Some was) own replaced = record {
+  there = contains_one own;
+  less = λ now among. inl (one_contained own now among);
+  rest = λ past place among there.
+      let same = one_contained was past among in
+      inl (subst (λ (one : Latest). IsSameAuthor own.site one.site) same replaced.author, replaced.bytes place (ap (λ (one : Latest). has one.bytes place) same ∙ there));
+}
+
 -- an access of the word
-pub latest_touched : (steps : List Step) (access : Access) (old new : List Latest) → IsErased (Some access.site) access.bytes old new → KnowsLatest steps access.word old
-    → KnowsLatest (steps ++ Touch access ∷ []) access.word (new ++ record { site = access.site; bytes = access.bytes; step = length steps } ∷ [])
-latest_touched steps access old new erases knows = record { sound = sound; complete = complete }
+pub latest_kept : (steps : List Step) (access : Access) (old new : List Latest) → IsKept (record { site = access.site; bytes = access.bytes; step = length steps }) old new → KnowsLatest steps access.word old
+    → KnowsLatest (steps ++ Touch access ∷ []) access.word new
+latest_kept steps access old new kept knows = record { sound = sound; complete = complete }
   where
     own : Latest
     own = record { site = access.site; bytes = access.bytes; step = length steps }
@@ -223,43 +398,75 @@ latest_touched steps access old new erases knows = record { sound = sound; compl
       life = λ place later there after renews. let small = renews_inside more later access.word place renews in let long = length_push steps (Touch access) in absurd (omega arith);
     }
 
-    sound : (past : Latest) → Contains (new ++ own ∷ []) past → IsLatest more access.word past
+    sound : (past : Latest) → Contains new past → IsLatest more access.word past
     sound past among = ⊎_elim
-        (λ kept.
-        let from = erases.less past kept in
-        still_latest steps (Touch access) access.word from.0 past from.2.0 from.2.1 (λ place there. ((from.3 place there).0, λ renews. renews)) (knows.sound from.0 from.1))
         (λ same. subst (IsLatest more access.word) same own_latest)
-        (Contains-push_cases new own past among)
+        (λ from. still_latest steps (Touch access) access.word from.0 past from.2.0 from.2.1 (λ place there. (from.3 place there, λ renews. renews)) (knows.sound from.0 from.1))
+        (kept.less past among)
 
-    before : (index : ℕ) (one : Access) (place : ℕ) → index < length steps → (past : Latest) → Contains old past → IsSameAuthor past.site one.site → has past.bytes place ≡ true → index ≤ past.step
-        → (past : Latest) × Contains (new ++ own ∷ []) past × IsSameAuthor past.site one.site × (has past.bytes place ≡ true) × (index ≤ past.step)
-    before index one place inside past among author there order = ⊎_elim
-        (λ taken. (own, Contains-push new own, author_trans access.site past.site one.site taken.0 author, taken.1, omega arith))
-        (λ kept.
-        let still = erases.rest past place among there kept in
-        let site = still.2.0 in
-        let stepped = still.2.1 in (
+    -- the last step stands for what its thread did before
+    own_covers : (index : ℕ) (one : Access) → at more index ≡ Touch one → access.site.thread ≡ one.site.thread → IsCovered more (length steps) index
+    own_covers index one is same place reaches =
+        subst (Reaches more index) (ap Thread (sym same) ∙ later_last steps (Touch access) place reaches) (reaches_thread more index one is)
+
+    before : (index : ℕ) (one : Access) (place : ℕ) → at more index ≡ Touch one → (past : Latest) → Contains old past → IsSameAuthor past.site one.site → has past.bytes place ≡ true → IsCovered more past.step index
+        → (past : Latest) × Contains new past × IsSameAuthor past.site one.site × (has past.bytes place ≡ true) × IsCovered more past.step index
+    before index one place is past among author there covers = ⊎_elim
+        (λ taken.
+        let same = author_trans access.site past.site one.site taken.0 author in
+        (own, kept.there, same, taken.1, own_covers index one is same.0))
+        (λ still. (
           still.0,
-          Contains-append_left new (own ∷ []) still.0 still.1,
-          subst (λ (s : Site). IsSameAuthor s one.site) (sym site) author,
+          still.1,
+          subst (λ (s : Site). IsSameAuthor s one.site) (sym still.2.0) author,
           still.3,
-          omega arith,
+          subst (λ (step : ℕ). IsCovered more step index) (sym still.2.1) covers,
         ))
-        (taken_cases access.site access.bytes past.site place)
+        (kept.rest past place among there)
 
     complete : (index : ℕ) (one : Access) (place : ℕ) → at more index ≡ Touch one → IsOf one access.word place → ((later : ℕ) → index < later → Renews (at more later) access.word place → ⊥)
-        → (past : Latest) × Contains (new ++ own ∷ []) past × IsSameAuthor past.site one.site × (has past.bytes place ≡ true) × (index ≤ past.step)
+        → (past : Latest) × Contains new past × IsSameAuthor past.site one.site × (has past.bytes place ≡ true) × IsCovered more past.step index
     complete index one place is of alive = ⊎_elim
         (λ earlier.
-        let was = knows.complete index one place earlier.1 of (was_alive steps (Touch access) access.word index place alive) in
-        before index one place earlier.0 was.0 was.1 was.2 was.3 was.4)
+        let was = stands steps (Touch access) access.word old index one.site place knows (knows.complete index one place earlier.1 of (was_alive steps (Touch access) access.word index place alive)) in
+        before index one place is was.0 was.1 was.2 was.3 was.4)
         (λ last.
-        let same : access ≡ one = cc (last.1) in
-        let at_end = last.0 in (
+        let same : access ≡ one = cc (last.1) in (
           own,
-          Contains-push new own,
+          kept.there,
           subst (λ (other : Access). IsSameAuthor access.site other.site) same (refl, (refl, refl)),
           ap (λ (other : Access). has other.bytes place) same ∙ of.has_it,
-          omega arith,
+          own_covers index one is (ap (λ (other : Access). other.site.thread) same),
+        ))
+        (access_cases steps (Touch access) index one is)
+
+-- an access that is made again stands for itself
+pub latest_repeated : (steps : List Step) (access : Access) (latest : List Latest) (made : ℕ) → at steps made ≡ Touch access → ((place later : ℕ) → place < 4 → made < later → Renews (at steps later) access.word place → ⊥)
+    → ((place : Place) → Reaches steps made place → Thread access.site.thread ≡ place) → KnowsLatest steps access.word latest → KnowsLatest (steps ++ Touch access ∷ []) access.word latest
+latest_repeated steps access latest made made_is alive_since only knows = record { sound = sound; complete = complete }
+  where
+    more : List Step
+    more = steps ++ Touch access ∷ []
+
+    sound : (past : Latest) → Contains latest past → IsLatest more access.word past
+    sound past among = still_latest steps (Touch access) access.word past past refl refl (λ place there. (there, λ renews. renews)) (knows.sound past among)
+
+    complete : (index : ℕ) (one : Access) (place : ℕ) → at more index ≡ Touch one → IsOf one access.word place → ((later : ℕ) → index < later → Renews (at more later) access.word place → ⊥)
+        → (past : Latest) × Contains latest past × IsSameAuthor past.site one.site × (has past.bytes place ≡ true) × IsCovered more past.step index
+    complete index one place is of alive = ⊎_elim
+        (λ earlier. stands steps (Touch access) access.word latest index one.site place knows (knows.complete index one place earlier.1 of (was_alive steps (Touch access) access.word index place alive)))
+        (λ last.
+        let same : access ≡ one = cc (last.1) in
+        let of_it : IsOf access access.word place = subst (λ (other : Access). IsOf other access.word place) (sym same) of in
+        let was = knows.complete made access place made_is of_it (λ later after. alive_since place later (small_place access.bytes place of_it.has_it) after) in
+        let kept = knows.sound was.0 was.1 in
+        let inside = access_inside steps was.0.step kept.access kept.is in (
+          was.0,
+          was.1,
+          subst (λ (other : Access). IsSameAuthor was.0.site other.site) same was.2,
+          was.3,
+          λ at_place reaches.
+              let released : Thread access.site.thread ≡ at_place = ⊎_elim (λ before. only at_place (was.4 at_place before)) (λ has. has.0) (reaches_cases steps (Touch access) was.0.step at_place inside reaches) in
+              subst (λ (n : ℕ). Reaches more n at_place) (sym last.0) (reaches_own steps (Touch access) at_place released),
         ))
         (access_cases steps (Touch access) index one is)

@@ -6,6 +6,9 @@ pub mod Kept
 pub mod Mapped
 pub mod Noting
 pub mod Order
+pub mod Paged
 pub mod Racing
+pub mod Repeated
+pub mod Same
 pub mod Telling
 pub mod Times

@@ -9,7 +9,7 @@ use Rattle.races.specs.Races.{IsRace, IsSamePair, IsToldBy, RaceAt}
 use Rattle.races.specs.Steps.{Step, IsSameInstruction}
 use Rattle.races.specs.Words.{IsGrown, IsNoted, race_of}
 use Rattle.races.specs.declared.site.Site.{Site}
-use Rattle.races.specs.declared.word.Found.{Found}
+use Rattle.races.specs.declared.found.Found.{Found}
 
 same_trans : (a b c : Site) → IsSameInstruction a b → IsSameInstruction b c → IsSameInstruction a c
 same_trans a b c one other = (one.0 ∙ other.0, one.1 ∙ other.1)

@@ -4,22 +4,21 @@ use Rattle.std.specs.Prelude.{Contains}
 use Rattle.std.proofs.lemmas.Bool.{cases_lt}
 use Rattle.std.proofs.lemmas.List.{get_or_past, length_push}
 use Rattle.races.specs.Before.{at, HappensBefore}
-use Rattle.races.specs.Before.HappensBefore.{directly, through}
 use Rattle.races.specs.Bytes.{has}
-use Rattle.races.specs.Clocks.{Reaches, time_in}
+use Rattle.races.specs.Clocks.{Reaches, time_kept, time_of}
 use Rattle.races.specs.Races.{AreRacing, IsRace, RaceAt, Renews}
 use Rattle.races.specs.Steps.{Step}
 use Rattle.races.specs.Steps.Step.{Touch, Order}
-use Rattle.races.specs.Words.{IsHit, IsLatest, IsSameAuthor, KnowsFound, KnowsLatest, Times, race_of}
+use Rattle.races.specs.Words.{IsCovered, IsHit, IsLatest, IsSameAuthor, KnowsFound, KnowsLatest, Times, race_of}
 use Rattle.races.specs.declared.byte_set.ByteSet.{ByteSet}
 use Rattle.races.specs.declared.clocks.Clocks.{Clocks}
 use Rattle.races.specs.declared.place.Place.TheVariants.{Thread}
 use Rattle.races.specs.declared.race.Race.{Race}
 use Rattle.races.specs.declared.site.Access.{Access}
 use Rattle.races.specs.declared.site.Site.{Site}
-use Rattle.races.specs.declared.word.Found.{Found}
-use Rattle.races.specs.declared.word.Latest.{Latest}
-use Rattle.races.proofs.Follow.{access_inside}
+use Rattle.races.specs.declared.found.Found.{Found}
+use Rattle.races.specs.declared.latest.Latest.{Latest}
+use Rattle.races.proofs.Follow.{access_inside, apart_kept, kept_with}
 use Rattle.races.proofs.Order.{at_before, at_last, before_last, before_less, before_more, last_after}
 
 -- past the end nothing is renewed
@@ -116,7 +115,7 @@ module _ (steps : List Step) (step : Step) where
 
 module _ (steps : List Step) (access : Access) (clocks : Clocks) (times : Times steps clocks) where
   -- an access of before that isn't in the past of the thread races
-  pub hit_race : (past : Latest) (place : ℕ) (is : IsLatest steps access.word past) → IsHit (time_in clocks.threads access.site.thread) past access → has past.bytes place ≡ true → has access.bytes place ≡ true
+  pub hit_race : (past : Latest) (place : ℕ) (is : IsLatest steps access.word past) → IsHit (time_of clocks.threads.clocks.items access.site.thread) past access → has past.bytes place ≡ true → has access.bytes place ≡ true
       → AreRacing (steps ++ Touch access ∷ []) past.step (length steps) is.access access access.word place
   hit_race past place is hit there here =
       let inside = access_inside steps past.step is.access is.is in
@@ -132,7 +131,10 @@ module _ (steps : List Step) (access : Access) (clocks : Clocks) (times : Times 
             let way = before_last steps (Touch access) past.step before in
             let reaches : Reaches steps past.step (Thread access.site.thread) = subst (Reaches steps past.step) (sym way.1) way.2 in
             let known = (times.known (Thread access.site.thread) past.step is.access is.is).0 reaches in
-            let late : past.step < time_in clocks.threads access.site.thread past.site.thread = subst (λ (one : Site). past.step < time_in clocks.threads access.site.thread one.thread) site known in
+            let apart : Thread access.site.thread ≡ Thread is.access.site.thread → ⊥ =
+            λ same. let back : access.site.thread ≡ is.access.site.thread = cc same in hit.threads (ap (λ (one : Site). one.thread) (sym site) ∙ sym back) in
+            let kept = apart_kept (length steps) (time_kept clocks) (Thread access.site.thread) is.access.site.thread past.step apart known in
+            let late : past.step < time_of clocks.threads.clocks.items access.site.thread past.site.thread = subst (λ (one : Site). past.step < time_of clocks.threads.clocks.items access.site.thread one.thread) site kept in
             let early = hit.unordered in
             omega arith;
         one_life = λ between after before renews.
@@ -141,7 +143,7 @@ module _ (steps : List Step) (access : Access) (clocks : Clocks) (times : Times 
 
   -- and with each that races there is one that is kept
   pub race_hit : (latest : List Latest) → KnowsLatest steps access.word latest → (earlier : ℕ) (one : Access) (place : ℕ) → AreRacing (steps ++ Touch access ∷ []) earlier (length steps) one access access.word place
-      → (past : Latest) × Contains latest past × IsHit (time_in clocks.threads access.site.thread) past access × IsSameAuthor past.site one.site × (has past.bytes place ≡ true)
+      → (past : Latest) × Contains latest past × IsHit (time_of clocks.threads.clocks.items access.site.thread) past access × IsSameAuthor past.site one.site × (has past.bytes place ≡ true)
   race_hit latest knows earlier one place race = (past, kept.1, hit, kept.2, kept.3)
     where
       inside : earlier < length steps
@@ -155,7 +157,7 @@ module _ (steps : List Step) (access : Access) (clocks : Clocks) (times : Times 
           let small = renews_inside steps later access.word place renews in
           race.one_life later after small (subst (λ (step : Step). Renews step access.word place) (sym (at_before steps (Touch access) later small)) renews)
 
-      kept : (past : Latest) × Contains latest past × IsSameAuthor past.site one.site × (has past.bytes place ≡ true) × (earlier ≤ past.step)
+      kept : (past : Latest) × Contains latest past × IsSameAuthor past.site one.site × (has past.bytes place ≡ true) × IsCovered steps past.step earlier
       kept = knows.complete earlier one place is race.first_of alive
 
       past : Latest
@@ -167,30 +169,22 @@ module _ (steps : List Step) (access : Access) (clocks : Clocks) (times : Times 
       thread : past.site.thread ≡ one.site.thread
       thread = kept.2.0
 
-      -- what is in the past of a thread has what the same instruction did before
+      -- what is in the past of a thread has what it stands for
       before_all : HappensBefore (steps ++ Touch access ∷ []) past.step (length steps) → HappensBefore (steps ++ Touch access ∷ []) earlier (length steps)
-      before_all last = ⊎_elim
-          (λ less. through (directly (
-            less,
-            (
-              Thread one.site.thread,
-              subst (λ (step : Step). Rattle.races.specs.Before.Releases step (Thread one.site.thread)) (sym race.first_is) refl,
-              subst (λ (step : Step). Rattle.races.specs.Before.Acquires step (Thread one.site.thread)) (sym (at_before steps (Touch access) past.step (access_inside steps past.step sound.access sound.is) ∙ sound.is))
-                  (ap (λ (site : Site). Thread site.thread) sound.site ∙ ap Thread thread),
-            ),
-          )) last)
-          (λ not_less. let order = kept.4 in let same : earlier ≡ past.step = omega arith in subst (λ (n : ℕ). HappensBefore (steps ++ Touch access ∷ []) n (length steps)) (sym same) last)
-          (cases_lt earlier past.step)
+      before_all last =
+          let way = before_last steps (Touch access) past.step last in
+          last_after steps (Touch access) earlier way.0 way.1 (kept.4 way.0 way.2)
 
-      unordered : time_in clocks.threads access.site.thread past.site.thread ≤ past.step
+      unordered : time_of clocks.threads.clocks.items access.site.thread past.site.thread ≤ past.step
       unordered = ⊎_elim
           (λ late.
-          let reaches = (times.known (Thread access.site.thread) past.step sound.access sound.is).1 (subst (λ (site : Site). past.step < time_in clocks.threads access.site.thread site.thread) (sym sound.site) late) in
+          let kept = subst (λ (site : Site). past.step < time_of clocks.threads.clocks.items access.site.thread site.thread) (sym sound.site) late in
+          let reaches = (times.known (Thread access.site.thread) past.step sound.access sound.is).1 (kept_with (length steps) (time_kept clocks) (Thread access.site.thread) sound.access.site.thread past.step kept) in
           absurd (race.unordered (before_all (last_after steps (Touch access) past.step (Thread access.site.thread) refl reaches))))
           (λ early. early)
-          (cases_lt past.step (time_in clocks.threads access.site.thread past.site.thread))
+          (cases_lt past.step (time_of clocks.threads.clocks.items access.site.thread past.site.thread))
 
-      hit : IsHit (time_in clocks.threads access.site.thread) past access
+      hit : IsHit (time_of clocks.threads.clocks.items access.site.thread) past access
       hit = record {
         threads = λ same. race.threads (sym thread ∙ same);
         stores = ⊎_elim (λ first. inl (kept.2.1.1 ∙ first)) (λ second. inr second) race.stores;

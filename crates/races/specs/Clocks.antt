@@ -1,5 +1,5 @@
 -- Clocks: by thread, how far into the steps of a run a past goes.
-use Rattle.std.specs.Prelude.{◌≡◌, ℕ, ◌<◌, ◌≤◌, ◌⊎◌, ◌↔◌, Option, Some, None, List, Contains, length, slice_index_or}
+use Rattle.std.specs.Prelude.{◌≡◌, ℕ, ◌<◌, ◌≤◌, ◌==◌, ◌⊎◌, ◌↔◌, if◌then◌else◌, max, Option, Some, None, List, Contains, length, slice_get, slice_index_or}
 use Rattle.std.specs.Ordering.{nat_cmp}
 use Rattle.std.specs.BTreeMap.{BTreeMap, get}
 use Rattle.races.specs.Before.{at, Releases, HappensBefore}
@@ -27,12 +27,32 @@ time_by (Some clock) thread = time clock thread
 abbrev pub time_in : BTreeMap ℕ Clock → (key thread : ℕ) → ℕ
 time_in clocks key thread = time_by (get nat_cmp clocks key) thread
 
--- the times of a place
-abbrev pub time_at : Clocks → Place → (thread : ℕ) → ℕ
-time_at clocks (Thread thread) other = time_in clocks.threads thread other
-time_at clocks (Ended thread) other = time_in clocks.ended thread other
-time_at clocks (Mutex mutex) other = time_in clocks.mutexes mutex other
-time_at clocks (Object object) other = time_in clocks.objects object other
+abbrev pub time_of : List Clock → (key thread : ℕ) → ℕ
+time_of clocks key thread = time_by (slice_get clocks key) thread
+
+-- the times that are kept of a place of each kind
+abbrev pub times_of : (threads : List Clock) (ended mutexes objects : BTreeMap ℕ Clock) → Place → (thread : ℕ) → ℕ
+times_of threads ended mutexes objects (Thread thread) other = time_of threads thread other
+times_of threads ended mutexes objects (Ended thread) other = time_in ended thread other
+times_of threads ended mutexes objects (Mutex mutex) other = time_in mutexes mutex other
+times_of threads ended mutexes objects (Object object) other = time_in objects object other
+
+abbrev pub time_kept : Clocks → Place → (thread : ℕ) → ℕ
+time_kept clocks = times_of clocks.threads.clocks.items clocks.ended clocks.mutexes clocks.objects
+
+-- what a thread did before this step is in its own past
+abbrev pub own_time : (step : ℕ) → Place → (thread : ℕ) → ℕ
+own_time step (Thread thread) other = if thread == other then step else 0
+own_time step (Ended thread) other = 0
+own_time step (Mutex mutex) other = 0
+own_time step (Object object) other = 0
+
+-- the times of a place at a step
+abbrev pub times_with : (step : ℕ) → (kept : Place → ℕ → ℕ) → Place → (thread : ℕ) → ℕ
+times_with step kept place thread = max (kept place thread) (own_time step place thread)
+
+abbrev pub time_at : Clocks → (step : ℕ) → Place → (thread : ℕ) → ℕ
+time_at clocks step = times_with step (time_kept clocks)
 
 -- the same step or one that happens before
 abbrev pub IsUpTo : List Step → (earlier later : ℕ) → Type 0
@@ -49,12 +69,7 @@ pub record Follows (steps : List Step) (times : Place → ℕ → ℕ) : Type 0 
   pub known : (place : Place) (index : ℕ) → (access : Access) → at steps index ≡ Touch access → Reaches steps index place ↔ (index < times place access.site.thread)
   pub bound : (place : Place) (thread : ℕ) → times place thread ≤ length steps
 
--- The times after an order: each place to which it passes a past on goes as far as before, or as one from which it takes it.
-abbrev pub IsAfterOrder : (old new : Place → ℕ → ℕ) (acquired released : List Place) → Type 0
-IsAfterOrder old new acquired released = (place : Place) (thread index : ℕ)
-    → (index < new place thread) ↔ ((index < old place thread) ⊎ (Contains released place × ((taken : Place) × Contains acquired taken × (index < old taken thread))))
-
--- the times after an access of a thread, the step of this index
-abbrev pub IsAfterTouch : (old new : Place → ℕ → ℕ) (thread step : ℕ) → Type 0
-IsAfterTouch old new thread step = (place : Place) (other index : ℕ)
-    → (index < new place other) ↔ ((index < old place other) ⊎ ((Thread thread ≡ place) × (thread ≡ other) × (index ≤ step)))
+-- The times that are kept after an order: each place to which it passes a past on goes as far as before, or as one from which it takes it.
+abbrev pub IsAfterOrder : (old new taken : Place → ℕ → ℕ) (acquired released : List Place) → Type 0
+IsAfterOrder old new taken acquired released = (place : Place) (thread index : ℕ)
+    → (index < new place thread) ↔ ((index < old place thread) ⊎ (Contains released place × ((from : Place) × Contains acquired from × (index < taken from thread))))

@@ -3,6 +3,7 @@ pub mod Bytes
 pub mod Clocks
 pub mod Races
 pub mod Recording
+pub mod Repeats
 pub mod Steps
 pub mod Texts
 pub mod Words

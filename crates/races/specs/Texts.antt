@@ -1,7 +1,9 @@
 -- The text of races.
-use Rattle.std.specs.Prelude.{ℕ, ◌+◌, ◌-◌, ◌*◌, ◌%◌, ◌^◌, ◌==◌, if◌then◌else◌, List, [], ◌++◌, codes, decimal, length}
+use Rattle.std.specs.Prelude.{ℕ, ◌+◌, ◌-◌, ◌*◌, ◌%◌, ◌^◌, ◌==◌, if◌then◌else◌, nat_lt, Option, Some, None, List, [], ◌++◌, codes, decimal, length, map}
 use Rattle.std.specs.List.{flat_map}
 use Rattle.std.proofs.Common.{take}
+use Rattle.symbols.specs.Covering.{NamedPlace, place_at}
+use Rattle.symbols.specs.Symbol.{SymbolLists}
 use Rattle.text_output.specs.Digits.{hexadecimal}
 use Rattle.races.specs.declared.byte_set.ByteSet.{ByteSet}
 use Rattle.races.specs.declared.race.Race.{Race}
@@ -28,14 +30,29 @@ site_text site =
 unfoldable pub bytes_text : Race → List ℕ
 bytes_text race = codes "race address=" ++ hexadecimal 8 (address_of race) ++ codes " bytes=" ++ decimal (size_of race.bytes)
 
+-- a symbol's name; a byte that is no ASCII is a question mark
+unfoldable pub name_text : List ℕ → List ℕ
+name_text name = map (λ byte. if nat_lt byte 128 then byte else 63) name
+
+-- a place after the name of its field, nothing if there is none
+unfoldable pub place_text : List ℕ → Option NamedPlace → List ℕ
+place_text field None = []
+place_text field (Some place) = field ++ name_text place.name ++ codes "+" ++ decimal place.offset
+
+-- the object of the lowest byte, and the functions of both instructions
+unfoldable pub names_text : SymbolLists → Race → List ℕ
+names_text symbols race =
+    place_text (codes " object=") (place_at symbols.objects (address_of race)) ++ place_text (codes " in=") (place_at symbols.functions race.first.pc)
+    ++ place_text (codes " in=") (place_at symbols.functions race.second.pc)
+
 -- the line of a race
-unfoldable pub race_text : Race → List ℕ
-race_text race = bytes_text race ++ site_text race.first ++ site_text race.second ++ codes "\n"
+unfoldable pub race_text : SymbolLists → Race → List ℕ
+race_text symbols race = bytes_text race ++ site_text race.first ++ site_text race.second ++ names_text symbols race ++ codes "\n"
 
 -- how many lines were left out, if any were
 unfoldable pub left_text : ℕ → List ℕ
 left_text count = if count == 0 then [] else codes "left out=" ++ decimal count ++ codes "\n"
 
 -- the text of races: a line for each of the first 10,000
-unfoldable pub text_of : List Race → List ℕ
-text_of races = flat_map race_text (take 10000 races) ++ left_text (length races - 10000)
+unfoldable pub text_of : SymbolLists → List Race → List ℕ
+text_of symbols races = flat_map (race_text symbols) (take 10000 races) ++ left_text (length races - 10000)

@@ -1,22 +1,26 @@
 -- What is kept of a word.
-use Rattle.std.specs.Prelude.{◌≡◌, ◌≢◌, ℕ, ◌<◌, ◌≤◌, ◌⊎◌, ◌||◌, true, Option, Some, None, List, [], ◌∷◌, ◌++◌, Contains, length, map, slice_index_or, slice_set}
+use Rattle.std.specs.Prelude.{◌≡◌, ◌≢◌, ℕ, ◌/◌, ◌%◌, ◌<◌, ◌≤◌, ◌⊎◌, ◌||◌, true, Option, Some, None, List, [], ◌∷◌, ◌++◌, Contains, length, map, slice_get, slice_index_or, slice_set}
+use Rattle.std.specs.Option.{option_to_list}
 use Rattle.std.specs.Ordering.{nat_cmp}
 use Rattle.std.specs.BTreeMap.{BTreeMap, get}
 use Rattle.races.specs.Before.{at}
 use Rattle.races.specs.Bytes.{has}
-use Rattle.races.specs.Clocks.{Follows, time_at, time_in}
+use Rattle.races.specs.Clocks.{Follows, Reaches, time_at, time_of}
 use Rattle.races.specs.Races.{AreRacing, IsOf, IsRace, IsSamePair, IsToldBy, Renews}
 use Rattle.races.specs.Steps.{Step, IsSameInstruction}
-use Rattle.races.specs.Steps.Step.{Touch}
+use Rattle.races.specs.Steps.Step.{Touch, Renew}
 use Rattle.races.specs.declared.byte_set.ByteSet.{ByteSet}
 use Rattle.races.specs.declared.clocks.Clocks.{Clocks}
 use Rattle.races.specs.declared.race.Race.{Race}
 use Rattle.races.specs.declared.site.Access.{Access}
 use Rattle.races.specs.declared.site.Site.{Site}
 use Rattle.races.specs.declared.told.Told.{Told}
-use Rattle.races.specs.declared.word.Found.{Found}
-use Rattle.races.specs.declared.word.Latest.{Latest}
+use Rattle.races.specs.declared.found.Found.{Found}
+use Rattle.races.specs.declared.latest.Latest.{Latest}
+use Rattle.races.specs.declared.page.Page.{Page}
+use Rattle.races.specs.declared.place.Place.{Place}
 use Rattle.races.specs.declared.word.Word.{Word}
+use Rattle.races.specs.declared.word_races.WordRaces.{WordRaces}
 
 -- the same instruction of the same thread
 abbrev pub IsSameAuthor : Site → Site → Type 0
@@ -49,6 +53,25 @@ pub record IsErased (of : Option Site) (bytes : ByteSet) (old new : List Latest)
   pub rest : (was : Latest) (place : ℕ) → Contains old was → has was.bytes place ≡ true → ¬ IsTaken of bytes was.site place
       → (now : Latest) × Contains new now × IsSameAccess now was × (has now.bytes place ≡ true)
 
+-- the accesses that are kept of a word, without its bytes that begin a new life
+pub record IsRenewed (address length word : ℕ) (old new : List Latest) : Type 0 where
+  pub less : (now : Latest) → Contains new now
+      → (was : Latest) × Contains old was × IsSameAccess now was × ((place : ℕ) → has now.bytes place ≡ true → (has was.bytes place ≡ true) × ¬ Renews (Renew address length) word place)
+  pub rest : (was : Latest) (place : ℕ) → Contains old was → has was.bytes place ≡ true → ¬ Renews (Renew address length) word place → (now : Latest) × Contains new now × IsSameAccess now was × (has now.bytes place ≡ true)
+
+-- a later access of the same instruction of the thread has all bytes of one of before
+pub record IsReplaced (was own : Latest) : Type 0 where
+  pub author : IsSameAuthor own.site was.site
+  pub bytes : (place : ℕ) → has was.bytes place ≡ true → has own.bytes place ≡ true
+
+-- An access is kept: it is there, and for its bytes it may stand in the place of those of the same instruction of the thread.
+pub record IsKept (own : Latest) (old new : List Latest) : Type 0 where
+  pub there : Contains new own
+  pub less : (now : Latest) → Contains new now
+      → (own ≡ now) ⊎ ((was : Latest) × Contains old was × IsSameAccess now was × ((place : ℕ) → has now.bytes place ≡ true → has was.bytes place ≡ true))
+  pub rest : (was : Latest) (place : ℕ) → Contains old was → has was.bytes place ≡ true
+      → (IsSameAuthor own.site was.site × (has own.bytes place ≡ true)) ⊎ ((now : Latest) × Contains new now × IsSameAccess now was × (has now.bytes place ≡ true))
+
 -- an access of before races with one of now: another thread's, one of both a store, and not before the time of the past
 pub record IsHit (times : ℕ → ℕ) (past : Latest) (access : Access) : Type 0 where
   pub threads : past.site.thread ≢ access.site.thread
@@ -76,12 +99,16 @@ pub record IsLatest (steps : List Step) (word : ℕ) (past : Latest) : Type 0 wh
   pub of : (place : ℕ) → has past.bytes place ≡ true → IsOf access word place
   pub life : (place later : ℕ) → has past.bytes place ≡ true → past.step < later → ¬ Renews (at steps later) word place
 
--- for each access of a word's byte in its present life the latest of the same instruction of the thread is kept
+-- what has one step in its past has another
+abbrev pub IsCovered : List Step → (step index : ℕ) → Type 0
+IsCovered steps step index = (place : Place) → Reaches steps step place → Reaches steps index place
+
+-- for each access of a word's byte in its present life one of the same instruction of the thread is kept that stands for it
 pub record KnowsLatest (steps : List Step) (word : ℕ) (latest : List Latest) : Type 0 where
   pub sound : (past : Latest) → Contains latest past → IsLatest steps word past
   pub complete : (index : ℕ) (access : Access) (place : ℕ) → at steps index ≡ Touch access → IsOf access word place
       → ((later : ℕ) → index < later → ¬ Renews (at steps later) word place)
-      → (past : Latest) × Contains latest past × IsSameAuthor past.site access.site × (has past.bytes place ≡ true) × (index ≤ past.step)
+      → (past : Latest) × Contains latest past × IsSameAuthor past.site access.site × (has past.bytes place ≡ true) × IsCovered steps past.step index
 
 -- the race that was found at a word
 abbrev pub race_of : (word : ℕ) → Found → Race
@@ -103,35 +130,61 @@ pub record IsFinding (steps : List Step) (access : Access) (clocks : Clocks) (do
   pub sound : (race : Found) → Contains found race → IsRace (steps ++ Touch access ∷ []) (race_of access.word race)
   pub old : (earlier later : ℕ) (one other : Access) (place : ℕ) → AreRacing steps earlier later one other access.word place
       → (race : Found) × Contains found race × IsToldBy (race_of access.word race) one.site other.site access.word place
-  pub new : (past : Latest) (place : ℕ) → Contains done past → IsHit (time_in clocks.threads access.site.thread) past access → has past.bytes place ≡ true → has access.bytes place ≡ true
+  pub new : (past : Latest) (place : ℕ) → Contains done past → IsHit (time_of clocks.threads.clocks.items access.site.thread) past access → has past.bytes place ≡ true → has access.bytes place ≡ true
       → (race : Found) × Contains found race × IsToldBy (race_of access.word race) past.site access.site access.word place
 
 -- the clocks follow the steps
 abbrev pub Times : List Step → Clocks → Type 0
-Times steps clocks = Follows steps (time_at clocks)
+Times steps clocks = Follows steps (time_at clocks (length steps))
 
--- of no word nothing is kept
-abbrev pub latest_by : Option Word → List Latest
-latest_by None = []
-latest_by (Some word) = word.latest.items
+-- the accesses that are kept of a word
+abbrev pub latest_of : Word → List Latest
+latest_of word = option_to_list word.first ++ word.others.items
 
-abbrev pub found_by : Option Word → List Found
+-- what is kept by an element of a list, if there is one
+abbrev pub kept_by : {X : Type 0} → (X → List Latest) → Option X → List Latest
+kept_by kept None = []
+kept_by kept (Some one) = kept one
+
+-- of a word of a page the first access, and the others
+abbrev pub first_on : Option Page → (place : ℕ) → List Latest
+first_on None place = []
+first_on (Some page) place = kept_by option_to_list (slice_get page.firsts.items place)
+
+abbrev pub others_on : Option Page → (place : ℕ) → List Latest
+others_on None place = []
+others_on (Some page) place = kept_by latest_of (slice_get page.words.items place)
+
+abbrev pub latest_on : Option Page → (place : ℕ) → List Latest
+latest_on page place = first_on page place ++ others_on page place
+
+-- a page has 1,024 words that follow each other
+abbrev pub latest_at : List Page → (word : ℕ) → List Latest
+latest_at pages word = latest_on (slice_get pages (word / 1024)) (word % 1024)
+
+abbrev pub first_at : List Page → (word : ℕ) → List Latest
+first_at pages word = first_on (slice_get pages (word / 1024)) (word % 1024)
+
+abbrev pub others_at : List Page → (word : ℕ) → List Latest
+others_at pages word = others_on (slice_get pages (word / 1024)) (word % 1024)
+
+-- the races that were found at a word
+abbrev pub found_by : Option WordRaces → List Found
 found_by None = []
-found_by (Some word) = word.found.items
+found_by (Some races) = races.found.items
 
--- what is kept of a word, as far as there is anything
-abbrev pub KnowsBy : List Step → (word : ℕ) → Option Word → Type 0
-KnowsBy steps word kept = KnowsWord steps word (latest_by kept) (found_by kept)
+abbrev pub found_at : BTreeMap ℕ WordRaces → (word : ℕ) → List Found
+found_at races word = found_by (get nat_cmp races word)
 
 -- what is kept of each word
-abbrev pub KnowsWords : List Step → BTreeMap ℕ Word → Type 0
-KnowsWords steps words = (word : ℕ) → KnowsBy steps word (get nat_cmp words word)
+abbrev pub KnowsWords : List Step → List Page → BTreeMap ℕ WordRaces → Type 0
+KnowsWords steps pages races = (word : ℕ) → KnowsWord steps word (latest_at pages word) (found_at races word)
 
 -- a race with the index of its second step
 abbrev pub told_at : (word : ℕ) → Found → Told
 told_at word found = record { race = race_of word found; step = found.step }
 
 -- the races found at all words
-abbrev pub told_of : List (ℕ × Word) → List Told
+abbrev pub told_of : List (ℕ × WordRaces) → List Told
 told_of [] = []
 told_of (entry ∷ entries) = map (told_at entry.0) entry.1.found.items ++ told_of entries

@@ -1,103 +1,107 @@
 //! The clocks of all places.
-ghost use Rattle.std.specs.Prelude.{◌≡◌, ℕ, ◌<◌, ◌⊎◌, ◌↔◌, List, Contains, IfOk, OnOk, IsSome, ◌^◌, ◌-◌};
+ghost use Rattle.std.specs.Prelude.{◌≡◌, ℕ, ◌<◌, ◌⊎◌, ◌↔◌, List, Contains, IfOk, OnOk, IsSome};
 ghost use Rattle.std.specs.Ordering.{nat_cmp};
 ghost use Rattle.std.specs.BTreeMap.{get};
-ghost use Rattle.races.specs.Clocks.{time, time_at, time_in, IsJoined, IsAfterOrder, IsAfterTouch};
+ghost use Rattle.races.specs.Clocks.{time, time_at, time_in, time_kept, time_of, IsJoined, IsAfterOrder};
 ghost use Rattle.races.specs.declared.place.Place.{Place as ClockPlace};
+ghost use Rattle.races.specs.declared.place.Place.TheVariants.{Thread};
 
 use crate::clock::Clock;
 use crate::place::Place;
+use crate::thread_clocks::ThreadClocks;
 use std::alloc::{AllocError, Global};
 use std::collections::BTreeMap;
 
 /// The clocks of the places of one kind, by their numbers.
 type ClockMap = BTreeMap<u32, Clock>;
 
-/// The clock of each place. One that isn't there has only times 0.
+/// The times that are kept of each place. One that isn't there has only times 0.
+///
+/// A thread's own past has all that the thread did, and nothing is kept of that: an access changes no clock.
 #[derive(Drop)]
 pub(crate) struct Clocks {
     alloc: Global,
-    threads: ClockMap,
+    threads: ThreadClocks,
     ended: ClockMap,
     mutexes: ClockMap,
     objects: ClockMap,
 }
 
 impl Clocks {
-    /// No clock.
-    pub(crate) fn new(alloc: Global) -> Self
-        ensures { (place : ClockPlace) (thread : ℕ) → time_at result place thread ≡ 0 }
+    /// No times.
+    pub(crate) fn new(alloc: Global) -> Result<Self, AllocError>
+        ensures { IfOk result (λ clocks. (place : ClockPlace) (thread : ℕ) → time_kept clocks place thread ≡ 0) }
     {
-        Clocks {
+        Ok(Clocks {
             alloc,
-            threads: BTreeMap::new(alloc),
+            threads: ThreadClocks::new(alloc)?,
             ended: BTreeMap::new(alloc),
             mutexes: BTreeMap::new(alloc),
             objects: BTreeMap::new(alloc),
-        }
+        })
     }
 
-    /// A time of a thread's clock.
+    /// A time that is kept of a thread's past.
     pub(crate) fn time(&self, of: u8, thread: u8) -> u64
-        ensures { result ≡ time_in self.now.threads of thread }
+        ensures { result ≡ time_of self.now.threads.clocks.items of thread }
     {
-        match self.threads.get(&u32::from(of)) {
-            Some(clock) => clock.time(thread),
-            None => 0,
-        }
-    }
-
-    /// An access of a thread, the step of this index.
-    pub(crate) fn touch(&mut self, thread: u8, step: u64) -> Result<(), AllocError>
-        requires { step < 2 ^ 64 - 1 }
-        ensures { OnOk result (IsAfterTouch (time_at self.old) (time_at self.new) thread step) }
-    {
-        let mut own = Clock::new(self.alloc);
-        own.raise(usize::from(thread), step + 1)?;
-        join_in(self.alloc, &mut self.threads, u32::from(thread), &own)
+        self.threads.time(of, thread)
     }
 
     /// A step that takes over the pasts of some places and passes them on to others.
-    pub(crate) fn order(&mut self, acquired: &[Place], released: &[Place]) -> Result<(), AllocError>
-        ensures { OnOk result (IsAfterOrder (time_at self.old) (time_at self.new) acquired.now released.now) }
+    pub(crate) fn order(
+        &mut self,
+        step: u64,
+        acquired: &[Place],
+        released: &[Place],
+    ) -> Result<(), AllocError>
+        ensures { OnOk result (IsAfterOrder (time_kept self.old) (time_kept self.new) (time_at self.old step) acquired.now released.now) }
     {
-        let past = self.past_of(acquired)?;
+        let past = self.past_of(step, acquired)?;
         for place in released {
             self.join(*place, &past)?;
         }
         Ok(())
     }
 
-    /// The pasts of some places together.
-    fn past_of(&self, acquired: &[Place]) -> Result<Clock, AllocError>
-        ensures { IfOk result (λ clock. (thread index : ℕ) → (index < time clock thread) ↔ ((taken : ClockPlace) × Contains acquired.now taken × (index < time_at self.now taken thread))) }
+    /// The pasts of some places together, at a step.
+    fn past_of(&self, step: u64, acquired: &[Place]) -> Result<Clock, AllocError>
+        ensures { IfOk result (λ clock. (thread index : ℕ) → (index < time clock thread) ↔ ((taken : ClockPlace) × Contains acquired.now taken × (index < time_at self.now step taken thread))) }
     {
         let mut past = Clock::new(self.alloc);
         for place in acquired {
-            self.add(*place, &mut past)?;
+            self.add(step, *place, &mut past)?;
         }
         Ok(past)
     }
 
-    /// Adds a place's past to a clock.
-    fn add(&self, place: Place, past: &mut Clock) -> Result<(), AllocError>
-        ensures { OnOk result (IsJoined (time past.old) (time past.new) (time_at self.now place)) }
+    /// Adds a place's past at a step to a clock.
+    fn add(&self, step: u64, place: Place, past: &mut Clock) -> Result<(), AllocError>
+        ensures { OnOk result (IsJoined (time past.old) (time past.new) (time_at self.now step place)) }
     {
         match place {
-            Place::Thread(thread) => add_in(&self.threads, u32::from(thread), past),
+            Place::Thread(thread) => self.add_thread(step, thread, past),
             Place::Ended(thread) => add_in(&self.ended, u32::from(thread), past),
             Place::Mutex(mutex) => add_in(&self.mutexes, mutex, past),
             Place::Object(object) => add_in(&self.objects, object, past),
         }
     }
 
+    /// Adds a thread's past at a step to a clock, with all that the thread did.
+    fn add_thread(&self, step: u64, thread: u8, past: &mut Clock) -> Result<(), AllocError>
+        ensures { OnOk result (IsJoined (time past.old) (time past.new) (time_at self.now step (Thread thread))) }
+    {
+        self.threads.add(thread, past)?;
+        past.raise(usize::from(thread), step)
+    }
+
     /// Adds a past to a place's clock.
     fn join(&mut self, place: Place, past: &Clock) -> Result<(), AllocError>
-        ensures { OnOk result ((other : ClockPlace) (thread index : ℕ) → (index < time_at self.new other thread) ↔ ((index < time_at self.old other thread) ⊎ ((place ≡ other) × (index < time past.now thread)))) }
+        ensures { OnOk result ((other : ClockPlace) (thread index : ℕ) → (index < time_kept self.new other thread) ↔ ((index < time_kept self.old other thread) ⊎ ((place ≡ other) × (index < time past.now thread)))) }
     {
         let alloc = self.alloc;
         match place {
-            Place::Thread(thread) => join_in(alloc, &mut self.threads, u32::from(thread), past),
+            Place::Thread(thread) => self.threads.join(thread, past),
             Place::Ended(thread) => join_in(alloc, &mut self.ended, u32::from(thread), past),
             Place::Mutex(mutex) => join_in(alloc, &mut self.mutexes, mutex, past),
             Place::Object(object) => join_in(alloc, &mut self.objects, object, past),

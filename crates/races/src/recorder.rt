@@ -20,7 +20,8 @@ use std::alloc::{AllocError, Global};
 /// Is told the events of a run in the order of its turns, and finds the races.
 ///
 /// It keeps a clock for each thread, mutex and object, and for each word that was ever accessed the latest access of each
-/// of its bytes by each instruction of a thread, and the races found.
+/// of its bytes by each instruction of a thread, and the races found. Words stand on pages of 1,024. An access that is made
+/// again, before its thread's past is taken over or its word begins a new life, is found among the last ones and changes nothing.
 #[derive(Drop)]
 pub struct RaceRecorder {
     alloc: Global,
@@ -44,7 +45,7 @@ impl RaceRecorder {
         Ok(RaceRecorder {
             alloc,
             depths: Depths::new(alloc)?,
-            steps: Steps::new(alloc),
+            steps: Steps::new(alloc)?,
             is_broken: false,
         })
     }
@@ -73,7 +74,8 @@ impl RaceRecorder {
     }
 
     /// The races of the events that were told, in the order of their second accesses: one for each pair of instructions
-    /// and each word at which they race, with the first two of their accesses that do.
+    /// and each word at which they race, with the first two of their accesses that do. If several accesses were there to race
+    /// with one, their order is open.
     ///
     /// # Errors
     ///

@@ -7,12 +7,12 @@ use crate::byte_set::ByteSet;
 /// Who accesses memory: the thread, its turn, the instruction, and whether it stores.
 #[derive(Clone, Copy, Debug, PartialEq, Eq)]
 pub struct Site {
-    /// The thread's number.
-    pub thread: u8,
     /// The turn's number.
     pub turn: u64,
     /// The instruction's address.
     pub pc: u32,
+    /// The thread's number.
+    pub thread: u8,
     /// Whether it stores. Else it loads.
     pub is_store: bool,
 }

@@ -8,7 +8,9 @@ ghost use Rattle.races.specs.Steps.Step.{Touch, Order, Renew};
 ghost use Rattle.races.specs.Words.{told_of};
 
 use crate::clocks::Clocks;
+use crate::fresh::Fresh;
 use crate::place::Place;
+use crate::repeats::Repeats;
 use crate::site::Access;
 use crate::told::Told;
 use crate::words::Words;
@@ -24,20 +26,23 @@ pub(crate) struct Steps {
     count: u64,
     /// What the past of each place has.
     clocks: Clocks,
+    /// The accesses that were made lately.
+    repeats: Repeats,
     /// What is kept of each word.
     words: Words,
 }
 
 impl Steps {
     /// No step.
-    pub(crate) fn new(alloc: Global) -> Self
-        ensures { KnowsSteps result [] }
+    pub(crate) fn new(alloc: Global) -> Result<Self, AllocError>
+        ensures { IfOk result (λ steps. KnowsSteps steps []) }
     {
-        Steps {
+        Ok(Steps {
             count: 0,
-            clocks: Clocks::new(alloc),
+            clocks: Clocks::new(alloc)?,
+            repeats: Repeats::new(alloc)?,
             words: Words::new(alloc),
-        }
+        })
     }
 
     /// An access.
@@ -45,8 +50,12 @@ impl Steps {
         ensures { OnOk result ((steps : List Step) → KnowsSteps self.old steps → KnowsSteps self.new (steps ++ Touch access.now ∷ [])) }
     {
         let more = self.more()?;
+        if self.repeats.is_repeat(access) {
+            self.count = more;
+            return Ok(());
+        }
         self.words.touch(access, self.count, &self.clocks)?;
-        self.clocks.touch(access.site.thread, self.count)?;
+        self.repeats.note(access, self.count);
         self.count = more;
         Ok(())
     }
@@ -56,7 +65,8 @@ impl Steps {
         ensures { OnOk result ((steps : List Step) → KnowsSteps self.old steps → KnowsSteps self.new (steps ++ Order acquired.now released.now ∷ [])) }
     {
         let more = self.more()?;
-        self.clocks.order(acquired, released)?;
+        self.clocks.order(self.count, acquired, released)?;
+        self.repeats.pass(acquired, self.count);
         self.count = more;
         Ok(())
     }
@@ -66,15 +76,17 @@ impl Steps {
         ensures { OnOk result ((steps : List Step) → KnowsSteps self.old steps → KnowsSteps self.new (steps ++ Renew address length ∷ [])) }
     {
         let more = self.more()?;
-        self.words.renew(address, length);
+        let fresh = Fresh { address, length };
+        self.words.renew(fresh);
+        self.repeats.renew(fresh, self.count);
         self.count = more;
         Ok(())
     }
 
     /// The races found.
     pub(crate) fn told(&self) -> Result<Vec<Told>, AllocError>
-        ensures told { IfOk result (λ told. told.items ≡ told_of self.now.words.words.entries) }
-        ensures ordered { IsOrdered nat_cmp self.now.words.words }
+        ensures told { IfOk result (λ told. told.items ≡ told_of self.now.words.races.words.entries) }
+        ensures ordered { IsOrdered nat_cmp self.now.words.races.words }
     {
         self.words.told()
     }

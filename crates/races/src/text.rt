@@ -1,29 +1,32 @@
-//! The text of races: a line for each.
-ghost use Rattle.std.specs.Prelude.{◌≡◌, ◌++◌, IfOk, OnOk, codes, decimal, if◌then◌else◌};
+//! The text of races: a line for each, with the names that a symbol table has for its places.
+ghost use Rattle.std.specs.Prelude.{◌≡◌, ◌++◌, IfOk, OnOk, codes, decimal, if◌then◌else◌, option_map};
 ghost use Rattle.std.specs.String.{string_bytes};
-ghost use Rattle.races.specs.Texts.{bytes_text, left_text, race_text, site_text, text_of};
+ghost use Rattle.symbols.specs.Covering.{told};
+ghost use Rattle.races.specs.Texts.{bytes_text, left_text, name_text, names_text, place_text, race_text, site_text, text_of};
 
 use crate::race::Race;
 use crate::site::Site;
 use itoa::Buffer;
 use std::alloc::{AllocError, Global};
+use symbols::{Place, Symbols};
 use text_output::write_hexadecimal;
 
 /// As many races have a line.
 pub const MOST_LINES: usize = 10_000;
 
-/// The text of races: a line for each of the first [`MOST_LINES`], and one that says how many were left out, if any were.
+/// The text of races: a line for each of the first [`MOST_LINES`], and one that says how many were left out, if any were. An object
+/// that covers a race's lowest byte and the functions that cover its instructions are named.
 ///
 /// # Errors
 ///
 /// Only out of memory.
-pub fn races_text(alloc: Global, races: &[Race]) -> Result<String, AllocError>
-    ensures { IfOk result (λ text. string_bytes text ≡ text_of races.now) }
+pub fn races_text(alloc: Global, races: &[Race], symbols: &Symbols) -> Result<String, AllocError>
+    ensures { IfOk result (λ text. string_bytes text ≡ text_of symbols.now races.now) }
 {
     let (shown, left) = races.split_at(races.len().min(MOST_LINES));
     let mut text = String::new(alloc);
     for race in shown {
-        write_race(&mut text, race)?;
+        write_race(&mut text, race, symbols)?;
     }
     write_left(&mut text, left.len())?;
     Ok(text)
@@ -42,15 +45,56 @@ fn write_left(text: &mut String, count: usize) -> Result<(), AllocError>
 }
 
 /// Appends the line of a race, as `race address=00016038 bytes=4 store thread=1 turn=15 pc=00010188 store thread=2 turn=17
-/// pc=00010188`.
+/// pc=00010188 object=counter+0 in=add+20 in=add+20`.
 #[tactic(auto, unfolding(crate::specs::Texts::race_text))]
-fn write_race(text: &mut String, race: &Race) -> Result<(), AllocError>
-    ensures { OnOk result (string_bytes text.new ≡ string_bytes text.old ++ race_text race.now) }
+fn write_race(text: &mut String, race: &Race, symbols: &Symbols) -> Result<(), AllocError>
+    ensures { OnOk result (string_bytes text.new ≡ string_bytes text.old ++ race_text symbols.now race.now) }
 {
     write_bytes(text, race)?;
     write_site(text, race.first)?;
     write_site(text, race.second)?;
+    write_names(text, race, symbols)?;
     text.push_str("\n")
+}
+
+/// Appends the names of a race's places, as ` object=counter+0 in=add+20 in=add+20`. What has no name is left out.
+#[tactic(auto, unfolding(crate::specs::Texts::names_text))]
+fn write_names(text: &mut String, race: &Race, symbols: &Symbols) -> Result<(), AllocError>
+    ensures { OnOk result (string_bytes text.new ≡ string_bytes text.old ++ names_text symbols.now race.now) }
+{
+    write_place(text, " object=", symbols.object_at(race.address()))?;
+    write_place(text, " in=", symbols.function_at(race.first.pc))?;
+    write_place(text, " in=", symbols.function_at(race.second.pc))
+}
+
+/// Appends a place after the name of its field, if there is one.
+#[tactic(auto, unfolding(crate::specs::Texts::place_text))]
+fn write_place(text: &mut String, field: &str, place: Option<Place<'_>>) -> Result<(), AllocError>
+    ensures { OnOk result (string_bytes text.new ≡ string_bytes text.old ++ place_text field.now (option_map told place.entry)) }
+{
+    match place {
+        Some(place) => {
+            text.push_str(field)?;
+            write_name(text, place.name)?;
+            write_count(text, "+", u64::from(place.offset))
+        }
+        None => Ok(()),
+    }
+}
+
+/// Appends a symbol's name. A byte that is no ASCII becomes a question mark.
+#[tactic(auto, unfolding(crate::specs::Texts::name_text))]
+fn write_name(text: &mut String, name: &[u8]) -> Result<(), AllocError>
+    ensures { OnOk result (string_bytes text.new ≡ string_bytes text.old ++ name_text name.now) }
+{
+    for byte in name {
+        if *byte < 128 {
+            text.push(*byte as char)?;
+        } else {
+            text.push('?')?;
+        }
+    }
+    Ok(())
 }
 
 /// Appends which bytes race, as `race address=00016038 bytes=4`.

@@ -1,137 +1,93 @@
-//! What is kept of a word: the latest accesses of its bytes, and the races found at it.
-ghost use Rattle.std.specs.Prelude.{◌≡◌, ℕ, ◌<◌, ◌≤◌, ◌⊎◌, ◌↔◌, List, [], ◌∷◌, ◌++◌, Contains, Option, Some, None, MatchOption, IfSome, IsTrue, OnOk, length, slice_index_or, true};
-ghost use Rattle.races.specs.Bytes.{has};
-ghost use Rattle.races.specs.Clocks.{time_in};
-ghost use Rattle.races.specs.Races.{IsSamePair};
-ghost use Rattle.races.specs.Words.{IsAuthor, IsCleaned, IsErased, IsFinding, IsHit, IsNoted, KnowsFound, KnowsLatest, KnowsWord, Times};
-ghost use Rattle.races.specs.Steps.{Step};
-ghost use Rattle.races.specs.declared.word.Latest.{Latest as Past};
-ghost use Rattle.races.specs.declared.word.Found.{Found as Race};
-ghost use Rattle.races.specs.Steps.Step.{Touch};
+//! What is kept of a word: the latest accesses of its bytes, but for its first one.
+ghost use Rattle.std.specs.Prelude.{◌≡◌, ℕ, ◌<◌, [], IsFalse, IsTrue, MatchOption, OnOk, length, slice_index_or};
+ghost use Rattle.std.specs.Option.{option_to_list};
+ghost use Rattle.races.specs.Words.{IsCleaned, IsErased, IsKept, IsReplaced, latest_of};
+ghost use Rattle.races.specs.declared.latest.Latest.{Latest as Past};
 
 use crate::byte_set::ByteSet;
-use crate::clocks::Clocks;
-use crate::site::{Access, Site};
+use crate::latest::Latest;
+use crate::site::Site;
 use std::alloc::{AllocError, Global};
 
-/// The latest access of some bytes of a word by a thread's instruction.
-#[derive(Clone, Copy)]
-pub(crate) struct Latest {
-    /// Who it is.
-    site: Site,
-    /// The bytes whose latest access by this instruction it is.
-    bytes: ByteSet,
-    /// The step.
-    step: u64,
-}
-
-/// A race found at a word.
-#[derive(Clone, Copy)]
-pub(crate) struct Found {
-    /// The bytes at which its instructions race.
-    pub(crate) bytes: ByteSet,
-    /// The earlier access of the first that was found.
-    pub(crate) first: Site,
-    /// The later one.
-    pub(crate) second: Site,
-    /// The later one's step.
-    pub(crate) step: u64,
-}
-
-/// What is kept of a word.
+/// Accesses of a word's bytes since they were fresh, in their order.
 #[derive(Drop)]
 pub(crate) struct Word {
-    /// The latest accesses of its bytes since they were fresh, in their order.
-    latest: Vec<Latest>,
-    /// The races found.
-    pub(crate) found: Vec<Found>,
-}
-
-impl Latest {
-    /// Whether it races with an access of now: another thread's, one of both a store, and not in the past of the other.
-    fn is_hit(&self, access: &Access, clocks: &Clocks) -> bool
-        ensures { IsTrue result ↔ IsHit (time_in clocks.now.threads access.now.site.thread) self.now access.now }
-    {
-        let own = self.site.thread;
-        let other = access.site.thread;
-        own != other
-            && (self.site.is_store || access.site.is_store)
-            && clocks.time(other, own) <= self.step
-    }
-
-    /// It without these bytes, if it is of this instruction. With `None` any is.
-    fn cleaned(self, of: Option<Site>, bytes: ByteSet) -> Latest
-        ensures { IsCleaned of bytes self result }
-    {
-        if self.is_by(of) {
-            Latest {
-                site: self.site,
-                bytes: self.bytes.without(bytes),
-                step: self.step,
-            }
-        } else {
-            self
-        }
-    }
-
-    /// Whether it is of this instruction of a thread. With `None` any is.
-    fn is_by(self, of: Option<Site>) -> bool
-        ensures { IsTrue result ↔ IsAuthor of self.site }
-    {
-        match of {
-            Some(author) => author.thread == self.site.thread && author.is_same(self.site),
-            None => true,
-        }
-    }
-}
-
-impl Found {
-    /// Whether it is of these two instructions, in any order.
-    fn is_pair(&self, first: Site, second: Site) -> bool
-        ensures { IsTrue result ↔ IsSamePair self.now.first self.now.second first second }
-    {
-        (self.first.is_same(first) && self.second.is_same(second))
-            || (self.first.is_same(second) && self.second.is_same(first))
-    }
+    /// The first.
+    pub(crate) first: Option<Latest>,
+    /// The others.
+    pub(crate) others: Vec<Latest>,
 }
 
 impl Word {
     /// A word that no access was of.
     pub(crate) fn new(alloc: Global) -> Self
-        ensures latest { result.latest.items ≡ [] }
-        ensures found { result.found.items ≡ [] }
+        ensures { latest_of result ≡ [] }
     {
         Word {
-            latest: Vec::new(alloc),
-            found: Vec::new(alloc),
+            first: None,
+            others: Vec::new(alloc),
         }
     }
 
-    /// An access of it, the step of this index.
-    pub(crate) fn touch(
-        &mut self,
-        access: &Access,
-        step: u64,
-        clocks: &Clocks,
-    ) -> Result<(), AllocError>
-        ensures { OnOk result ((steps : List Step) → KnowsWord steps access.now.word self.old.latest.items self.old.found.items → Times steps clocks.now → step ≡ length steps → KnowsWord (steps ++ Touch access.now ∷ []) access.now.word self.new.latest.items self.new.found.items) }
+    /// Keeps an access. One that is made again takes its own place if no other came after it.
+    pub(crate) fn keep(&mut self, own: Latest) -> Result<(), AllocError>
+        ensures { OnOk result (IsKept own (latest_of self.old) (latest_of self.new)) }
     {
-        find_races(&mut self.found, &self.latest, access, step, clocks)?;
-        erase(&mut self.latest, Some(access.site), access.bytes);
-        self.latest.push(Latest {
-            site: access.site,
-            bytes: access.bytes,
-            step,
-        })?;
+        if self.is_alone(&own) {
+            self.first = Some(own);
+            return Ok(());
+        }
+        if replace_last(&mut self.others, &own) {
+            return Ok(());
+        }
+        self.take(Some(own.site), own.bytes);
+        self.others.push(own)?;
         Ok(())
+    }
+
+    /// Whether there is no other access than this one.
+    fn is_alone(&self, own: &Latest) -> bool
+        ensures others { IsTrue result → self.now.others.items ≡ [] }
+        ensures first { IsTrue result → MatchOption self.now.first (Unit {0}) (λ was. IsReplaced was own.now) }
+    {
+        self.others.is_empty() && is_free(&self.first, own)
     }
 
     /// These bytes begin a new life.
     pub(crate) fn renew(&mut self, bytes: ByteSet)
-        ensures latest { IsErased None bytes self.old.latest.items self.new.latest.items }
-        ensures found { self.new.found.items ≡ self.old.found.items }
+        ensures { IsErased None bytes (latest_of self.old) (latest_of self.new) }
     {
-        erase(&mut self.latest, None, bytes);
+        self.take(None, bytes);
+    }
+
+    /// Takes these bytes from the accesses of this instruction. With `None` any is.
+    fn take(&mut self, of: Option<Site>, bytes: ByteSet)
+        ensures { IsErased of bytes (latest_of self.old) (latest_of self.new) }
+    {
+        self.first = left(self.first, of, bytes);
+        erase(&mut self.others, of, bytes);
+    }
+}
+
+/// Whether there is no access, or it is this one.
+pub(crate) fn is_free(first: &Option<Latest>, own: &Latest) -> bool
+    ensures { IsTrue result → MatchOption first.now (Unit {0}) (λ was. IsReplaced was own.now) }
+{
+    match first {
+        Some(was) => was.is_again(own),
+        None => true,
+    }
+}
+
+/// Takes these bytes from an access, if there is one of this instruction. It goes with its last byte.
+pub(crate) fn left(first: Option<Latest>, of: Option<Site>, bytes: ByteSet) -> Option<Latest>
+    ensures { IsErased of bytes (option_to_list first) (option_to_list result) }
+{
+    let left = first?.cleaned(of, bytes);
+    if left.bytes.is_empty() {
+        None
+    } else {
+        Some(left)
     }
 }
 
@@ -152,74 +108,15 @@ fn clean(latest: &mut [Latest], of: Option<Site>, bytes: ByteSet)
     }
 }
 
-/// Notes the races of an access of now with the latest accesses.
-fn find_races(
-    found: &mut Vec<Found>,
-    latest: &[Latest],
-    access: &Access,
-    step: u64,
-    clocks: &Clocks,
-) -> Result<(), AllocError>
-    ensures { OnOk result ((steps : List Step) → KnowsWord steps access.now.word latest.now found.old.items → Times steps clocks.now → step ≡ length steps → KnowsFound (steps ++ Touch access.now ∷ []) access.now.word found.new.items) }
+/// Puts an access in the place of the last one, if it is the same.
+fn replace_last(latest: &mut Vec<Latest>, own: &Latest) -> bool
+    ensures kept { IsTrue result → IsKept own.now latest.old.items latest.new.items }
+    ensures stays { IsFalse result → latest.new.items ≡ latest.old.items }
 {
-    for past in latest {
-        find_race(found, past, access, step, clocks)?;
+    let count = latest.len();
+    if count == 0 || !latest[count - 1].is_again(own) {
+        return false;
     }
-    Ok(())
-}
-
-/// Notes the race of an access of now with one of before, if they race.
-fn find_race(
-    found: &mut Vec<Found>,
-    past: &Latest,
-    access: &Access,
-    step: u64,
-    clocks: &Clocks,
-) -> Result<(), AllocError>
-    ensures { OnOk result ((steps : List Step) (latest done : List Past) → KnowsLatest steps access.now.word latest → Contains latest past.now → Times steps clocks.now → step ≡ length steps → IsFinding steps access.now clocks.now done found.old.items → IsFinding steps access.now clocks.now (done ++ past.now ∷ []) found.new.items) }
-{
-    let bytes = past.bytes.common(access.bytes);
-    if bytes.is_empty() {
-        return Ok(());
-    }
-    if !past.is_hit(access, clocks) {
-        return Ok(());
-    }
-    note(
-        found,
-        Found {
-            bytes,
-            first: past.site,
-            second: access.site,
-            step,
-        },
-    )
-}
-
-/// Notes a race: its bytes at the race of its instructions, if there is one, else itself.
-fn note(found: &mut Vec<Found>, race: Found) -> Result<(), AllocError>
-    ensures { OnOk result (IsNoted found.old.items found.new.items race) }
-{
-    match find_pair(found, race.first, race.second) {
-        Some(index) => {
-            let mut known = found[index];
-            known.bytes = known.bytes.joined(race.bytes);
-            found[index] = known;
-        }
-        None => found.push(race)?,
-    }
-    Ok(())
-}
-
-/// The first race of two instructions.
-fn find_pair(found: &[Found], first: Site, second: Site) -> Option<usize>
-    ensures within { IfSome result (λ index. index < length found.now) }
-    ensures pair { IfSome result (λ index. (d : Race) → IsSamePair (slice_index_or found.now index d).first (slice_index_or found.now index d).second first second) }
-{
-    for (index, known) in found.iter().enumerate() {
-        if known.is_pair(first, second) {
-            return Some(index);
-        }
-    }
-    None
+    latest[count - 1] = *own;
+    true
 }

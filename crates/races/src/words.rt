@@ -1,37 +1,37 @@
-//! What is kept of all words.
-ghost use Rattle.std.specs.Prelude.{◌≡◌, ℕ, ◌+◌, ◌*◌, ◌/◌, ◌<◌, ◌≤◌, ◌↔◌, Option, Some, None, List, [], ◌∷◌, ◌++◌, IfOk, OnOk, length, map, true};
+//! What is kept of all words: the accesses and the races.
+ghost use Rattle.std.specs.Prelude.{◌≡◌, ℕ, List, [], ◌∷◌, ◌++◌, Contains, IfOk, OnOk, length};
 ghost use Rattle.std.specs.Ordering.{nat_cmp};
-ghost use Rattle.std.specs.BTreeMap.{IsOrdered, get};
-ghost use Rattle.races.specs.Bytes.{has};
-ghost use Rattle.races.specs.Races.{Renews};
+ghost use Rattle.std.specs.BTreeMap.{IsOrdered};
 ghost use Rattle.races.specs.Steps.{Step};
 ghost use Rattle.races.specs.Steps.Step.{Touch, Renew};
-ghost use Rattle.races.specs.Words.{KnowsBy, KnowsWords, Times, told_at, told_of};
+ghost use Rattle.races.specs.Words.{IsFinding, KnowsFound, KnowsLatest, KnowsWords, Times, found_at, others_at, told_of};
+ghost use Rattle.races.specs.declared.latest.Latest.{Latest as Past};
 
-use crate::byte_set::ByteSet;
 use crate::clocks::Clocks;
-use crate::race::Race;
+use crate::fresh::Fresh;
+use crate::latest::Latest;
+use crate::pages::Pages;
+use crate::race_map::RaceMap;
+use crate::race_search::{find_first, find_races};
 use crate::site::Access;
 use crate::told::Told;
-use crate::word::{Found, Word};
 use std::alloc::{AllocError, Global};
-use std::collections::BTreeMap;
 
-/// The words that accesses were of, each by its number.
+/// What is kept of each word.
 #[derive(Drop)]
 pub(crate) struct Words {
-    alloc: Global,
-    words: BTreeMap<u32, Word>,
+    pages: Pages,
+    races: RaceMap,
 }
 
 impl Words {
     /// No access.
     pub(crate) fn new(alloc: Global) -> Self
-        ensures { KnowsWords [] result.words }
+        ensures { KnowsWords [] result.pages.pages.items result.races.words }
     {
         Words {
-            alloc,
-            words: BTreeMap::new(alloc),
+            pages: Pages::new(alloc),
+            races: RaceMap::new(alloc),
         }
     }
 
@@ -42,104 +42,52 @@ impl Words {
         step: u64,
         clocks: &Clocks,
     ) -> Result<(), AllocError>
-        ensures { OnOk result ((steps : List Step) → KnowsWords steps self.old.words → Times steps clocks.now → step ≡ length steps → KnowsWords (steps ++ Touch access.now ∷ []) self.new.words) }
+        ensures { OnOk result ((steps : List Step) → KnowsWords steps self.old.pages.pages.items self.old.races.words → Times steps clocks.now → step ≡ length steps → KnowsWords (steps ++ Touch access.now ∷ []) self.new.pages.pages.items self.new.races.words) }
     {
-        match self.words.get_mut(&access.word) {
-            Some(word) => word.touch(access, step, clocks),
-            None => self.begin(access, step, clocks),
+        self.find(access, step, clocks)?;
+        let own = Latest {
+            site: access.site,
+            bytes: access.bytes,
+            step,
+        };
+        self.pages.keep(access.word, own)
+    }
+
+    /// Notes the races of an access, the step of this index.
+    fn find(&mut self, access: &Access, step: u64, clocks: &Clocks) -> Result<(), AllocError>
+        ensures own { OnOk result ((steps : List Step) → KnowsWords steps self.old.pages.pages.items self.old.races.words → Times steps clocks.now → step ≡ length steps → KnowsFound (steps ++ Touch access.now ∷ []) access.now.word (found_at self.new.races.words access.now.word)) }
+        ensures others { OnOk result ((other : ℕ) → (access.now.word ≡ other → ⊥) → found_at self.new.races.words other ≡ found_at self.old.races.words other) }
+        ensures pages { self.new.pages ≡ self.old.pages }
+    {
+        let first = self.pages.first(access.word);
+        find_first(&mut self.races, &first, access, step, clocks)?;
+        self.find_later(access, step, clocks)
+    }
+
+    /// Notes the races of an access with all but the first one that is kept of its word.
+    fn find_later(&mut self, access: &Access, step: u64, clocks: &Clocks) -> Result<(), AllocError>
+        ensures own { OnOk result ((steps : List Step) (latest done : List Past) → KnowsLatest steps access.now.word latest → ((past : Past) → Contains (others_at self.old.pages.pages.items access.now.word) past → Contains latest past) → Times steps clocks.now → step ≡ length steps → IsFinding steps access.now clocks.now done (found_at self.old.races.words access.now.word) → IsFinding steps access.now clocks.now (done ++ others_at self.old.pages.pages.items access.now.word) (found_at self.new.races.words access.now.word)) }
+        ensures others { OnOk result ((other : ℕ) → (access.now.word ≡ other → ⊥) → found_at self.new.races.words other ≡ found_at self.old.races.words other) }
+        ensures pages { self.new.pages ≡ self.old.pages }
+    {
+        match self.pages.word(access.word) {
+            Some(word) => find_races(&mut self.races, word, access, step, clocks),
+            None => Ok(()),
         }
     }
 
-    /// The first access of a word, the step of this index.
-    fn begin(&mut self, access: &Access, step: u64, clocks: &Clocks) -> Result<(), AllocError>
-        ensures { OnOk result ((steps : List Step) → get nat_cmp self.old.words access.now.word ≡ None → KnowsWords steps self.old.words → Times steps clocks.now → step ≡ length steps → KnowsWords (steps ++ Touch access.now ∷ []) self.new.words) }
+    /// Bytes begin a new life.
+    pub(crate) fn renew(&mut self, fresh: Fresh)
+        ensures { (steps : List Step) → KnowsWords steps self.old.pages.pages.items self.old.races.words → KnowsWords (steps ++ Renew fresh.address fresh.length ∷ []) self.new.pages.pages.items self.new.races.words }
     {
-        let mut word = Word::new(self.alloc);
-        word.touch(access, step, clocks)?;
-        self.words.insert(access.word, word)?;
-        Ok(())
-    }
-
-    /// The bytes from an address on, so many, begin a new life.
-    pub(crate) fn renew(&mut self, address: u32, length: u32)
-        ensures { (steps : List Step) → KnowsWords steps self.old.words → KnowsWords (steps ++ Renew address length ∷ []) self.new.words }
-    {
-        for number in first_word(address)..end_word(address, length) {
-            self.renew_word(number, address, length);
-        }
-    }
-
-    /// Those of a word begin a new life.
-    fn renew_word(&mut self, number: u32, address: u32, length: u32)
-        ensures others { (other : ℕ) → (number ≡ other → ⊥) → get nat_cmp self.new.words other ≡ get nat_cmp self.old.words other }
-        ensures own { (steps : List Step) → KnowsBy steps number (get nat_cmp self.old.words number) → KnowsBy (steps ++ Renew address length ∷ []) number (get nat_cmp self.new.words number) }
-    {
-        if let Some(word) = self.words.get_mut(&number) {
-            word.renew(fresh_bytes(number, address, length));
-        }
+        self.pages.renew(fresh);
     }
 
     /// The races found.
     pub(crate) fn told(&self) -> Result<Vec<Told>, AllocError>
-        ensures told { IfOk result (λ told. told.items ≡ told_of self.now.words.entries) }
-        ensures ordered { IsOrdered nat_cmp self.now.words }
+        ensures told { IfOk result (λ told. told.items ≡ told_of self.now.races.words.entries) }
+        ensures ordered { IsOrdered nat_cmp self.now.races.words }
     {
-        let mut told = Vec::with_capacity(self.alloc, self.words.len())?;
-        for (number, word) in &self.words {
-            push_told(&mut told, *number, &word.found)?;
-        }
-        Ok(told)
+        self.races.told()
     }
-}
-
-/// Appends the races found at a word.
-fn push_told(told: &mut Vec<Told>, word: u32, found: &[Found]) -> Result<(), AllocError>
-    ensures { OnOk result (told.new.items ≡ told.old.items ++ map (told_at word) found.now) }
-{
-    for race in found {
-        told.push(Told {
-            race: Race {
-                word,
-                bytes: race.bytes,
-                first: race.first,
-                second: race.second,
-            },
-            step: race.step,
-        })?;
-    }
-    Ok(())
-}
-
-/// The word of an address.
-fn first_word(address: u32) -> u32
-    ensures { result ≡ address / 4 }
-{
-    address / 4
-}
-
-/// The first word after the bytes from an address on, so many.
-fn end_word(address: u32, length: u32) -> u32
-    ensures { result ≡ (address + length + 3) / 4 }
-{
-    ((u64::from(address) + u64::from(length) + 3) / 4) as u32
-}
-
-/// Which bytes of a word are among those from an address on, so many.
-fn fresh_bytes(number: u32, address: u32, length: u32) -> ByteSet
-    ensures { (place : ℕ) → place < 4 → (has result place ≡ true) ↔ Renews (Renew address length) number place }
-{
-    ByteSet {
-        first: is_fresh(number, 0, address, length),
-        second: is_fresh(number, 1, address, length),
-        third: is_fresh(number, 2, address, length),
-        fourth: is_fresh(number, 3, address, length),
-    }
-}
-
-/// Whether the byte at a place of a word is among those from an address on, so many.
-fn is_fresh(number: u32, place: u8, address: u32, length: u32) -> bool
-    ensures { (result ≡ true) ↔ Renews (Renew address length) number place }
-{
-    let byte = u64::from(number) * 4 + u64::from(place);
-    u64::from(address) <= byte && byte < u64::from(address) + u64::from(length)
 }

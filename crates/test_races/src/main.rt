@@ -1,7 +1,7 @@
 //! Tells a recorder of races histories whose races are known, and random ones that a plain detector looks at too.
 //!
-//! With no arguments it prints a line for each row, `NAME: ok` or what it gave, and one for 300 random histories. `test_races
-//! random N [SEED]` looks at N random histories from the seed.
+//! With no arguments it prints a line for each row, `NAME: ok` or what it gave, and one for random histories of each kind. `test_races
+//! random N [SEED]` looks at N random histories of one turn from the seed.
 #![tactic(auto)]
 
 mod dice;
@@ -13,7 +13,7 @@ mod rows;
 mod step;
 
 use anyhow::Result;
-use random::show_random;
+use random::{Kind, show_random};
 use rows::show_rows;
 use std::env;
 
@@ -21,14 +21,20 @@ fn main(rt: HostRuntime) -> Result<()> {
     let arguments: Vec<String> = env::args(&rt)?.collect(rt.alloc())?;
     match arguments.as_slice() {
         [_, action, count] if action.as_str() == "random" => {
-            show_random(&rt, count.as_str().parse()?, 1)
+            show_random(&rt, count.as_str().parse()?, 1, Kind::OneTurn)
         }
         [_, action, count, seed] if action.as_str() == "random" => {
-            show_random(&rt, count.as_str().parse()?, seed.as_str().parse()?)
+            show_random(
+                &rt,
+                count.as_str().parse()?,
+                seed.as_str().parse()?,
+                Kind::OneTurn,
+            )
         }
         _ => {
             show_rows(&rt)?;
-            show_random(&rt, 300, 1)
+            show_random(&rt, 300, 1, Kind::ManyTurns)?;
+            show_random(&rt, 100, 1, Kind::OneTurn)
         }
     }
 }

@@ -3,6 +3,7 @@ use crate::histories::{Row, events_of};
 use anyhow::Result;
 use races::{Access, ByteSet, Event, RaceRecorder, Site, races_text};
 use std::alloc::{AllocError, Global};
+use symbols::Symbols;
 
 /// A row's name, its history, and the text of its races.
 struct Wanted {
@@ -122,7 +123,7 @@ fn text_of(alloc: Global, events: &[Event]) -> Result<String, AllocError> {
     for event in events {
         recorder.record(event)?;
     }
-    races_text(alloc, &recorder.races()?)
+    races_text(alloc, &recorder.races()?, &Symbols::read(alloc, b"")?)
 }
 
 /// Two threads store to 10,001 words.

@@ -24,5 +24,5 @@ returns c =
     let parts = c.split_at.ensures.back_len in
     let count : length left ≡ length races - 10000 = omega arith in
     c.in_ok-write_left.ensures
-    ∙ ap (λ (text : List ℕ). text ++ left_text (length left)) (c.loop-race.invariant ∙ ap (flat_map race_text) (whole ∙ first))
-    ∙ ap (λ (n : ℕ). flat_map race_text (take 10000 races) ++ left_text n) count
+    ∙ ap (λ (text : List ℕ). text ++ left_text (length left)) (c.loop-race.invariant ∙ ap (flat_map (race_text c.args.symbols.now)) (whole ∙ first))
+    ∙ ap (λ (n : ℕ). flat_map (race_text c.args.symbols.now) (take 10000 races) ++ left_text n) count

@@ -1,6 +1,6 @@
 use Rattle.std.proofs.Common.{◌≡◌, ℕ, ◌<◌, ◌≤◌, slice_index_or}
 use Rattle.races.specs.Words.{IsCleaned}
-use Rattle.races.specs.declared.word.Latest.{Latest as Past}
+use Rattle.races.specs.declared.latest.Latest.{Latest as Past}
 use Rattle.races.proofs.word.clean.Given as goal
 
 abbrev pub invariant-loop-past : goal.invariant-loop-past

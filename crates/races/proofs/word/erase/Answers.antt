@@ -3,7 +3,7 @@ use Rattle.std.proofs.lemmas.List.{take_at}
 use Rattle.std.proofs.lemmas.List.Elements.{filter_from_retain}
 use Rattle.races.specs.Bytes.{is_none}
 use Rattle.races.specs.Words.{IsCleaned}
-use Rattle.races.specs.declared.word.Latest.{Latest}
+use Rattle.races.specs.declared.latest.Latest.{Latest}
 use Rattle.races.proofs.Kept.{erased}
 use Rattle.races.proofs.word.erase.Goals as goal
 

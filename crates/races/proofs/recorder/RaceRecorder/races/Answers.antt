@@ -9,11 +9,11 @@ use Rattle.races.proofs.recorder.RaceRecorder.races.Goals as goal
 
 pub returns-clause-races : goal.returns-clause-races
 returns-clause-races c =
-    let words = c.args.self.now.steps.words.words in
+    let words = c.args.self.now.steps.words in
     let sorted : List Told = c.sort_by_key.new.self.items in
     let order : IsPermutation _ sorted = subst (λ (told : List Told). IsPermutation told sorted) c.in_ok-told.ensures.told c.sort_by_key.ensures.permutation in
     IfOk-weaker c.races_of.result _ _
     (λ races made history records.
     subst (AreRaces (steps_in history)) (sym (made ∙ ap (map (λ (one : Told). one.race)) c.deref.ensures.value))
-    (told_races (steps_in history) words c.told.ensures.ordered records.steps.words sorted order))
+    (told_races (steps_in history) words.pages.pages.items words.races.words c.told.ensures.ordered records.steps.words sorted order))
     c.races_of.ensures

@@ -1,10 +1,11 @@
-use Rattle.std.proofs.Common.{arith}
+use Rattle.std.proofs.Common.{◌∙◌, ℕ, arith, inl, inr, length, subst, ⊎_elim}
 use Rattle.std.proofs.lemmas.List.{length_push}
-use Rattle.races.specs.Clocks.{time_at}
+use Rattle.races.specs.Clocks.{IsAfterOrder, time_at, time_kept}
 use Rattle.races.specs.Steps.{Step}
 use Rattle.races.specs.Steps.Step.{Order}
 use Rattle.races.proofs.Follow.{after_order}
 use Rattle.races.proofs.Mapped.{words_ordered}
+use Rattle.races.proofs.Repeated.{repeats_passed}
 use Rattle.races.proofs.steps.Steps.order.Goals as goal
 
 pub returns : goal.returns
@@ -12,8 +13,13 @@ returns c steps knows =
     let step : Step = Order c.args.acquired.now c.args.released.now in
     let more = c.in_ok-more.ensures.more in
     let count = knows.count in
+    let clocks = c.args.self.now.clocks in
+    let after : IsAfterOrder (time_kept clocks) (time_kept c.order.new.self) (time_at clocks (length steps)) c.args.acquired.now c.args.released.now =
+    subst (λ (n : ℕ). IsAfterOrder (time_kept clocks) (time_kept c.order.new.self) (time_at clocks n) c.args.acquired.now c.args.released.now) count c.in_ok-order.ensures in
     record {
       count = omega (arith, length_push steps step);
-      times = after_order steps (time_at c.args.self.now.clocks) (time_at c.order.new.self) knows.times c.args.acquired.now c.args.released.now c.in_ok-order.ensures;
-      words = words_ordered steps step c.args.self.now.words.words (λ access is. cc is) (λ word place renews. renews) knows.words;
+      times = after_order steps (time_kept clocks) knows.times (time_kept c.order.new.self) c.args.acquired.now c.args.released.now after;
+      repeats = repeats_passed steps clocks c.order.new.self c.args.self.now.repeats c.pass.new.self c.args.acquired.now c.args.released.now knows.times after (λ thread among. c.pass.ensures.taken thread among ∙ count)
+          (λ thread. ⊎_elim (λ now. inl (now ∙ count)) (λ same. inr same) (c.pass.ensures.others thread)) c.pass.ensures.made c.pass.ensures.renewed knows.repeats;
+      words = words_ordered steps step c.args.self.now.words.pages.pages.items c.args.self.now.words.races.words (λ access is. cc is) (λ word place renews. renews) knows.words;
     }

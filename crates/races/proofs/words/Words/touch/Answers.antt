@@ -1,28 +1,30 @@
-use Rattle.std.proofs.Common.{◌≡◌, ◌∙◌, ap, ℕ, Option, Some, None, refl, subst, sym}
-use Rattle.std.specs.Ordering.{nat_cmp}
-use Rattle.std.specs.Prelude.{IsSome}
-use Rattle.std.specs.BTreeMap.{BTreeMap, get}
-use Rattle.std.proofs.lemmas.Result.{on_ok_weaker}
-use Rattle.races.specs.Words.{KnowsBy, KnowsWords}
-use Rattle.races.specs.declared.word.Word.{Word}
+use Rattle.std.proofs.Common.{◌≡◌, ◌∙◌, ℕ, List, Ok, Err, Result, ap, length, subst}
+use Rattle.std.specs.Prelude.{OnOk}
+use Rattle.races.specs.Words.{IsKept, latest_at}
+use Rattle.races.specs.declared.latest.Latest.{Latest}
+use Rattle.races.specs.declared.page.Page.{Page}
+use Rattle.races.specs.declared.pages.Pages.{Pages}
+use Rattle.races.proofs.Kept.{latest_kept}
 use Rattle.races.proofs.Mapped.{words_touched}
 use Rattle.races.proofs.words.Words.touch.Goals as goal
 
-pub returns-in-Some : goal.returns-in-Some
-returns-in-Some c =
-    let access = c.args.access.now in
-    let found : Some c.in-Some.word.now ≡ get nat_cmp c.args.self.now.words access.word = rw c.in-Some.is at c.get_mut.ensures.value in
-    let there : IsSome (get nat_cmp c.args.self.now.words access.word) = subst (λ (one : Option Word). IsSome one) found refl in
-    on_ok_weaker c.touch.result
-    (λ touched steps knows times step.
-    words_touched c.args.self.now.words (c.get_mut.follows.lender c.touch.new.self) steps access c.touch.new.self
-    (λ other. ((c.get_mut.follows.holds c.touch.new.self).3 there).0 other)
-    (touched steps (subst (KnowsBy steps access.word) (sym found) (knows access.word)) times step) knows)
-    c.touch.ensures
+both_ok : {T E P Q R : Type 0} (r : Result T E) → (P → Q → R) → OnOk r P → OnOk r Q → OnOk r R
+both_ok (Ok x) f one other = f one other
+both_ok (Err e) f one other = tt
 
-pub returns-in-None : goal.returns-in-None
-returns-in-None c =
+pub returns : goal.returns
+returns c =
     let access = c.args.access.now in
-    let same = c.get_mut.follows.holds-at-none in
-    let none : get nat_cmp c.get_mut.follows.lender-at-none access.word ≡ None = ap (λ (words : BTreeMap ℕ Word). get nat_cmp words access.word) same ∙ sym c.in-None.ensures.value in
-    on_ok_weaker c.begin.result (λ begun steps knows times step. begun steps none (subst (KnowsWords steps) (sym same) knows) times step) c.begin.ensures
+    let words = c.args.self.now in
+    let old : List Page = words.pages.pages.items in
+    let new : List Page = c.keep.new.self.pages.items in
+    let same : (word : ℕ) → latest_at c.find.new.self.pages.pages.items word ≡ latest_at old word = λ word. ap (λ (pages : Pages). latest_at pages.pages.items word) c.in_ok-find.ensures.pages in
+    both_ok c.keep.result
+    (λ kept others steps knows times step.
+    let found = c.in_ok-find.ensures.own steps knows times step in
+    let put = subst (λ (n : ℕ). IsKept (record { site = access.site; bytes = access.bytes; step = n }) (latest_at c.find.new.self.pages.pages.items access.word) (latest_at new access.word)) step kept in
+    let put_old = subst (λ (latest : List Latest). IsKept (record { site = access.site; bytes = access.bytes; step = length steps }) latest (latest_at new access.word)) (same access.word) put in
+    words_touched steps access old new words.races.words c.find.new.self.races.words
+    (record { accesses = latest_kept steps access (latest_at old access.word) (latest_at new access.word) put_old (knows access.word).accesses; races = found })
+    (λ other apart. others other apart ∙ same other) c.in_ok-find.ensures.others knows)
+    c.keep.ensures.own c.keep.ensures.others
