@@ -1,0 +1,22 @@
+use Rattle.std.proofs.Common.{◌≡◌, ◌-◌, ◌≤◌}
+use Rattle.std.specs.Prelude.{IfSome}
+use Rattle.decoded_code.specs.Code.{HasCode}
+use Rattle.hart.specs.Slice.{Runs}
+use Rattle.paged_memory.specs.Snapshot as snapshots
+use Rattle.twins.specs.View.{base_of, cells_of}
+use Rattle.observed_run.specs.Events.{events_upto}
+use Rattle.observed_run.specs.Told.{IsTold}
+use Rattle.observed_run.proofs.observing.observe.Given as goal
+
+abbrev pub invariant-loop-event : goal.invariant-loop-event
+invariant-loop-event l = record {
+  runs : Runs l.segment.hart (snapshots.cells_of l.base) l.segment.left l.segment.quantum l.done l.hart (cells_of l.view);
+  bound : l.done ≤ l.segment.left;
+  quantum : IfSome l.segment.quantum (λ q. l.done ≤ q);
+  base : snapshots.cells_of (base_of l.view) ≡ snapshots.cells_of l.base;
+  code : HasCode l.code.start l.code.entries.now (cells_of l.view);
+  told : IsTold l.fn.recorder l.recorder (events_upto l.actor l.segment.hart (snapshots.cells_of l.base) l.done);
+}
+
+abbrev pub decreases-loop-event : goal.decreases-loop-event
+decreases-loop-event l = l.segment.left - l.done

@@ -1,0 +1,5 @@
+pub mod Calls
+pub mod Ended
+pub mod Events
+pub mod Runs
+pub mod Told

@@ -1,0 +1,89 @@
+-- The events of a run, turn by turn.
+use Rattle.std.specs.Prelude.{◌≡◌, ℕ, ◌+◌, ◌%◌, ◌^◌, Option, Some, List, [], ◌++◌, IsSome}
+use Rattle.guest_memory.specs.Memory.{Memory}
+use Rattle.races.specs.Races.{AreRaces}
+use Rattle.races.specs.Recording.{Records}
+use Rattle.races.specs.Steps.{steps_in}
+use Rattle.races.specs.declared.event.Event.{Event}
+use Rattle.races.specs.declared.race.Race.{Race}
+use Rattle.segment.specs.declared.segment.Segment.{Segment}
+use Rattle.segment.specs.declared.segment_end.SegmentEnd.{SegmentEnd}
+use Rattle.token.specs.Point.{Point, IsNeededAt, moved, need_at, step_at}
+use Rattle.token.specs.RunInTurn.{point_of}
+use Rattle.token.specs.Serial.{StandsAfter}
+use Rattle.token.specs.Setup.{Setup}
+use Rattle.token.specs.History.{History}
+use Rattle.token.specs.Turns.{Step}
+use Rattle.token.specs.declared.need.Need.{Need}
+use Rattle.token.specs.declared.need.Need.TheVariants as need
+use Rattle.observed_run.specs.Calls.{AreOfEnd, blocked_in, held_by, let_go}
+use Rattle.observed_run.specs.Events.{byte_of, events_upto, steps_before}
+use Rattle.observed_run.specs.Told.{IsTold}
+use Rattle.observed_run.specs.declared.actor.Actor.{Actor}
+use Rattle.observed_run.specs.declared.run.ObservedRun.{ObservedRun}
+
+-- who has the next turn
+abbrev pub thread_by : Need → ℕ
+thread_by (need.Segment work) = work.thread
+thread_by (need.Keeper work) = work.thread
+thread_by (need.Wake thread) = thread
+thread_by (need.Ended outcome) = 0
+
+-- a thread in the turn after so many (no run has 2^64 of them)
+abbrev pub actor_of : (done thread : ℕ) → Actor
+actor_of done thread = record { thread = byte_of thread; turn = (done + 1) % 2 ^ 64 }
+
+-- the events of a segment on a copy of a memory, up to this end
+abbrev pub segment_events : Actor → Segment → Memory → SegmentEnd → List Event
+segment_events actor segment copy end = events_upto actor segment.hart copy (steps_before end.stop end.count)
+
+-- the events of the segment that a turn needs
+abbrev pub needed_events : Actor → Point → Need → Option SegmentEnd → List Event
+needed_events actor point (need.Segment work) (Some end) = segment_events actor work.segment point.base end
+needed_events actor point (need.Keeper work) (Some end) = segment_events actor work.segment point.state.memory end
+needed_events actor point _ _ = []
+
+-- what follows them in the turn of a thread: what the call orders, or the wake
+abbrev pub AreLast : Actor → Point → (thread : ℕ) → Option SegmentEnd → Step → List Event → Type 0
+AreLast actor point thread end step events =
+    AreOfEnd actor end (held_by point.state.objects thread) (let_go (blocked_in point.state.threads) step.after.threads) step.turn.stop events
+
+-- the events of the next turn, with this end of its segment: those of its instructions, then those of its call
+pub record AreOfTurn (point : Point) (end : Option SegmentEnd) (events : List Event) : Type 0 where
+  pub last : List Event
+  pub is_last : AreLast (actor_of point.done (thread_by (need_at point))) point (thread_by (need_at point)) end (step_at point end) last
+  pub all : events ≡ needed_events (actor_of point.done (thread_by (need_at point))) point (need_at point) end ++ last
+
+-- the events of the turns that lead from one point of a run to another
+pub data AreEvents (start : Point) : Point → List Event → Type 0 where
+  none : AreEvents start start []
+  turn : {point : Point} {events more : List Event} {end : Option SegmentEnd} → AreEvents start point events → IsNeededAt point end → AreOfTurn point end more
+      → AreEvents start (moved point (step_at point end)) (events ++ more)
+
+-- The races are those of the events of all turns of a run that was given this, from its beginning to its end.
+pub record AreRacesOf (setup : Setup) (races : List Race) : Type 0 where
+  pub start : Point
+  pub begins : StandsAfter start []
+  pub setup_is : start.setup ≡ setup
+  pub point : Point
+  pub events : List Event
+  pub ended : IsSome point.ended
+  pub are_events : AreEvents start point events
+  pub are_races : AreRaces (steps_in events) races
+
+-- a run stands after some legal history
+abbrev pub IsLegalPoint : Point → Type 0
+IsLegalPoint point = (history : History) × StandsAfter point history
+
+-- The run has moved from one point to another, and its recorder was told the events of the turns between.
+abbrev pub Leads : (old new : ObservedRun) → Type 0
+Leads old new =
+    (start : Point) (events : List Event) → AreEvents start (point_of old.serial) events → Records old.recorder events
+    → (more : List Event) × AreEvents start (point_of new.serial) more × Records new.recorder more
+
+-- the recorder was told what follows the segment of a turn
+abbrev pub TellsLast : (old new : ObservedRun) → (thread : ℕ) → Option SegmentEnd → Type 0
+TellsLast old new thread end =
+    (last : List Event)
+    × AreLast (actor_of (point_of old.serial).done thread) (point_of old.serial) thread end (step_at (point_of old.serial) end) last
+    × IsTold old.recorder new.recorder last

@@ -1,0 +1,130 @@
+//! The event that an instruction is: the load or store that it makes, or a hint.
+ghost use Rattle.std.specs.Prelude.{◌≡◌, ◌%◌, ◌/◌, Some};
+ghost use Rattle.decoded_code.specs.Code.{HasCode, entry_at};
+ghost use Rattle.observed_run.specs.Events as spec;
+
+use crate::actor::Actor;
+use crate::ranges::access;
+use decoded_code::{CodeSlice, entry as entry_of_word};
+use decoder::{Instr, Register};
+use guest_memory::GuestMemory;
+use hart::Hart;
+use races::{Event, Site};
+
+/// The event that an instruction of a thread is, none if it loads and stores nothing and is no hint.
+#[tactic(auto, unfolding(crate::specs::Events::event_of))]
+pub(crate) fn event_of(actor: Actor, hart: &Hart, instr: &Instr) -> Option<Event>
+    ensures { result ≡ spec.event_of actor hart.now instr.now }
+{
+    match *instr {
+        Instr::Lb { rs1, offset, .. } | Instr::Lbu { rs1, offset, .. } => {
+            Some(load(actor, hart, rs1, offset.word(), 1))
+        }
+        Instr::Lh { rs1, offset, .. } | Instr::Lhu { rs1, offset, .. } => {
+            Some(load(actor, hart, rs1, offset.word(), 2))
+        }
+        Instr::Lw { rs1, offset, .. } => Some(load(actor, hart, rs1, offset.word(), 4)),
+        Instr::Sb { rs1, offset, .. } => Some(store(actor, hart, rs1, offset.word(), 1)),
+        Instr::Sh { rs1, offset, .. } => Some(store(actor, hart, rs1, offset.word(), 2)),
+        Instr::Sw { rs1, offset, .. } => Some(store(actor, hart, rs1, offset.word(), 4)),
+        Instr::Slt { rd, rs1, rs2 } if rd.number() == 0 => signed_hint(actor, hart, rs1, rs2),
+        Instr::Sltu { rd, rs1, rs2 } if rd.number() == 0 => unsigned_hint(actor, hart, rs1, rs2),
+        _ => None,
+    }
+}
+
+/// A load of so many bytes at a register's address plus an offset.
+fn load(actor: Actor, hart: &Hart, base: Register, offset: u32, width: u32) -> Event
+    ensures { result ≡ spec.load actor hart.now base offset width }
+{
+    access_at(actor.load(hart.pc()), address_of(hart, base, offset), width)
+}
+
+/// A store of so many bytes at a register's address plus an offset.
+fn store(actor: Actor, hart: &Hart, base: Register, offset: u32, width: u32) -> Event
+    ensures { result ≡ spec.store actor hart.now base offset width }
+{
+    access_at(
+        actor.store(hart.pc()),
+        address_of(hart, base, offset),
+        width,
+    )
+}
+
+/// A register's address plus an offset.
+#[tactic(auto, unfolding(hart::specs::Arithmetic::sum))]
+fn address_of(hart: &Hart, base: Register, offset: u32) -> u32
+    ensures { result ≡ spec.address_of hart.now base offset }
+{
+    hart.reg(usize::from(base.number())).wrapping_add(offset)
+}
+
+/// An access of so many bytes at an address, all in one word.
+fn access_at(site: Site, address: u32, width: u32) -> Event
+    ensures { result ≡ spec.access_at site address width }
+{
+    access(site, address / 4, address, width)
+}
+
+/// The hint that SLT into x0 is.
+fn signed_hint(actor: Actor, hart: &Hart, rs1: Register, rs2: Register) -> Option<Event>
+    ensures { result ≡ spec.signed_hint actor hart.now rs1 rs2 }
+{
+    let thread = actor.thread;
+    match (rs1.number(), rs2.number()) {
+        (0, 0) => Some(Event::Leave { thread }),
+        (0, object) => Some(Event::Release {
+            thread,
+            object: hart.reg(usize::from(object)),
+        }),
+        (object, 0) => Some(Event::Acquire {
+            thread,
+            object: hart.reg(usize::from(object)),
+        }),
+        _ => None,
+    }
+}
+
+/// The hint that SLTU into x0 is.
+fn unsigned_hint(actor: Actor, hart: &Hart, rs1: Register, rs2: Register) -> Option<Event>
+    ensures { result ≡ spec.unsigned_hint actor hart.now rs1 rs2 }
+{
+    let thread = actor.thread;
+    match (rs1.number(), rs2.number()) {
+        (0, 0) => Some(Event::Enter { thread }),
+        (0, _) | (_, 0) => None,
+        (address, length) => Some(Event::Fresh {
+            address: hart.reg(usize::from(address)),
+            length: hart.reg(usize::from(length)),
+        }),
+    }
+}
+
+/// The event that the next instruction of a thread is.
+pub(crate) fn next_event<M: GuestMemory>(
+    actor: Actor,
+    code: &CodeSlice<'_>,
+    hart: &Hart,
+    memory: &M,
+) -> Option<Event>
+    requires { HasCode code.now.start code.now.entries.now (M.cells memory.now) }
+    ensures { result ≡ spec.next_event actor hart.now (M.cells memory.now) }
+{
+    let pc = hart.pc();
+    match code.at(pc) {
+        Some(entry) => event_of(actor, hart, entry),
+        None => event_of(actor, hart, &entry_in(memory, pc)),
+    }
+}
+
+/// The entry that decoded code has of the word at an address.
+#[tactic(auto, unfolding(decoded_code::specs::Code::entry_at))]
+fn entry_in<M: GuestMemory>(memory: &M, pc: u32) -> Instr
+    requires { pc % 4 ≡ 0 }
+    ensures { result ≡ entry_at (M.cells memory.now) pc }
+{
+    match memory.fetch(pc) {
+        Some(word) => entry_of_word(word),
+        None => Instr::Ebreak,
+    }
+}

@@ -1,0 +1,12 @@
+//! A run whose loads, stores, calls and hints are told to a recorder of races.
+#![tactic(auto)]
+
+mod actor;
+mod before;
+mod call_events;
+mod instruction_event;
+mod observing;
+mod ranges;
+mod run;
+
+pub use run::races_of_run;
