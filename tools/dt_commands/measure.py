@@ -1,3 +1,6 @@
-"""Measures guest programs: how fast workers are, what the samples in C execute, how many turns an operation of the C library takes, what the debugger takes."""
+"""Measures guest programs: workers, samples in C, turns of the C library's operations, the debugger, and lists of races."""
 
-PARTS = {"workers": "measure_workers", "c-samples": "measure_c_samples", "turns": "measure_turns", "debugger": "measure_debugger"}
+PARTS = {
+    "workers": "measure_workers", "c-samples": "measure_c_samples", "turns": "measure_turns", "debugger": "measure_debugger",
+    "races": "measure_races",
+}

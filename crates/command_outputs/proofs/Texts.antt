@@ -2,6 +2,7 @@
 use Rattle.std.proofs.Common.{◌≡◌, ℕ, Option, Some, None, Result, Ok, Err, List, OnOk, IfOk, IsOk, IfSome, IfErr, IsSome, is_some, ap, inr, refl, subst, sym, ◌∙◌, [], ◌++◌, append-nil}
 use Rattle.std.proofs.KnownBytes.{Appends-trans}
 use Rattle.std.specs.Io.KnownBytes.{Appends}
+use Rattle.std.specs.String.{string_bytes}
 use Rattle.output_files.specs.Content.{Content, Has}
 use Rattle.paged_memory.specs.Snapshot.{cells_of}
 use Rattle.command_outputs.specs.declared.ended.Ended.{Ended}
@@ -18,8 +19,11 @@ use Rattle.token.specs.declared.turn.Turn.{Turn}
 use Rattle.tracer.specs.Recording.{Traces}
 use Rattle.tracer.specs.TraceText.{text_of as trace_text_of}
 use Rattle.tracer.specs.declared.trace_recorder.TraceRecorder.{TraceRecorder}
+use Rattle.core_file.specs.Core.{IsCoreOf}
+use Rattle.core_file.specs.Shown.{core_threads}
+use Rattle.core_file.specs.declared.core_thread.CoreThread.{CoreThread}
 use Rattle.command_requests.specs.Destination.{IsApart, IsFiled, KeepsButFileOf, KeepsButPartFor, Prints}
-use Rattle.command_outputs.specs.Records.{AreMadeWritten, AreUnwritten, AreUnwrittenLast, AreWritten, IsPut, IsReportOf, IsUnwrittenTo, KeepsButMade, KeepsUnlessPrinted, Left, left_by}
+use Rattle.command_outputs.specs.Records.{AreLastWritten, AreMadeWritten, AreRestWritten, AreUnwritten, AreUnwrittenLast, AreUnwrittenMade, AreUnwrittenRest, AreWritten, IsCoreAt, IsPut, IsReportOf, IsUnwrittenTo, KeepsButLast, KeepsButMade, KeepsButRest, KeepsUnlessPrinted, Left, left_by}
 use Rattle.command_requests.specs.declared.destination.Destination.{Destination}
 use Rattle.command_requests.specs.declared.destination.Destination.TheVariants.{StandardOutput, File}
 use Rattle.command_requests.specs.declared.failure.Failure.{Failure}
@@ -56,20 +60,57 @@ still_filed (Some StandardOutput) other text old new kept filed apart = tt
 still_filed (Some (File path)) other text old new kept filed apart =
     subst (λ (known : Option (List ℕ)). IfSome known (λ all. all ≡ text)) (sym (kept path.now apart.0 apart.1)) filed
 
--- and so do the texts that are made at the end
+-- and so do the last ones
+still_before_last : (destination : Option Destination) (records : Records) (text : List ℕ) (old new : Content) → KeepsButLast records old new
+    → IsFiled destination text old → IsApart destination records.core → IsApart destination records.digest → IsFiled destination text new
+still_before_last None records text old new kept filed core digest = tt
+still_before_last (Some StandardOutput) records text old new kept filed core digest = tt
+still_before_last (Some (File path)) records text old new kept filed core digest =
+    subst (λ (known : Option (List ℕ)). IfSome known (λ all. all ≡ text)) (sym (kept path.now core.0 core.1 digest.0 digest.1)) filed
+
+-- and those after the report
+still_before_rest : (destination : Option Destination) (records : Records) (text : List ℕ) (old new : Content) → KeepsButRest records old new
+    → IsFiled destination text old → IsApart destination records.races → IsApart destination records.core → IsApart destination records.digest → IsFiled destination text new
+still_before_rest None records text old new kept filed races core digest = tt
+still_before_rest (Some StandardOutput) records text old new kept filed races core digest = tt
+still_before_rest (Some (File path)) records text old new kept filed races core digest =
+    subst (λ (known : Option (List ℕ)). IfSome known (λ all. all ≡ text)) (sym (kept path.now races.0 races.1 core.0 core.1 digest.0 digest.1)) filed
+
+-- and those that are made at the end
 still_there : (destination : Option Destination) (records : Records) (text : List ℕ) (old new : Content) → KeepsButMade records old new
-    → IsFiled destination text old → IsApart destination records.report → IsApart destination records.digest → IsFiled destination text new
-still_there None records text old new kept filed report digest = tt
-still_there (Some StandardOutput) records text old new kept filed report digest = tt
-still_there (Some (File path)) records text old new kept filed report digest =
-    subst (λ (known : Option (List ℕ)). IfSome known (λ all. all ≡ text)) (sym (kept path.now report.0 report.1 digest.0 digest.1)) filed
+    → IsFiled destination text old → IsApart destination records.report → IsApart destination records.races → IsApart destination records.core → IsApart destination records.digest
+    → IsFiled destination text new
+still_there None records text old new kept filed report races core digest = tt
+still_there (Some StandardOutput) records text old new kept filed report races core digest = tt
+still_there (Some (File path)) records text old new kept filed report races core digest =
+    subst (λ (known : Option (List ℕ)). IfSome known (λ all. all ≡ text)) (sym (kept path.now report.0 report.1 races.0 races.1 core.0 core.1 digest.0 digest.1)) filed
 
--- both texts that are made at the end leave all other files as they are
-pub but_made : (records : Records) (old now new : Content) → KeepsButFileOf records.report old now → KeepsButFileOf records.digest now new → KeepsButMade records old new
-but_made records old now new first second = λ path report report_part digest digest_part. second path digest digest_part ∙ first path report report_part
+-- the last texts leave all other files as they are
+pub but_last : (records : Records) (old now new : Content) → KeepsButFileOf records.core old now → KeepsButFileOf records.digest now new → KeepsButLast records old new
+but_last records old now new first second = λ path core core_part digest digest_part. second path digest digest_part ∙ first path core core_part
 
-pub but_made_and_part : (records : Records) (old now new : Content) → KeepsButFileOf records.report old now → KeepsButPartFor records.digest now new → KeepsButMade records old new
-but_made_and_part records old now new first second = λ path report report_part digest digest_part. second path digest_part ∙ first path report report_part
+pub but_last_and_part : (records : Records) (old now new : Content) → KeepsButFileOf records.core old now → KeepsButPartFor records.digest now new → KeepsButLast records old new
+but_last_and_part records old now new first second = λ path core core_part digest digest_part. second path digest_part ∙ first path core core_part
+
+-- and so do the races and they
+pub but_rest : (records : Records) (old now new : Content) → KeepsButFileOf records.races old now → KeepsButLast records now new → KeepsButRest records old new
+but_rest records old now new first others = λ path races races_part core core_part digest digest_part. others path core core_part digest digest_part ∙ first path races races_part
+
+pub but_rest_and_parts : (records : Records) (old now then new : Content) → KeepsButFileOf records.races old now → KeepsButPartFor records.core now then
+    → KeepsButPartFor records.digest then new → KeepsButRest records old new
+but_rest_and_parts records old now then new first second third =
+    λ path races races_part core core_part digest digest_part. third path digest_part ∙ second path core_part ∙ first path races races_part
+
+-- and so do all that are made at the end
+pub but_made : (records : Records) (old now new : Content) → KeepsButFileOf records.report old now → KeepsButRest records now new → KeepsButMade records old new
+but_made records old now new first others =
+    λ path report report_part races races_part core core_part digest digest_part. others path races races_part core core_part digest digest_part ∙ first path report report_part
+
+pub but_made_and_parts : (records : Records) (old now then later new : Content) → KeepsButFileOf records.report old now → KeepsButPartFor records.races now then
+    → KeepsButPartFor records.core then later → KeepsButPartFor records.digest later new → KeepsButMade records old new
+but_made_and_parts records old now then later new first second third fourth =
+    λ path report report_part races races_part core core_part digest digest_part.
+    fourth path digest_part ∙ third path core_part ∙ second path races_part ∙ first path report report_part
 
 -- what makes the text of the report of these changes, by a recorder of their sharing
 abbrev pub MakesReport : Option SharingRecorder → List ℕ → Type 0
@@ -104,52 +145,137 @@ report_made bytes sharing one rows (Ok text) is shares made =
 ends_here : (old new : Option (List ℕ)) (bytes : List ℕ) → Appends old new bytes → Appends old new (bytes ++ [])
 ends_here old new bytes sent = subst (λ (all : List ℕ). Appends old new all) (sym (append-nil bytes)) sent
 
-module _ {X E : Type 0} (bytes : X → List ℕ) (tells : Type 0) (records : Records) (sharing : Option SharingRecorder) (digest : Option DigestRecorder)
-    (end : Ended) (now new : Content) (old mid last : Option (List ℕ)) where
-  -- report and digest are where they are to be
-  pub made_out : {T : Type 0} (first second : Result X E) (result : Result T Failure)
-      → is_some sharing ≡ is_some records.report → is_some digest ≡ is_some records.digest
-      → IsOk first → IfOk first (λ text. MakesReport sharing (bytes text)) → IfOk first (λ text. IsPut tells records.report (bytes text) now old mid)
-      → IfOk second (λ text. MakesDigest end digest (bytes text)) → KeepsButFileOf records.digest now new
+-- the core file was put where it is to be, if it is wanted
+abbrev pub PutsCore : Type 0 → Option Destination → Ended → Content → (old new : Option (List ℕ)) → Type 0
+PutsCore tells destination end content old new = (text : List ℕ) × (IsSome destination → IsCoreAt end text) × IsPut tells destination text content old new
+
+-- a core file that is whole was put where it is to be
+pub core_put : {T O : Type 0} (contents : O → Option (List ℕ)) (tells : Type 0) (result : Result T Failure) (destination : Option Destination) (one : Destination) (output : O) (end : Ended)
+    (content : Content) (old new : Option (List ℕ)) → destination ≡ Some one → (text : List ℕ) × IsCoreAt end text × Has contents output text
+    → OnOk result ((text : List ℕ) → Has contents output text → IsPut tells (Some one) text content old new) → OnOk result (PutsCore tells destination end content old new)
+core_put contents tells result destination one output end content old new is whole put =
+    where_ok result _ _
+    (λ put. subst (λ (to : Option Destination). PutsCore tells to end content old new) (sym is) (whole.0, λ _. whole.1, put whole.0 whole.2))
+    put
+
+-- the core file is where it is to be, and the digest isn't
+pub last_left : {T : Type 0} (tells : Type 0) (records : Records) (end : Ended) (now new : Content) (old mid last : Option (List ℕ)) (result : Result T Failure)
+    → PutsCore tells records.core end now old mid → KeepsButFileOf records.digest now new → IfErr result (IsUnwrittenTo records.digest)
+    → IfErr result (λ _. KeepsUnlessPrinted records.digest mid last)
+    → IfErr result (λ failure. (turns : List Turn) (changes : List Change) → AreUnwrittenLast tells records (left_by turns changes end) new old last failure)
+last_left tells records end now new old mid last (Ok value) put kept failed kept_out = tt
+last_left tells records end now new old mid last (Err failure) put kept failed kept_out =
+    λ turns changes. inr (record {
+      core = put.0;
+      is_core = put.1;
+      filed = λ apart. still_filed records.core records.digest put.0 now new kept put.2.filed apart;
+      between = mid;
+      printed_before = put.2.printed_after;
+      digest = record { why = failed; kept = kept_out };
+    })
+
+module _ {X E : Type 0} (bytes : X → List ℕ) (tells : Type 0) (records : Records) (digest : Option DigestRecorder)
+    (end : Ended) (now new : Content) (old mid last : Option (List ℕ)) (put : PutsCore tells records.core end now old mid) (kept : KeepsButFileOf records.digest now new) where
+  -- core file and digest are where they are to be
+  pub last_out : {T : Type 0} (second : Result X E) (result : Result T Failure) → is_some digest ≡ is_some records.digest
+      → IfOk second (λ text. MakesDigest end digest (bytes text))
       → OnOk result (IsOk second) → OnOk result (IfOk second (λ text. IsPut tells records.digest (bytes text) new mid last))
-      → OnOk result ((turns : List Turn) (changes : List Change) → IfSome sharing (λ sharing. Shares sharing changes) → IfSome digest (λ digest. Digests digest turns)
-      → AreInOrder changes → AreMadeWritten tells records (left_by turns changes end) new old last)
-  made_out (Err refused) second result same_report same_digest made makes put makes_digest kept made_digest put_digest = cc
-  made_out (Ok text) second (Err failure) same_report same_digest made makes put makes_digest kept made_digest put_digest = tt
-  made_out (Ok text) (Err refused) (Ok value) same_report same_digest made makes put makes_digest kept made_digest put_digest =
+      → OnOk result ((turns : List Turn) (changes : List Change) → IfSome digest (λ digest. Digests digest turns) → AreLastWritten tells records (left_by turns changes end) new old last)
+  last_out second (Err failure) same makes made_digest put_digest = tt
+  last_out (Err refused) (Ok value) same makes made_digest put_digest =
       let told : IsOk {T = X} {E = E} (Err refused) = made_digest in cc
-  made_out (Ok text) (Ok other) (Ok value) same_report same_digest made makes put makes_digest kept made_digest put_digest =
-      λ turns changes shares digests order. (
-        record { trace = trace_text_of turns; report = bytes text; digest = bytes other },
-        refl,
+  last_out (Ok other) (Ok value) same makes made_digest put_digest =
+      λ turns changes digests. (
+        record { trace = []; report = []; races = []; core = put.0; digest = bytes other },
+        put.1,
+        λ is. digest_is records.digest digest (bytes other) turns end same makes digests is,
         record {
-          trace = λ is. refl;
-          report = λ is. report_is records.report sharing (bytes text) changes same_report makes shares order is;
-          digest = λ is. digest_is records.digest digest (bytes other) turns end same_digest makes_digest digests is;
-        },
-        record {
-          filed = (λ apart. still_filed records.report records.digest (bytes text) now new kept put.filed apart.0, (λ apart. put_digest.filed, tt));
-          printed_after = λ can. Appends-trans old mid last _ _ (put.printed_after can.0) (ends_here mid last _ (put_digest.printed_after can.1.0));
+          filed = (λ apart. still_filed records.core records.digest put.0 now new kept put.2.filed apart.0, (λ apart. put_digest.filed, tt));
+          printed_after = λ can. Appends-trans old mid last _ _ (put.2.printed_after can.0) (ends_here mid last _ (put_digest.printed_after can.1.0));
         },
       )
 
-  -- the report is where it is to be, and the digest isn't
+module _ {X E : Type 0} (bytes : X → List ℕ) (tells : Type 0) (records : Records) (digest : Option DigestRecorder)
+    (end : Ended) (now new : Content) (old mid last : Option (List ℕ)) (kept : KeepsButLast records now new) where
+  -- the races and the last texts are where they are to be
+  pub rest_out : {T : Type 0} (first : Result X E) (result : Result T Failure)
+      → IsOk first → IfOk first (λ text. bytes text ≡ string_bytes end.races) → IfOk first (λ text. IsPut tells records.races (bytes text) now old mid)
+      → OnOk result ((turns : List Turn) (changes : List Change) → IfSome digest (λ digest. Digests digest turns) → AreLastWritten tells records (left_by turns changes end) new mid last)
+      → OnOk result ((turns : List Turn) (changes : List Change) → IfSome digest (λ digest. Digests digest turns) → AreRestWritten tells records (left_by turns changes end) new old last)
+  rest_out first (Err failure) made is put out = tt
+  rest_out (Err refused) (Ok value) made is put out = cc
+  rest_out (Ok text) (Ok value) made is put out =
+      λ turns changes digests.
+      let others = out turns changes digests in (
+        record { trace = []; report = []; races = bytes text; core = others.0.core; digest = others.0.digest },
+        λ _. is,
+        others.1,
+        others.2,
+        record {
+          filed = (λ apart. still_before_last records.races records (bytes text) now new kept put.filed apart.0 apart.1.0, others.3.filed);
+          printed_after = λ can. Appends-trans old mid last _ _ (put.printed_after can.0) (others.3.printed_after can.1);
+        },
+      )
+
+  -- the races are where they are to be, and not each of the last texts
+  pub rest_left : {T : Type 0} (first : Result X E) (result : Result T Failure)
+      → IsOk first → IfOk first (λ text. bytes text ≡ string_bytes end.races) → IfOk first (λ text. IsPut tells records.races (bytes text) now old mid)
+      → IfErr result (λ failure. (turns : List Turn) (changes : List Change) → AreUnwrittenLast tells records (left_by turns changes end) new mid last failure)
+      → IfErr result (λ failure. (turns : List Turn) (changes : List Change) → AreUnwrittenRest tells records (left_by turns changes end) new old last failure)
+  rest_left first (Ok value) made is put left = tt
+  rest_left (Err refused) (Err failure) made is put left = cc
+  rest_left (Ok text) (Err failure) made is put left =
+      λ turns changes. inr (record {
+        filed = λ core digest. subst (λ (races : List ℕ). IsFiled records.races races new) is (still_before_last records.races records (bytes text) now new kept put.filed core digest);
+        between = mid;
+        printed_before = subst (λ (races : List ℕ). Prints tells records.races races old mid) is put.printed_after;
+        others = left turns changes;
+      })
+
+module _ {X E : Type 0} (bytes : X → List ℕ) (tells : Type 0) (records : Records) (sharing : Option SharingRecorder) (digest : Option DigestRecorder)
+    (end : Ended) (now new : Content) (old mid last : Option (List ℕ)) (kept : KeepsButRest records now new) where
+  -- the texts that are made at the end are where they are to be
+  pub made_out : {T : Type 0} (first : Result X E) (result : Result T Failure) → is_some sharing ≡ is_some records.report
+      → IsOk first → IfOk first (λ text. MakesReport sharing (bytes text)) → IfOk first (λ text. IsPut tells records.report (bytes text) now old mid)
+      → OnOk result ((turns : List Turn) (changes : List Change) → IfSome digest (λ digest. Digests digest turns) → AreRestWritten tells records (left_by turns changes end) new mid last)
+      → OnOk result ((turns : List Turn) (changes : List Change) → IfSome sharing (λ sharing. Shares sharing changes) → IfSome digest (λ digest. Digests digest turns)
+      → AreInOrder changes → AreMadeWritten tells records (left_by turns changes end) new old last)
+  made_out (Err refused) result same made makes put out = cc
+  made_out (Ok text) (Err failure) same made makes put out = tt
+  made_out (Ok text) (Ok value) same made makes put out =
+      λ turns changes shares digests order.
+      let others = out turns changes digests in (
+        record { trace = trace_text_of turns; report = bytes text; races = others.0.races; core = others.0.core; digest = others.0.digest },
+        refl,
+        record {
+          trace = λ is. refl;
+          report = λ is. report_is records.report sharing (bytes text) changes same makes shares order is;
+          races = others.1;
+          core = others.2;
+          digest = others.3;
+        },
+        record {
+          filed = (λ apart. still_before_rest records.report records (bytes text) now new kept put.filed apart.0 apart.1.0 apart.1.1.0, others.4.filed);
+          printed_after = λ can. Appends-trans old mid last _ _ (put.printed_after can.0) (others.4.printed_after can.1);
+        },
+      )
+
+  -- the report is where it is to be, and not each of the texts after it
   pub made_left : {T : Type 0} (first : Result X E) (result : Result T Failure) → is_some sharing ≡ is_some records.report
       → IsOk first → IfOk first (λ text. MakesReport sharing (bytes text)) → IfOk first (λ text. IsPut tells records.report (bytes text) now old mid)
-      → KeepsButFileOf records.digest now new
-      → IfErr result (IsUnwrittenTo records.digest) → IfErr result (λ _. KeepsUnlessPrinted records.digest mid last)
-      → IfErr result (λ failure. (changes : List Change) → IfSome sharing (λ sharing. Shares sharing changes) → AreInOrder changes
-      → AreUnwrittenLast tells records changes new old last failure)
-  made_left (Err refused) result same made makes put others failed kept = cc
-  made_left (Ok text) (Ok value) same made makes put others failed kept = tt
-  made_left (Ok text) (Err failure) same made makes put others failed kept =
-      λ changes shares order. inr (record {
+      → IfErr result (λ failure. (turns : List Turn) (changes : List Change) → AreUnwrittenRest tells records (left_by turns changes end) new mid last failure)
+      → IfErr result (λ failure. (turns : List Turn) (changes : List Change) → IfSome sharing (λ sharing. Shares sharing changes) → AreInOrder changes
+      → AreUnwrittenMade tells records (left_by turns changes end) new old last failure)
+  made_left (Err refused) result same made makes put left = cc
+  made_left (Ok text) (Ok value) same made makes put left = tt
+  made_left (Ok text) (Err failure) same made makes put left =
+      λ turns changes shares order. inr (record {
         report = bytes text;
         is_report = λ is. report_is records.report sharing (bytes text) changes same makes shares order is;
-        filed = λ apart. still_filed records.report records.digest (bytes text) now new others put.filed apart;
+        filed = λ races core digest. still_before_rest records.report records (bytes text) now new kept put.filed races core digest;
         between = mid;
         printed_before = put.printed_after;
-        digest = record { why = failed; kept = kept };
+        others = left turns changes;
       })
 
 -- all texts are where they are to be
@@ -165,7 +291,7 @@ all_out tells records left now new old mid last put kept made =
         filed = (
           λ apart.
               subst (λ (text : List ℕ). IsFiled records.trace text new) (sym made.1)
-              (still_there records.trace records _ now new kept put.filed apart.0 apart.1.0),
+              (still_there records.trace records _ now new kept put.filed apart.0 apart.1.0 apart.1.1.0 apart.1.1.1.0),
           out.filed,
         );
         printed_after = λ can.
@@ -174,14 +300,14 @@ all_out tells records left now new old mid last put kept made =
     )
 
 -- the trace is where it is to be, and not each other text
-pub trace_out : (tells : Type 0) (records : Records) (turns : List Turn) (changes : List Change) (failure : Failure) (old now new : Content) (out mid out' : Option (List ℕ))
-    → IsPut tells records.trace (trace_text_of turns) now out mid → KeepsButMade records now new
-    → AreUnwrittenLast tells records changes new mid out' failure → AreUnwritten tells records turns changes old new out out' failure
-trace_out tells records turns changes failure old now new out mid out' put kept left = inr (record {
-  filed = λ report digest. still_there records.trace records _ now new kept put.filed report digest;
+pub trace_out : (tells : Type 0) (records : Records) (left : Left) (failure : Failure) (old now new : Content) (out mid out' : Option (List ℕ))
+    → IsPut tells records.trace (trace_text_of left.turns) now out mid → KeepsButMade records now new
+    → AreUnwrittenMade tells records left new mid out' failure → AreUnwritten tells records left old new out out' failure
+trace_out tells records left failure old now new out mid out' put kept missing = inr (record {
+  filed = λ report races core digest. still_there records.trace records _ now new kept put.filed report races core digest;
   between = mid;
   printed_before = put.printed_after;
-  others = left;
+  others = missing;
 })
 
 took : (new : Option (List ℕ)) (text : List ℕ) → Appends (Some []) new text → new ≡ Some text
@@ -191,3 +317,10 @@ took (Some all) text sent = ap Some sent
 -- a writer that held nothing and took a text holds it
 pub given_all : (old new : Option (List ℕ)) (text : List ℕ) → old ≡ Some [] → Appends old new text → new ≡ Some text
 given_all old new text is sent = took new text (subst (λ (known : Option (List ℕ)). Appends known new text) is sent)
+
+-- an output that held nothing and took a core file holds it
+pub core_given : {O : Type 0} (contents : O → Option (List ℕ)) (old new : O) (end : Ended) (threads : List CoreThread) → threads ≡ core_threads end.outcome end.threads.items
+    → Has contents old [] → (file : List ℕ) × IsCoreOf threads (cells_of end.memory) file × Appends (contents old) (contents new) file
+    → (text : List ℕ) × IsCoreAt end text × Has contents new text
+core_given contents old new end threads is empty wrote =
+    (wrote.0, subst (λ (threads : List CoreThread). IsCoreOf threads (cells_of end.memory) wrote.0) is wrote.1, λ tells. given_all (contents old) (contents new) wrote.0 (empty tells) wrote.2)

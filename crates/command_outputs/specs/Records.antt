@@ -1,9 +1,13 @@
 -- What becomes of the texts that a run leaves beside its outcome.
 use Rattle.std.specs.Prelude.{◌≡◌, ◌≢◌, ◌⊎◌, ℕ, Option, Some, List, [], ◌∷◌, ◌++◌, IfErr, IsNone, IsSome, Result}
 use Rattle.std.specs.Io.KnownBytes.{Appends}
+use Rattle.std.specs.String.{string_bytes}
 use Rattle.output_files.specs.Content.{Content}
 use Rattle.guest_memory.specs.Memory.{Memory}
 use Rattle.paged_memory.specs.Snapshot.{cells_of}
+use Rattle.thread_table.specs.declared.thread.Thread.{Thread}
+use Rattle.core_file.specs.Core.{IsCoreOf}
+use Rattle.core_file.specs.Shown.{core_threads}
 use Rattle.run_digest.specs.Texts.{digest_text}
 use Rattle.sharing_report.specs.Sharing.{IsSharing}
 use Rattle.sharing_report.specs.Texts.{text_of as report_text_of}
@@ -24,7 +28,7 @@ use Rattle.command_requests.specs.declared.records.Records.{Records}
 
 -- no text is wanted
 abbrev pub NamesNone : Records → Type 0
-NamesNone records = IsNone records.trace × IsNone records.report × IsNone records.digest
+NamesNone records = IsNone records.trace × IsNone records.report × IsNone records.races × IsNone records.core × IsNone records.digest
 
 -- why a text didn't get to its destination
 abbrev pub IsUnwrittenTo : Option Destination → Failure → Type 0
@@ -34,52 +38,83 @@ IsUnwrittenTo destination other = ⊥
 
 -- why one of the texts didn't get to its destination
 abbrev pub IsUnwritten : Records → Failure → Type 0
-IsUnwritten records failure = IsUnwrittenTo records.trace failure ⊎ (IsUnwrittenTo records.report failure ⊎ IsUnwrittenTo records.digest failure)
+IsUnwritten records failure =
+    IsUnwrittenTo records.trace failure
+    ⊎ (IsUnwrittenTo records.report failure ⊎ (IsUnwrittenTo records.races failure ⊎ (IsUnwrittenTo records.core failure ⊎ IsUnwrittenTo records.digest failure)))
 
 -- an output was begun for each text that is made at the end and wanted, and holds nothing yet
-abbrev pub AreBegunLast : {O : Type 0} → (O → Option (List ℕ)) → Records → MadeOutputs O → Type 0
-AreBegunLast contents records made = Carries contents records.report made.report [] × Carries contents records.digest made.digest []
+abbrev pub AreBegunMade : {O : Type 0} → (O → Option (List ℕ)) → Records → MadeOutputs O → Type 0
+AreBegunMade contents records made =
+    Carries contents records.report made.report [] × Carries contents records.races made.races [] × Carries contents records.core made.core []
+    × Carries contents records.digest made.digest []
 
 -- and so for the trace
 abbrev pub AreBegun : {O : Type 0} → (O → Option (List ℕ)) → Records → Outputs O → Type 0
-AreBegun contents records outputs = Carries contents records.trace outputs.trace [] × AreBegunLast contents records outputs.made
+AreBegun contents records outputs = Carries contents records.trace outputs.trace [] × AreBegunMade contents records outputs.made
 
 -- the files at all paths but the parts of the texts' files are as they were
 abbrev pub KeepsButParts : Records → Content → Content → Type 0
 KeepsButParts records old new =
-    (path : List ℕ) → ¬ IsPartFor records.trace path → ¬ IsPartFor records.report path → ¬ IsPartFor records.digest path → new path ≡ old path
+    (path : List ℕ) → ¬ IsPartFor records.trace path → ¬ IsPartFor records.report path → ¬ IsPartFor records.races path → ¬ IsPartFor records.core path
+    → ¬ IsPartFor records.digest path → new path ≡ old path
 
--- and but the files for the texts that are made at the end
+-- the files at all paths but those for the core file and the digest are as they were
+abbrev pub KeepsButLast : Records → Content → Content → Type 0
+KeepsButLast records old new =
+    (path : List ℕ) → ¬ IsFileOf records.core path → ¬ IsPartFor records.core path → ¬ IsFileOf records.digest path → ¬ IsPartFor records.digest path → new path ≡ old path
+
+-- and but that for the races
+abbrev pub KeepsButRest : Records → Content → Content → Type 0
+KeepsButRest records old new =
+    (path : List ℕ) → ¬ IsFileOf records.races path → ¬ IsPartFor records.races path → ¬ IsFileOf records.core path → ¬ IsPartFor records.core path
+    → ¬ IsFileOf records.digest path → ¬ IsPartFor records.digest path → new path ≡ old path
+
+-- and but that for the report
 abbrev pub KeepsButMade : Records → Content → Content → Type 0
 KeepsButMade records old new =
-    (path : List ℕ) → ¬ IsFileOf records.report path → ¬ IsPartFor records.report path → ¬ IsFileOf records.digest path → ¬ IsPartFor records.digest path → new path ≡ old path
+    (path : List ℕ) → ¬ IsFileOf records.report path → ¬ IsPartFor records.report path → ¬ IsFileOf records.races path → ¬ IsPartFor records.races path
+    → ¬ IsFileOf records.core path → ¬ IsPartFor records.core path → ¬ IsFileOf records.digest path → ¬ IsPartFor records.digest path → new path ≡ old path
 
 -- the texts of a run
 pub record Texts : Type 0 where
   pub trace : List ℕ
   pub report : List ℕ
+  pub races : List ℕ
+  pub core : List ℕ
   pub digest : List ℕ
 
--- what a run left: its turns, what they changed, how it ended, its output and its memory
+-- what a run left: its turns, what they changed, how it ended, its output, its memory, its threads and the text of its races
 pub record Left : Type 0 where
   pub turns : List Turn
   pub changes : List Change
   pub ends : RunOutcome
   pub output : List ℕ
   pub memory : Memory
+  pub threads : List Thread
+  pub races : List ℕ
 
 -- what a run left that had these turns, which made these changes, and that ended so
 abbrev pub left_by : List Turn → List Change → Ended → Left
-left_by turns changes end = record { turns = turns; changes = changes; ends = end.outcome; output = end.output.items; memory = cells_of end.memory }
+left_by turns changes end =
+    record { turns = turns; changes = changes; ends = end.outcome; output = end.output.items; memory = cells_of end.memory; threads = end.threads.items; races = string_bytes end.races }
 
 -- the report of the sharing of these changes
 abbrev pub IsReportOf : List Change → List ℕ → Type 0
 IsReportOf changes text = (rows : List PageRow) × IsSharing changes rows × (text ≡ report_text_of rows)
 
+-- the core file of a run that ended so and left this memory and these threads
+abbrev pub IsCore : RunOutcome → Memory → List Thread → List ℕ → Type 0
+IsCore ends memory threads file = IsCoreOf (core_threads ends threads) memory file
+
+abbrev pub IsCoreAt : Ended → List ℕ → Type 0
+IsCoreAt end file = IsCore end.outcome (cells_of end.memory) end.threads.items file
+
 -- They are those of what a run left. A text that isn't wanted is nowhere.
 pub record AreTextsOf (records : Records) (left : Left) (texts : Texts) : Type 0 where
   pub trace : IsSome records.trace → texts.trace ≡ trace_text_of left.turns
   pub report : IsSome records.report → IsReportOf left.changes texts.report
+  pub races : IsSome records.races → texts.races ≡ left.races
+  pub core : IsSome records.core → IsCore left.ends left.memory left.threads texts.core
   pub digest : IsSome records.digest → texts.digest ≡ digest_text left.ends left.output left.memory (trace_text_of left.turns)
 
 -- a text, and where it is to go, if it is wanted
@@ -87,9 +122,17 @@ pub record Placed : Type 0 where
   pub destination : Option Destination
   pub text : List ℕ
 
--- the texts that are made at the end of a run, in the order in which they are written
+-- the last texts of a run, in the order in which they are written
+abbrev pub last : Records → Texts → List Placed
+last records texts = record { destination = records.core; text = texts.core } ∷ record { destination = records.digest; text = texts.digest } ∷ []
+
+-- the races before them
+abbrev pub rest : Records → Texts → List Placed
+rest records texts = record { destination = records.races; text = texts.races } ∷ last records texts
+
+-- those that are made at its end, the report first
 abbrev pub made : Records → Texts → List Placed
-made records texts = record { destination = records.report; text = texts.report } ∷ record { destination = records.digest; text = texts.digest } ∷ []
+made records texts = record { destination = records.report; text = texts.report } ∷ rest records texts
 
 -- all texts of a run, the trace first
 abbrev pub placed : Records → Texts → List Placed
@@ -129,6 +172,18 @@ abbrev pub AreMadeWritten : Type 0 → Records → Left → Content → (old new
 AreMadeWritten tells records left content old new =
     (texts : Texts) × (texts.trace ≡ trace_text_of left.turns) × AreTextsOf records left texts × AreOut tells (made records texts) content old new
 
+-- of those after the report alone
+abbrev pub AreRestWritten : Type 0 → Records → Left → Content → (old new : Option (List ℕ)) → Type 0
+AreRestWritten tells records left content old new =
+    (texts : Texts) × (IsSome records.races → texts.races ≡ left.races) × (IsSome records.core → IsCore left.ends left.memory left.threads texts.core)
+    × (IsSome records.digest → texts.digest ≡ digest_text left.ends left.output left.memory (trace_text_of left.turns)) × AreOut tells (rest records texts) content old new
+
+-- of the last ones alone
+abbrev pub AreLastWritten : Type 0 → Records → Left → Content → (old new : Option (List ℕ)) → Type 0
+AreLastWritten tells records left content old new =
+    (texts : Texts) × (IsSome records.core → IsCore left.ends left.memory left.threads texts.core)
+    × (IsSome records.digest → texts.digest ≡ digest_text left.ends left.output left.memory (trace_text_of left.turns)) × AreOut tells (last records texts) content old new
+
 -- standard output is as it was, unless a text was to be printed there
 abbrev pub KeepsUnlessPrinted : Option Destination → (old new : Option (List ℕ)) → Type 0
 KeepsUnlessPrinted destination old new = destination ≢ Some StandardOutput → new ≡ old
@@ -151,35 +206,59 @@ pub record Misses (destination : Option Destination) (old new : Option (List ℕ
   pub why : IsUnwrittenTo destination failure
   pub kept : KeepsUnlessPrinted destination old new
 
--- The report is where it is to be, and then the digest didn't get to its destination.
-pub record DigestMisses (tells : Type 0) (records : Records) (changes : List Change) (content : Content) (old new : Option (List ℕ)) (failure : Failure) : Type 0 where
-  pub report : List ℕ
-  pub is_report : IsSome records.report → IsReportOf changes report
-  pub filed : IsApart records.report records.digest → IsFiled records.report report content
+-- The core file is where it is to be, and then the digest didn't get to its destination.
+pub record DigestMisses (tells : Type 0) (records : Records) (left : Left) (content : Content) (old new : Option (List ℕ)) (failure : Failure) : Type 0 where
+  pub core : List ℕ
+  pub is_core : IsSome records.core → IsCore left.ends left.memory left.threads core
+  pub filed : IsApart records.core records.digest → IsFiled records.core core content
   pub between : Option (List ℕ)
-  pub printed_before : Prints tells records.report report old between
+  pub printed_before : Prints tells records.core core old between
   pub digest : Misses records.digest between new failure
 
--- Why not each text that is made at the end is where it is to be: the report isn't, or the digest isn't.
-abbrev pub AreUnwrittenLast : Type 0 → Records → List Change → Content → (old new : Option (List ℕ)) → Failure → Type 0
-AreUnwrittenLast tells records changes content old new failure =
-    Misses records.report old new failure ⊎ DigestMisses tells records changes content old new failure
+-- Why not each of the last texts is where it is to be: the core file isn't, or the digest isn't.
+abbrev pub AreUnwrittenLast : Type 0 → Records → Left → Content → (old new : Option (List ℕ)) → Failure → Type 0
+AreUnwrittenLast tells records left content old new failure = Misses records.core old new failure ⊎ DigestMisses tells records left content old new failure
+
+-- The races are where they are to be, and then not each of the last texts got to its destination.
+pub record LastMiss (tells : Type 0) (records : Records) (left : Left) (content : Content) (old new : Option (List ℕ)) (failure : Failure) : Type 0 where
+  pub filed : IsApart records.races records.core → IsApart records.races records.digest → IsFiled records.races left.races content
+  pub between : Option (List ℕ)
+  pub printed_before : Prints tells records.races left.races old between
+  pub others : AreUnwrittenLast tells records left content between new failure
+
+-- Why not each text after the report is where it is to be: the races aren't, or not each of the last ones is.
+abbrev pub AreUnwrittenRest : Type 0 → Records → Left → Content → (old new : Option (List ℕ)) → Failure → Type 0
+AreUnwrittenRest tells records left content old new failure = Misses records.races old new failure ⊎ LastMiss tells records left content old new failure
+
+-- The report is where it is to be, and then not each of the texts after it got to its destination.
+pub record RestMisses (tells : Type 0) (records : Records) (left : Left) (content : Content) (old new : Option (List ℕ)) (failure : Failure) : Type 0 where
+  pub report : List ℕ
+  pub is_report : IsSome records.report → IsReportOf left.changes report
+  pub filed : IsApart records.report records.races → IsApart records.report records.core → IsApart records.report records.digest → IsFiled records.report report content
+  pub between : Option (List ℕ)
+  pub printed_before : Prints tells records.report report old between
+  pub others : AreUnwrittenRest tells records left content between new failure
+
+-- Why not each text that is made at the end is where it is to be: the report isn't, or not each of those after it is.
+abbrev pub AreUnwrittenMade : Type 0 → Records → Left → Content → (old new : Option (List ℕ)) → Failure → Type 0
+AreUnwrittenMade tells records left content old new failure = Misses records.report old new failure ⊎ RestMisses tells records left content old new failure
 
 -- The trace didn't get to its destination, and the files but its own and the parts are as they were.
 pub record TraceMisses (records : Records) (files files' : Content) (old new : Option (List ℕ)) (failure : Failure) : Type 0 where
   pub trace : Misses records.trace old new failure
   pub others :
-      (path : List ℕ) → ¬ IsFileOf records.trace path → ¬ IsPartFor records.trace path → ¬ IsPartFor records.report path → ¬ IsPartFor records.digest path
-      → files' path ≡ files path
+      (path : List ℕ) → ¬ IsFileOf records.trace path → ¬ IsPartFor records.trace path → ¬ IsPartFor records.report path → ¬ IsPartFor records.races path
+      → ¬ IsPartFor records.core path → ¬ IsPartFor records.digest path → files' path ≡ files path
 
 -- The trace is where it is to be, and then not each of the other texts got to its destination.
-pub record OthersMiss (tells : Type 0) (records : Records) (turns : List Turn) (changes : List Change) (content : Content) (old new : Option (List ℕ)) (failure : Failure) : Type 0 where
-  pub filed : IsApart records.trace records.report → IsApart records.trace records.digest → IsFiled records.trace (trace_text_of turns) content
+pub record OthersMiss (tells : Type 0) (records : Records) (left : Left) (content : Content) (old new : Option (List ℕ)) (failure : Failure) : Type 0 where
+  pub filed : IsApart records.trace records.report → IsApart records.trace records.races → IsApart records.trace records.core → IsApart records.trace records.digest
+      → IsFiled records.trace (trace_text_of left.turns) content
   pub between : Option (List ℕ)
-  pub printed_before : Prints tells records.trace (trace_text_of turns) old between
-  pub others : AreUnwrittenLast tells records changes content between new failure
+  pub printed_before : Prints tells records.trace (trace_text_of left.turns) old between
+  pub others : AreUnwrittenMade tells records left content between new failure
 
 -- Why not each text is where it is to be: the trace isn't, or not each of the others is.
-abbrev pub AreUnwritten : Type 0 → Records → List Turn → List Change → (files files' : Content) → (old new : Option (List ℕ)) → Failure → Type 0
-AreUnwritten tells records turns changes files files' old new failure =
-    TraceMisses records files files' old new failure ⊎ OthersMiss tells records turns changes files' old new failure
+abbrev pub AreUnwritten : Type 0 → Records → Left → (files files' : Content) → (old new : Option (List ℕ)) → Failure → Type 0
+AreUnwritten tells records left files files' old new failure =
+    TraceMisses records files files' old new failure ⊎ OthersMiss tells records left files' old new failure

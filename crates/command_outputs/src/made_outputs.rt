@@ -4,6 +4,10 @@
 pub struct MadeOutputs<O> {
     /// For the sharing report.
     pub report: Option<O>,
+    /// For the races.
+    pub races: Option<O>,
+    /// For the core file.
+    pub core: Option<O>,
     /// For the digest.
     pub digest: Option<O>,
 }

@@ -1,7 +1,7 @@
 //! The outputs of a run's texts, begun before its first turn.
 ghost use Rattle.std.specs.Prelude.{◌≡◌, ◌⊎◌, ℕ, List, [], IfErr, IfOk, IsNone};
 ghost use Rattle.command_requests.specs.Destination.{Carries, IsPartFor, KeepsButPartFor};
-ghost use Rattle.command_outputs.specs.Records.{AreBegun, AreBegunLast, IsUnwritten, IsUnwrittenTo, KeepsButParts, NamesNone};
+ghost use Rattle.command_outputs.specs.Records.{AreBegun, AreBegunMade, IsUnwritten, IsUnwrittenTo, KeepsButParts, NamesNone};
 
 use crate::made_outputs::MadeOutputs;
 use command_requests::{Destination, Failure, Records, Target};
@@ -38,22 +38,72 @@ pub fn begin<'a, F: Files>(
     }
 }
 
-/// Begins the outputs for the report and for the digest. Where one can't be begun none is left.
+/// Begins the outputs for the report, the races, the core file and the digest. Where one can't be begun none is left.
 fn begin_made<'a, F: Files>(
     alloc: Global,
     records: &Records<'a>,
     files: &mut F,
 ) -> Result<MadeOutputs<F::Output>, Failure<'a>>
-    ensures begun { IfOk result (λ made. AreBegunLast F.Output.contents records.now made) }
+    ensures begun { IfOk result (λ made. AreBegunMade F.Output.contents records.now made) }
     ensures kept { KeepsButParts records.now (F.content files.old) (F.content files.new) }
     ensures unnamed { NamesNone records.now → files.new ≡ files.old }
-    ensures failed { IfErr result (λ failure. IsUnwrittenTo records.now.report failure ⊎ IsUnwrittenTo records.now.digest failure) }
+    ensures failed { IfErr result (λ failure. IsUnwrittenTo records.now.report failure
+        ⊎ (IsUnwrittenTo records.now.races failure ⊎ (IsUnwrittenTo records.now.core failure ⊎ IsUnwrittenTo records.now.digest failure))) }
 {
     let report = begin_output(alloc, records.report, files)?;
-    match begin_output(alloc, records.digest, files) {
-        Ok(digest) => Ok(MadeOutputs { report, digest }),
+    match begin_rest(alloc, records, files) {
+        Ok((races, (core, digest))) => Ok(MadeOutputs {
+            report,
+            races,
+            core,
+            digest,
+        }),
         Err(failure) => {
             abandon_output(records.report, report, files);
+            Err(failure)
+        }
+    }
+}
+
+/// Begins the outputs for the races, the core file and the digest. Where one can't be begun none is left.
+fn begin_rest<'a, F: Files>(
+    alloc: Global,
+    records: &Records<'a>,
+    files: &mut F,
+) -> Result<(Option<F::Output>, (Option<F::Output>, Option<F::Output>)), Failure<'a>>
+    ensures begun { IfOk result (λ rest. Carries F.Output.contents records.now.races rest.0 []
+        × Carries F.Output.contents records.now.core rest.1.0 [] × Carries F.Output.contents records.now.digest rest.1.1 []) }
+    ensures kept { KeepsButParts records.now (F.content files.old) (F.content files.new) }
+    ensures unnamed { NamesNone records.now → files.new ≡ files.old }
+    ensures failed { IfErr result (λ failure. IsUnwrittenTo records.now.races failure
+        ⊎ (IsUnwrittenTo records.now.core failure ⊎ IsUnwrittenTo records.now.digest failure)) }
+{
+    let races = begin_output(alloc, records.races, files)?;
+    match begin_last(alloc, records, files) {
+        Ok(last) => Ok((races, last)),
+        Err(failure) => {
+            abandon_output(records.races, races, files);
+            Err(failure)
+        }
+    }
+}
+
+/// Begins the outputs for the core file and the digest. Where one can't be begun none is left.
+fn begin_last<'a, F: Files>(
+    alloc: Global,
+    records: &Records<'a>,
+    files: &mut F,
+) -> Result<(Option<F::Output>, Option<F::Output>), Failure<'a>>
+    ensures begun { IfOk result (λ last. Carries F.Output.contents records.now.core last.0 [] × Carries F.Output.contents records.now.digest last.1 []) }
+    ensures kept { KeepsButParts records.now (F.content files.old) (F.content files.new) }
+    ensures unnamed { NamesNone records.now → files.new ≡ files.old }
+    ensures failed { IfErr result (λ failure. IsUnwrittenTo records.now.core failure ⊎ IsUnwrittenTo records.now.digest failure) }
+{
+    let core = begin_output(alloc, records.core, files)?;
+    match begin_output(alloc, records.digest, files) {
+        Ok(digest) => Ok((core, digest)),
+        Err(failure) => {
+            abandon_output(records.core, core, files);
             Err(failure)
         }
     }
@@ -70,11 +120,14 @@ pub fn abandon<F: Files>(records: &Records<'_>, outputs: Outputs<F::Output>, fil
 
 /// Takes away what was begun for the texts that are made when a run has ended.
 pub fn abandon_made<F: Files>(records: &Records<'_>, made: MadeOutputs<F::Output>, files: &mut F)
-    ensures kept { (path : List ℕ) → ¬ IsPartFor records.now.report path → ¬ IsPartFor records.now.digest path
+    ensures kept { (path : List ℕ) → ¬ IsPartFor records.now.report path → ¬ IsPartFor records.now.races path → ¬ IsPartFor records.now.core path
+        → ¬ IsPartFor records.now.digest path
         → F.content files.new path ≡ F.content files.old path }
     ensures unnamed { NamesNone records.now → files.new ≡ files.old }
 {
     abandon_output(records.report, made.report, files);
+    abandon_output(records.races, made.races, files);
+    abandon_output(records.core, made.core, files);
     abandon_output(records.digest, made.digest, files);
 }
 

@@ -1,6 +1,7 @@
 //! A run's texts, put where they are to be.
-ghost use Rattle.std.specs.Prelude.{◌≡◌, ℕ, List, [], IfErr, IfOk, IfSome, IsNone, IsOk, OnOk, Some, is_some};
+ghost use Rattle.std.specs.Prelude.{◌≡◌, ◌≤◌, ℕ, List, [], IfErr, IfOk, IfSome, IsNone, IsOk, IsSome, OnOk, Some, is_some, length};
 ghost use Rattle.std.specs.String.{string_bytes};
+ghost use Rattle.abi.specs.Limits as limit;
 ghost use Rattle.output_files.specs.Content.{Has, Tells};
 ghost use Rattle.paged_memory.specs.Snapshot.{cells_of};
 ghost use Rattle.run_digest.specs.Recording.{Digests};
@@ -12,7 +13,7 @@ ghost use Rattle.tracer.specs.Recording.{Traces};
 ghost use Rattle.tracer.specs.TraceText.{text_of as trace_text_of};
 ghost use Rattle.command_requests.specs.Destination.{Carries};
 ghost use Rattle.command_outputs.specs.Recorders.{AreFor, AreTold};
-ghost use Rattle.command_outputs.specs.Records.{AreBegunLast, AreMadeWritten, AreUnwritten, AreUnwrittenLast, AreWritten, IsPut, IsReportOf, IsUnwrittenTo, KeepsButMade, LeavesOthers, NamesNone, left_by};
+ghost use Rattle.command_outputs.specs.Records.{AreBegunMade, AreLastWritten, AreMadeWritten, AreRestWritten, AreUnwritten, AreUnwrittenLast, AreUnwrittenMade, AreUnwrittenRest, AreWritten, IsCoreAt, IsPut, IsReportOf, IsUnwrittenTo, KeepsButLast, KeepsButMade, KeepsButRest, LeavesOthers, NamesNone, left_by};
 
 use crate::ended::Ended;
 use crate::made_outputs::MadeOutputs;
@@ -20,6 +21,7 @@ use crate::outputs::{abandon_made, abandon_output};
 use crate::text_recorders::TextRecorders;
 use crate::trace_failure::failure_of_turn;
 use command_requests::{Destination, Failure, Records, Target};
+use core_file::{CoreFault, core_threads, write_core};
 use output_files::Files;
 use run_digest::DigestRecorder;
 use sharing_report::{SharingRecorder, report_text};
@@ -38,14 +40,15 @@ pub fn write_records<'a, F: Files, W: Write>(
     writer: &mut W,
 ) -> Result<(), Failure<'a>>
     requires wanted { AreFor records.now recorders }
-    requires begun { AreBegunLast F.Output.contents records.now made }
+    requires begun { AreBegunMade F.Output.contents records.now made }
+    requires few { length end.threads.items ≤ limit.threads }
     ensures out { OnOk result ((turns : List TurnRecord) (changes : List Change) → AreTold F.Output.contents recorders turns changes
         → AreInOrder changes → AreWritten (Tells F.Output.contents) records.now (left_by turns changes end)
         (F.content files.new) (W.contents writer.old) (W.contents writer.new)) }
     ensures unnamed { NamesNone records.now → files.new ≡ files.old }
     ensures failed { IfErr result (λ failure. (turns : List TurnRecord) (changes : List Change)
         → AreTold F.Output.contents recorders turns changes → AreInOrder changes
-        → AreUnwritten (Tells F.Output.contents) records.now turns changes (F.content files.old) (F.content files.new)
+        → AreUnwritten (Tells F.Output.contents) records.now (left_by turns changes end) (F.content files.old) (F.content files.new)
         (W.contents writer.old) (W.contents writer.new) failure) }
 {
     let TextRecorders {
@@ -75,27 +78,174 @@ fn write_made<'a, F: Files, W: Write>(
 ) -> Result<(), Failure<'a>>
     requires report { is_some sharing ≡ is_some records.now.report }
     requires digest { is_some digest ≡ is_some records.now.digest }
-    requires begun { AreBegunLast F.Output.contents records.now made }
+    requires few { length end.threads.items ≤ limit.threads }
+    requires begun { AreBegunMade F.Output.contents records.now made }
     ensures out { OnOk result ((turns : List TurnRecord) (changes : List Change)
         → IfSome sharing (λ sharing. Shares sharing changes) → IfSome digest (λ digest. Digests digest turns) → AreInOrder changes
         → AreMadeWritten (Tells F.Output.contents) records.now (left_by turns changes end)
         (F.content files.new) (W.contents writer.old) (W.contents writer.new)) }
     ensures others { KeepsButMade records.now (F.content files.old) (F.content files.new) }
     ensures unnamed { NamesNone records.now → files.new ≡ files.old }
-    ensures failed { IfErr result (λ failure. (changes : List Change)
+    ensures failed { IfErr result (λ failure. (turns : List TurnRecord) (changes : List Change)
         → IfSome sharing (λ sharing. Shares sharing changes) → AreInOrder changes
-        → AreUnwrittenLast (Tells F.Output.contents) records.now changes
+        → AreUnwrittenMade (Tells F.Output.contents) records.now (left_by turns changes end)
         (F.content files.new) (W.contents writer.old) (W.contents writer.new) failure) }
 {
     let text = report_of(alloc, &sharing);
     match write_text(records.report, made.report, text, files, writer) {
-        Ok(()) => {
-            let text = digest_of(alloc, digest, end);
-            write_text(records.digest, made.digest, text, files, writer)
-        }
+        Ok(()) => write_rest(
+            alloc,
+            records,
+            digest,
+            made.races,
+            made.core,
+            made.digest,
+            end,
+            files,
+            writer,
+        ),
         Err(failure) => {
+            abandon_output(records.races, made.races, files);
+            abandon_output(records.core, made.core, files);
             abandon_output(records.digest, made.digest, files);
             Err(failure)
+        }
+    }
+}
+
+/// Puts the races, the core file and the digest where they are to be.
+fn write_rest<'a, F: Files, W: Write>(
+    alloc: Global,
+    records: &Records<'a>,
+    digest: Option<DigestRecorder>,
+    races_output: Option<F::Output>,
+    core_output: Option<F::Output>,
+    digest_output: Option<F::Output>,
+    end: Ended,
+    files: &mut F,
+    writer: &mut W,
+) -> Result<(), Failure<'a>>
+    requires digest { is_some digest ≡ is_some records.now.digest }
+    requires races_begun { Carries F.Output.contents records.now.races races_output [] }
+    requires core_begun { Carries F.Output.contents records.now.core core_output [] }
+    requires digest_begun { Carries F.Output.contents records.now.digest digest_output [] }
+    requires few { length end.threads.items ≤ limit.threads }
+    ensures out { OnOk result ((turns : List TurnRecord) (changes : List Change)
+        → IfSome digest (λ digest. Digests digest turns)
+        → AreRestWritten (Tells F.Output.contents) records.now (left_by turns changes end)
+        (F.content files.new) (W.contents writer.old) (W.contents writer.new)) }
+    ensures others { KeepsButRest records.now (F.content files.old) (F.content files.new) }
+    ensures unnamed { NamesNone records.now → files.new ≡ files.old }
+    ensures failed { IfErr result (λ failure. (turns : List TurnRecord) (changes : List Change)
+        → AreUnwrittenRest (Tells F.Output.contents) records.now (left_by turns changes end)
+        (F.content files.new) (W.contents writer.old) (W.contents writer.new) failure) }
+{
+    let text = String::from_str(alloc, end.races.as_str());
+    match write_text(records.races, races_output, text, files, writer) {
+        Ok(()) => write_last(
+            alloc,
+            records,
+            digest,
+            core_output,
+            digest_output,
+            end,
+            files,
+            writer,
+        ),
+        Err(failure) => {
+            abandon_output(records.core, core_output, files);
+            abandon_output(records.digest, digest_output, files);
+            Err(failure)
+        }
+    }
+}
+
+/// Puts the core file and the digest where they are to be.
+fn write_last<'a, F: Files, W: Write>(
+    alloc: Global,
+    records: &Records<'a>,
+    digest: Option<DigestRecorder>,
+    core_output: Option<F::Output>,
+    digest_output: Option<F::Output>,
+    end: Ended,
+    files: &mut F,
+    writer: &mut W,
+) -> Result<(), Failure<'a>>
+    requires digest { is_some digest ≡ is_some records.now.digest }
+    requires core_begun { Carries F.Output.contents records.now.core core_output [] }
+    requires digest_begun { Carries F.Output.contents records.now.digest digest_output [] }
+    requires few { length end.threads.items ≤ limit.threads }
+    ensures out { OnOk result ((turns : List TurnRecord) (changes : List Change)
+        → IfSome digest (λ digest. Digests digest turns)
+        → AreLastWritten (Tells F.Output.contents) records.now (left_by turns changes end)
+        (F.content files.new) (W.contents writer.old) (W.contents writer.new)) }
+    ensures others { KeepsButLast records.now (F.content files.old) (F.content files.new) }
+    ensures unnamed { NamesNone records.now → files.new ≡ files.old }
+    ensures failed { IfErr result (λ failure. (turns : List TurnRecord) (changes : List Change)
+        → AreUnwrittenLast (Tells F.Output.contents) records.now (left_by turns changes end)
+        (F.content files.new) (W.contents writer.old) (W.contents writer.new) failure) }
+{
+    match write_core_file(alloc, records.core, core_output, &end, files, writer) {
+        Ok(()) => {
+            let text = digest_of(alloc, digest, end);
+            write_text(records.digest, digest_output, text, files, writer)
+        }
+        Err(failure) => {
+            abandon_output(records.digest, digest_output, files);
+            Err(failure)
+        }
+    }
+}
+
+/// Puts the core file of a run that ended so where it is to be, where it is wanted.
+fn write_core_file<'a, F: Files, W: Write>(
+    alloc: Global,
+    destination: Option<Destination<'a>>,
+    output: Option<F::Output>,
+    end: &Ended,
+    files: &mut F,
+    writer: &mut W,
+) -> Result<(), Failure<'a>>
+    requires begun { Carries F.Output.contents destination output [] }
+    requires few { length end.now.threads.items ≤ limit.threads }
+    ensures put { OnOk result ((text : List ℕ) × (IsSome destination.entry → IsCoreAt end.now text)
+        × IsPut (Tells F.Output.contents) destination.entry text (F.content files.new) (W.contents writer.old) (W.contents writer.new)) }
+    ensures left { LeavesOthers F.content destination.entry result files.old files.new (W.contents writer.old) (W.contents writer.new) }
+{
+    let Some(output) = output else {
+        return Ok(());
+    };
+    let Some(destination) = destination else {
+        return Ok(());
+    };
+    let mut output = output;
+    match give_core(alloc, destination, &mut output, end) {
+        Ok(()) => publish(Some(destination), Some(output), files, writer),
+        Err(failure) => {
+            abandon_output(Some(destination), Some(output), files);
+            Err(failure)
+        }
+    }
+}
+
+/// Writes the core file of a run that ended so into an output.
+fn give_core<'a, O: Write>(
+    alloc: Global,
+    destination: Destination<'a>,
+    output: &mut O,
+    end: &Ended,
+) -> Result<(), Failure<'a>>
+    requires empty { Has O.contents output.old [] }
+    requires few { length end.now.threads.items ≤ limit.threads }
+    ensures whole { OnOk result ((text : List ℕ) × IsCoreAt end.now text × Has O.contents output.new text) }
+    ensures failed { IfErr result (IsUnwrittenTo (Some destination.entry)) }
+{
+    let threads = core_threads(alloc, end.outcome, end.threads.as_slice())?;
+    match write_core(alloc, threads.as_slice(), &end.memory, output) {
+        Ok(()) => Ok(()),
+        Err(CoreFault::OutOfMemory) => Err(Failure::OutOfMemory),
+        Err(CoreFault::WriteFailed | CoreFault::TooLarge) => {
+            Err(Failure::CannotWrite(destination.target()))
         }
     }
 }

@@ -84,6 +84,12 @@ fn with_records<'a>(command: Command<'a>, alloc: Global) -> Result<Command<'a>, 
         .arg(output(alloc, "report").help(
             "Write the sharing of pages to this file, or to standard output where it is -",
         ))?
+        .arg(output(alloc, "races").help(
+            "Write the data races to this file, or to standard output where it is -",
+        ))?
+        .arg(output(alloc, "core").help(
+            "Write a core file of the end, for gdb, to this file, or to standard output where it is -",
+        ))?
         .arg(output(alloc, "digest").help(
             "Write hashes of output, memory and trace to this file, or to standard output where it is -",
         ))
@@ -156,6 +162,8 @@ fn requested<'a>(matches: &ArgMatches<'a>) -> Option<Request<'a>> {
             records: Records {
                 trace: run.get_str("trace").map(Destination::named),
                 report: run.get_str("report").map(Destination::named),
+                races: run.get_str("races").map(Destination::named),
+                core: run.get_str("core").map(Destination::named),
                 digest: run.get_str("digest").map(Destination::named),
             },
         }),

@@ -40,6 +40,8 @@ fn names_of<'a>(
     }
     add_names(records.trace, &mut names)?;
     add_names(records.report, &mut names)?;
+    add_names(records.races, &mut names)?;
+    add_names(records.core, &mut names)?;
     add_names(records.digest, &mut names)?;
     Ok(names)
 }

@@ -8,6 +8,10 @@ pub struct Records<'a> {
     pub trace: Option<Destination<'a>>,
     /// For the sharing report.
     pub report: Option<Destination<'a>>,
+    /// For the races.
+    pub races: Option<Destination<'a>>,
+    /// For the core file.
+    pub core: Option<Destination<'a>>,
     /// For the digest.
     pub digest: Option<Destination<'a>>,
 }

@@ -1,5 +1,5 @@
 -- What a run answers, put together of its parts.
-use Rattle.std.proofs.Common.{◌≡◌, ◌⊎◌, ◌∙◌, inl, inr, ℕ, Option, Some, None, Result, Ok, Err, List, IfOk, refl, subst, sym}
+use Rattle.std.proofs.Common.{false, true, ◌≡◌, ◌⊎◌, ◌∙◌, inl, inr, ℕ, Option, Some, None, Result, Ok, Err, List, IfOk, IfSome, IsSome, ap, is_some, refl, subst, sym}
 use Rattle.std.proofs.KnownBytes.{Appends-trans}
 use Rattle.std.specs.Io.KnownBytes.{Appends}
 use Rattle.std.specs.Result.{IsErrAnd}
@@ -16,21 +16,27 @@ use Rattle.runtime.specs.declared.interruption.Interruption.{Interruption}
 use Rattle.runtime.specs.declared.interruption.Interruption.TheVariants as stop
 use Rattle.sharing_report.specs.Recording.{AreInOrder}
 use Rattle.token.proofs.ChangesInOrder.{phases_ascend, thread_numbers_small}
+use Rattle.thread_table.specs.declared.thread.Thread.{Thread}
 use Rattle.token.specs.Change.{Change}
-use Rattle.token.specs.History.{History, changes_of, turns_of}
+use Rattle.token.specs.History.{History, changes_of, present, turns_of}
 use Rattle.token.specs.Law.{Determinism, Progress}
 use Rattle.token.specs.Legal.{IsLegal}
 use Rattle.token.specs.RunInTurn.{point_of}
 use Rattle.token.specs.Setup.{Setup}
 use Rattle.token.specs.declared.outcome.RunOutcome.{RunOutcome}
-use Rattle.token.specs.declared.run_in_turn.RunInTurn.{RunInTurn}
 use Rattle.token.specs.declared.turn.Turn.{Turn}
 use Rattle.command_run.specs.Failure.{failure_of_interruption}
 use Rattle.command_outputs.specs.Records.{AreTextsOf, AreUnwritten, AreWritten, IsUnwritten, KeepsButParts, Left, Texts}
 use Rattle.command_outputs.specs.Recorders.{AreFor, AreSame}
-use Rattle.command_run.specs.Serves.{AreOneFile, AreRun, Concludes, Host, IsBegun, IsOpenedFrom, IsStopped, IsUnrun, LeavesTexts, RunRequest, RunsInto}
+use Rattle.symbols.specs.Symbol.{SymbolLists}
+use Rattle.symbols.specs.Symbols.{symbols_of}
+use Rattle.command_run.specs.Observing.{AreSameRun, IsObserved, IsRaceText}
+use Rattle.command_run.specs.declared.opened.Observed.{Observed}
+use Rattle.command_run.specs.declared.opened.Opened.{Opened}
+use Rattle.command_run.specs.Serves.{left_after, AreOneFile, AreOpenedFrom, AreRun, AreWantedRaces, Concludes, Host, IsBegun, IsStopped, IsUnrun, LeavesTexts, RunRequest, RunsInto}
 use Rattle.command_requests.specs.declared.destination.Destination.{Destination}
 use Rattle.command_requests.specs.declared.failure.Failure.{Failure}
+use Rattle.command_requests.specs.declared.failure.Failure.TheVariants.{OutOfMemory}
 use Rattle.command_requests.specs.declared.records.Records.{Records}
 use Rattle.command_outputs.specs.declared.text_recorders.TextRecorders.{TextRecorders}
 
@@ -40,10 +46,10 @@ handed_on Is failure (Ok value) is given = absurd given
 handed_on Is failure (Err other) is given = subst (λ (failed : Failure). Is (Err failed)) (sym given) is
 
 -- what holds of what a run was opened with holds of what it is given
-pub begun : (content input : Option (List ℕ)) (config : Config) (start : RunInTurn) (Is : Setup → Type 0)
-    → AreRun content input (IsOpenedFrom config start) → Is (point_of start).setup
+pub begun : (content input : Option (List ℕ)) (config : Config) (opened : Opened) (Is : SymbolLists → Setup → Type 0)
+    → (are : AreRun content input (AreOpenedFrom config opened)) → Is (symbols_of are.0) (point_of opened.start).setup
     → IsBegun content input config Is
-begun content input config start Is opened is = (opened.0, opened.1, opened.2, opened.3, (opened.4.0, subst Is opened.4.1 is))
+begun content input config opened Is are is = (are.0, are.1, are.2, are.3, (are.4.start.0, subst (Is (symbols_of are.0)) are.4.start.1 is))
 
 -- an end that some recorder has recorded, by another one that has recorded the same
 pub ends_as : {R Q : Type 0} (records : Recording R) (others : Recording Q) (setup : Setup) (end : RunEnd) (recorder : R) (other : Q)
@@ -51,7 +57,7 @@ pub ends_as : {R Q : Type 0} (records : Recording R) (others : Recording Q) (set
 ends_as records others setup end recorder other tells ends = answer_so setup (IsRecordedEnd records setup end recorder) (IsRecordedEnd others setup end other) same_end ends
   where
     same_end : (history : History) → IsRecordedEnd records setup end recorder history → IsRecordedEnd others setup end other history
-    same_end history is = record { ends = is.ends; output = is.output; memory = is.memory; recorded = tells (turns_of history) (changes_of history) is.recorded }
+    same_end history is = record { ends = is.ends; output = is.output; memory = is.memory; threads = is.threads; few = is.few; recorded = tells (turns_of history) (changes_of history) is.recorded }
 
 -- the changes of a legal history come in order
 pub in_order : (setup : Setup) (history : History) → IsLegal setup history → AreInOrder (changes_of history)
@@ -72,73 +78,96 @@ all_sent records setup end recorder old new ends sent =
     (ends.some.0, ends.some.1.legal, subst (λ (output : List ℕ). AppendsPrefix output old new) (sym ends.some.2.output) (appends_prefix end.output.items old new sent))
 
 -- what a run left that had these turns and changes, and this end
-abbrev left_with : List Turn → List Change → RunEnd → Left
-left_with turns changes end = record { turns = turns; changes = changes; ends = end.outcome; output = end.output.items; memory = cells_of end.memory }
+abbrev left_with : List Turn → List Change → RunEnd → (races : List ℕ) → Left
+left_with turns changes end races =
+    record { turns = turns; changes = changes; ends = end.outcome; output = end.output.items; memory = cells_of end.memory; threads = end.threads.items; races = races }
 
-module _ {R : Type 0} (told : Recording R) (tells : Type 0) (records : Records) (setup : Setup) (end : RunEnd) (recorders : R)
-    (before after : Host) (now : Content) (mid : Option (List ℕ)) (ends : Ends told setup end recorders) where
+module _ {R : Type 0} (told : Recording R) (tells : Type 0) (records : Records) (symbols : SymbolLists) (setup : Setup) (end : RunEnd) (races : List ℕ) (recorders : R)
+    (before after : Host) (now : Content) (mid : Option (List ℕ)) (ends : Ends told setup end recorders) (are_races : AreWantedRaces records symbols setup races) where
   abbrev history : History
   history = ends.some.0
 
-  leaves_texts : (texts : Texts) → AreTextsOf records (left_with (turns_of history) (changes_of history) end) texts
+  abbrev left_put : List ℕ → Left
+  left_put output =
+      record { turns = turns_of history; changes = changes_of history; ends = end.outcome; output = output; memory = cells_of end.memory; threads = end.threads.items; races = races }
+
+  left_so : (output : List ℕ)
+      → left_put output ≡ left_after setup history end.outcome output races
+  left_so output =
+      ap
+      (λ (memory : Memory). record { turns = turns_of history; changes = changes_of history; ends = end.outcome; output = output; memory = memory; threads = end.threads.items; races = races })
+      (sym ends.some.2.memory)
+      ∙ ap
+      (λ (threads : List Thread).
+      record { turns = turns_of history; changes = changes_of history; ends = end.outcome; output = output; memory = (present setup history).memory; threads = threads; races = races })
+      (sym ends.some.2.threads)
+
+  leaves_texts : (texts : Texts) → AreTextsOf records (left_with (turns_of history) (changes_of history) end races) texts
       → LeavesTexts setup records end.outcome end.output.items texts history
   leaves_texts texts are = record {
     ends_so = ends.some.2.ends;
     output_is = ends.some.2.output;
     texts_are =
-        subst (λ (memory : Memory). AreTextsOf records (record { turns = turns_of history; changes = changes_of history; ends = end.outcome; output = end.output.items; memory = memory }) texts)
-        (sym ends.some.2.memory) are;
+        let all = subst (λ (left : Left). AreTextsOf records left texts) (left_so end.output.items) are in
+        record { trace = all.trace; report = all.report; races = λ _. refl; core = all.core; digest = all.digest };
   }
 
   -- the run came to its end, and its texts are where they are to be
   pub concludes_well : Determinism → Progress → Appends before.output mid end.output.items
       → ((turns : List Turn) (changes : List Change) → told recorders turns changes → AreInOrder changes
-      → AreWritten tells records (left_with turns changes end) after.files mid after.output)
-      → Concludes tells records before after setup (Ok end.outcome)
+      → AreWritten tells records (left_with turns changes end races) after.files mid after.output)
+      → Concludes tells records symbols before after setup (Ok end.outcome)
   concludes_well one goes sent has =
       let made = has (turns_of history) (changes_of history) ends.some.2.recorded (in_order setup history ends.some.1.legal) in (
         end.output.items,
         made.0,
         one_answer setup history end.outcome (LeavesTexts setup records end.outcome end.output.items made.0) one goes ends.some.1.legal ends.some.2.ends (leaves_texts made.0 made.1),
+        λ wanted. subst (λ (text : List ℕ). IsRaceText symbols setup text) (sym (made.1.races wanted)) (are_races wanted),
         made.2.filed,
         λ can. Appends-trans before.output mid after.output _ _ sent (made.2.printed_after can),
       )
 
-  unwritten_since : (turns : List Turn) (changes : List Change) (failure : Failure) → KeepsButParts records before.files now
-      → AreUnwritten tells records turns changes now after.files mid after.output failure
-      → AreUnwritten tells records turns changes before.files after.files mid after.output failure
-  unwritten_since turns changes failure kept (inl left) =
-      inl (record { trace = left.trace; others = λ path file trace report digest. left.others path file trace report digest ∙ kept path trace report digest })
-  unwritten_since turns changes failure kept (inr left) = inr left
+  unwritten_since : (left : Left) (failure : Failure) → KeepsButParts records before.files now
+      → AreUnwritten tells records left now after.files mid after.output failure
+      → AreUnwritten tells records left before.files after.files mid after.output failure
+  unwritten_since left failure kept (inl missing) =
+      inl (record { trace = missing.trace; others = λ path file trace report races core digest. missing.others path file trace report races core digest ∙ kept path trace report races core digest })
+  unwritten_since left failure kept (inr missing) = inr missing
 
   -- the run came to its end, and one of its texts isn't where it is to be
   pub concludes_left_out : (failure : Failure) (answer : Result RunOutcome Failure) → KeepsButParts records before.files now → Appends before.output mid end.output.items
       → ((turns : List Turn) (changes : List Change) → told recorders turns changes → AreInOrder changes
-      → AreUnwritten tells records turns changes now after.files mid after.output failure)
-      → IsErrAnd answer (λ given. given ≡ failure) → Concludes tells records before after setup answer
+      → AreUnwritten tells records (left_with turns changes end races) now after.files mid after.output failure)
+      → IsErrAnd answer (λ given. given ≡ failure) → Concludes tells records symbols before after setup answer
   concludes_left_out failure answer kept sent left given =
-      handed_on (λ (given : Result RunOutcome Failure). Concludes tells records before after setup given) failure answer
+      handed_on (λ (given : Result RunOutcome Failure). Concludes tells records symbols before after setup given) failure answer
       (inr (record {
         history = history;
         complete = ends.some.1;
+        ends = end.outcome;
+        ends_so = ends.some.2.ends;
         between = mid;
         put_out = subst (λ (output : List ℕ). Appends before.output mid output) (sym ends.some.2.output) sent;
+        races = races;
+        are_races = are_races;
         unwritten =
-            unwritten_since (turns_of history) (changes_of history) failure kept
-            (left (turns_of history) (changes_of history) ends.some.2.recorded (in_order setup history ends.some.1.legal));
+            unwritten_since (left_after setup history end.outcome (present setup history).output races) failure kept
+            (subst (λ (left : Left). AreUnwritten tells records left now after.files mid after.output failure)
+            (ap (λ (output : List ℕ). left_put output) (sym ends.some.2.output) ∙ left_so (present setup history).output)
+            (left (turns_of history) (changes_of history) ends.some.2.recorded (in_order setup history ends.some.1.legal)));
       }))
       given
 
 -- the parts alone change twice
 pub but_parts_twice : (records : Records) (old now new : Content) → KeepsButParts records old now → KeepsButParts records now new → KeepsButParts records old new
-but_parts_twice records old now new first second = λ path trace report digest. second path trace report digest ∙ first path trace report digest
+but_parts_twice records old now new first second = λ path trace report races core digest. second path trace report races core digest ∙ first path trace report races core digest
 
 -- the output of a text couldn't be begun, and nothing was put out
-pub concludes_unbegun : (tells : Type 0) (records : Records) (setup : Setup) (files now : Content) (out : Option (List ℕ)) (failure : Failure) (answer : Result RunOutcome Failure)
+pub concludes_unbegun : (tells : Type 0) (records : Records) (symbols : SymbolLists) (setup : Setup) (files now : Content) (out : Option (List ℕ)) (failure : Failure) (answer : Result RunOutcome Failure)
     → KeepsButParts records files now → IsUnwritten records failure → IsErrAnd answer (λ given. given ≡ failure)
-    → Concludes tells records (record { files = files; output = out }) (record { files = now; output = out }) setup answer
-concludes_unbegun tells records setup files now out failure answer kept unwritten given =
-    handed_on (λ (given : Result RunOutcome Failure). Concludes tells records (record { files = files; output = out }) (record { files = now; output = out }) setup given) failure answer
+    → Concludes tells records symbols (record { files = files; output = out }) (record { files = now; output = out }) setup answer
+concludes_unbegun tells records symbols setup files now out failure answer kept unwritten given =
+    handed_on (λ (given : Result RunOutcome Failure). Concludes tells records symbols (record { files = files; output = out }) (record { files = now; output = out }) setup given) failure answer
     (inl (inl (unwritten, refl), kept)) given
 
 -- what another recorder has recorded of a run that has an end
@@ -159,11 +188,54 @@ pub still_for : {O : Type 0} (records : Records) (recorders others : TextRecorde
 still_for records recorders others are same = record { trace = same.trace ∙ are.trace; report = same.sharing ∙ are.report; digest = same.digest ∙ are.digest }
 
 -- a run that was begun answers what it concludes with
-pub runs_to : (tells : Type 0) (request : RunRequest) (before after : Host) (start : RunInTurn) (answer : Result RunOutcome Failure)
-    → AreRun (before.files request.path) request.input (IsOpenedFrom request.config start) → Concludes tells request.records before after (point_of start).setup answer
-    → RunsInto tells request before after answer
-runs_to tells request before after start answer opened concluded =
-    inl (begun (before.files request.path) request.input request.config start (λ setup. Concludes tells request.records before after setup answer) opened concluded)
+pub runs_to : (tells : Type 0) (request : RunRequest) (before after : Host) (opened : Opened) (answer : Result RunOutcome Failure)
+    → (are : AreRun (before.files request.path) request.input (AreOpenedFrom request.config opened))
+    → Concludes tells request.records (symbols_of are.0) before after (point_of opened.start).setup answer → RunsInto tells request before after answer
+runs_to tells request before after opened answer are concluded =
+    inl (begun (before.files request.path) request.input request.config opened (λ symbols setup. Concludes tells request.records symbols before after setup answer) are concluded)
+
+-- what the races are found by is the run itself, from its beginning
+pub observed_same : (config : Config) (opened : Opened) (elf input : List ℕ) → AreOpenedFrom config opened elf input → AreSameRun opened
+observed_same config opened elf input are = by_observed opened.observed are.observed
+  where
+    by_observed : (observed : Option Observed) → IfSome observed (IsObserved config elf input)
+        → IfSome observed (λ observed. ((point_of observed.start).setup ≡ (point_of opened.start).setup) × ((point_of observed.start).done ≡ 0))
+    by_observed None is = _
+    by_observed (Some observed) is = (is.setup ∙ sym are.start.1, is.done)
+
+pub from_beginning : (opened : Opened) → AreSameRun opened → IfSome opened.observed (λ observed. (point_of observed.start).done ≡ 0)
+from_beginning opened same = by_observed opened.observed same
+  where
+    by_observed : (observed : Option Observed) → IfSome observed (λ observed. ((point_of observed.start).setup ≡ (point_of opened.start).setup) × ((point_of observed.start).done ≡ 0))
+        → IfSome observed (λ observed. (point_of observed.start).done ≡ 0)
+    by_observed None is = _
+    by_observed (Some observed) is = is.1
+
+pub observed_symbols : (config : Config) (elf input : List ℕ) (observed : Option Observed) → IfSome observed (IsObserved config elf input)
+    → IfSome observed (λ observed. observed.symbols ≡ symbols_of elf)
+observed_symbols config elf input None is = _
+observed_symbols config elf input (Some observed) is = is.symbols
+
+none_wanted : IsSome {T = Destination} None → ⊥
+none_wanted is = cc
+
+unlike : false ≡ true → ⊥
+unlike same = cc
+
+-- the text that was made is that of the wanted races
+pub wanted_races : (records : Records) (symbols : SymbolLists) (opened : Opened) (text : List ℕ) → is_some opened.observed ≡ is_some records.races
+    → AreSameRun opened → IfSome opened.observed (λ observed. observed.symbols ≡ symbols)
+    → IfSome opened.observed (λ observed. IsRaceText observed.symbols (point_of observed.start).setup text) → AreWantedRaces records symbols (point_of opened.start).setup text
+wanted_races records symbols opened text = by_both records.races opened.observed
+  where
+    by_both : (races : Option Destination) (observed : Option Observed) → is_some observed ≡ is_some races
+        → IfSome observed (λ observed. ((point_of observed.start).setup ≡ (point_of opened.start).setup) × ((point_of observed.start).done ≡ 0))
+        → IfSome observed (λ observed. observed.symbols ≡ symbols)
+        → IfSome observed (λ observed. IsRaceText observed.symbols (point_of observed.start).setup text) → IsSome races → IsRaceText symbols (point_of opened.start).setup text
+    by_both None observed same setups names is wanted = absurd (none_wanted wanted)
+    by_both (Some to) None same setups names is wanted = absurd (unlike same)
+    by_both (Some to) (Some it) same setups names is wanted =
+        subst (λ (names : SymbolLists). IsRaceText names (point_of opened.start).setup text) names (subst (λ (given : Setup). IsRaceText it.symbols given text) setups.0 is)
 
 -- no run of the file began
 pub runs_unbegun : (tells : Type 0) (request : RunRequest) (before after : Host) (failure : Failure) (answer : Result RunOutcome Failure)
@@ -177,3 +249,10 @@ runs_unbegun tells request before after failure answer unrun files output given 
   files_kept = files;
   output_kept = output;
 })
+
+-- a run that came to its end, and for whose races memory was refused: all of its output was put out
+pub concludes_refused : {R : Type 0} (told : Recording R) (tells : Type 0) (records : Records) (symbols : SymbolLists) (setup : Setup) (end : RunEnd) (recorders : R)
+    (before after : Host) (failure : Failure) → Ends told setup end recorders → failure ≡ OutOfMemory → Appends before.output after.output end.output.items
+    → KeepsButParts records before.files after.files → Concludes tells records symbols before after setup (Err failure)
+concludes_refused told tells records symbols setup end recorders before after failure ends refused sent kept =
+    inl (inr (inl refused, all_sent told setup end recorders before.output after.output ends sent), kept)

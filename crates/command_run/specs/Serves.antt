@@ -1,6 +1,6 @@
 -- What the program answers to a request and what it leaves, told by the files' content and the standard streams as far as these are
 -- known.
-use Rattle.std.specs.Prelude.{◌≡◌, ◌⊎◌, ℕ, Option, Some, Result, Ok, Err, List, ◌++◌}
+use Rattle.std.specs.Prelude.{◌≡◌, ◌⊎◌, ℕ, Option, Some, Result, Ok, Err, List, ◌++◌, IfSome, IsSome}
 use Rattle.std.specs.Io.KnownBytes.{Appends}
 use Rattle.std.specs.Result.{IsErrAnd}
 use Rattle.elf32_reader.specs.Format.{file_limit}
@@ -23,7 +23,11 @@ use Rattle.command_requests.specs.declared.failure.Failure.{Failure}
 use Rattle.command_requests.specs.declared.failure.Failure.TheVariants.{OneFile, CannotWrite, OutOfMemory}
 use Rattle.command_requests.specs.declared.target.Target.TheVariants.{StandardOutput}
 use Rattle.command_requests.specs.declared.records.Records.{Records}
+use Rattle.command_run.specs.declared.opened.Opened.{Opened}
 use Rattle.command_run.specs.Failure.{failure_of_refusal}
+use Rattle.command_run.specs.Observing.{IsObserved, IsRaceText}
+use Rattle.symbols.specs.Symbol.{SymbolLists}
+use Rattle.symbols.specs.Symbols.{symbols_of}
 
 -- what a command finds and what it leaves: the files' content, and what standard output holds
 pub record Host : Type 0 where
@@ -51,21 +55,34 @@ AreRun content input Is =
 abbrev pub IsOpenedFrom : Config → RunInTurn → List ℕ → List ℕ → Type 0
 IsOpenedFrom config start elf input = IsAccepted elf input config × ((point_of start).setup ≡ setup_from elf input config)
 
+-- and so is what its races are found by, if they are wanted
+pub record AreOpenedFrom (config : Config) (opened : Opened) (elf input : List ℕ) : Type 0 where
+  pub start : IsOpenedFrom config opened.start elf input
+  pub observed : IfSome opened.observed (IsObserved config elf input)
+
 -- why no run of the file at a path begins
 abbrev pub IsUnrun : List ℕ → Option (List ℕ) → Option (List ℕ) → Config → Failure → Type 0
 IsUnrun path content input config failure =
     IsUnread path failure ⊎ AreRun content input (λ elf given. IsRefused elf given config failure)
 
--- what a run left that had this history and ended so, with this output
-abbrev pub left_after : Setup → History → RunOutcome → List ℕ → Left
-left_after setup history ends output =
-    record { turns = turns_of history; changes = changes_of history; ends = ends; output = output; memory = (present setup history).memory }
+-- what a run left that had this history and ended so, with this output and this text of its races
+abbrev pub left_after : Setup → History → RunOutcome → (output races : List ℕ) → Left
+left_after setup history ends output races =
+    record {
+      turns = turns_of history;
+      changes = changes_of history;
+      ends = ends;
+      output = output;
+      memory = (present setup history).memory;
+      threads = (present setup history).threads;
+      races = races;
+    }
 
 -- how a history ends, its output, and the texts of its turns and changes
 pub record LeavesTexts (setup : Setup) (records : Records) (ends : RunOutcome) (output : List ℕ) (texts : Texts) (history : History) : Type 0 where
   pub ends_so : outcome setup history ≡ Some ends
   pub output_is : (present setup history).output ≡ output
-  pub texts_are : AreTextsOf records (left_after setup history ends output) texts
+  pub texts_are : AreTextsOf records (left_after setup history ends output texts.races) texts
 
 -- There is a complete history that ends so, with this output and these texts, and so it is with every complete history.
 abbrev pub ComesTo : Setup → Records → RunOutcome → List ℕ → Texts → Type 0
@@ -82,27 +99,36 @@ IsStopped trace setup old new failure =
 abbrev pub IsHalted : Records → Option (List ℕ) → Option (List ℕ) → Failure → Setup → Type 0
 IsHalted records old new failure setup = (IsUnwritten records failure × (new ≡ old)) ⊎ IsStopped records.trace setup old new failure
 
+-- the text is that of the run's races, if they are wanted
+abbrev pub AreWantedRaces : Records → SymbolLists → Setup → List ℕ → Type 0
+AreWantedRaces records symbols setup text = IsSome records.races → IsRaceText symbols setup text
+
 -- There is a complete history, all of its output is put out, and then one of its texts didn't get to where it is to be.
-pub record IsLeftOut (tells : Type 0) (records : Records) (before after : Host) (failure : Failure) (setup : Setup) : Type 0 where
+pub record IsLeftOut (tells : Type 0) (records : Records) (symbols : SymbolLists) (before after : Host) (failure : Failure) (setup : Setup) : Type 0 where
   pub history : History
   pub complete : IsComplete setup history
+  pub ends : RunOutcome
+  pub ends_so : outcome setup history ≡ Some ends
   pub between : Option (List ℕ)
   pub put_out : Appends before.output between (present setup history).output
-  pub unwritten : AreUnwritten tells records (turns_of history) (changes_of history) before.files after.files between after.output failure
+  pub races : List ℕ
+  pub are_races : AreWantedRaces records symbols setup races
+  pub unwritten : AreUnwritten tells records (left_after setup history ends (present setup history).output races) before.files after.files between after.output failure
 
 -- What a run that nothing refuses answers: its outcome, with the output put out and each text where it is to be. Or it has no answer,
 -- and the files are as they were but for the parts; or a text didn't get to where it is to be.
-abbrev pub Concludes : Type 0 → Records → (before after : Host) → Setup → Result RunOutcome Failure → Type 0
-Concludes tells records before after setup (Ok ends) =
+abbrev pub Concludes : Type 0 → Records → SymbolLists → (before after : Host) → Setup → Result RunOutcome Failure → Type 0
+Concludes tells records symbols before after setup (Ok ends) =
     (put : List ℕ) × (texts : Texts) × ComesTo setup records ends put texts
+    × AreWantedRaces records symbols setup texts.races
     × AreFiled (placed records texts) after.files
     × (CanPrintAll tells (placed records texts) → Appends before.output after.output (put ++ printed (placed records texts)))
-Concludes tells records before after setup (Err failure) =
-    (IsHalted records before.output after.output failure setup × KeepsButParts records before.files after.files) ⊎ IsLeftOut tells records before after failure setup
+Concludes tells records symbols before after setup (Err failure) =
+    (IsHalted records before.output after.output failure setup × KeepsButParts records before.files after.files) ⊎ IsLeftOut tells records symbols before after failure setup
 
--- the file and the input were read, nothing refuses their run, and such is what it is given
-abbrev pub IsBegun : Option (List ℕ) → Option (List ℕ) → Config → (Setup → Type 0) → Type 0
-IsBegun content input config Is = AreRun content input (λ elf given. IsAccepted elf given config × Is (setup_from elf given config))
+-- the file and the input were read, nothing refuses their run, and such are the file's symbols and what the run is given
+abbrev pub IsBegun : Option (List ℕ) → Option (List ℕ) → Config → (SymbolLists → Setup → Type 0) → Type 0
+IsBegun content input config Is = AreRun content input (λ elf given. IsAccepted elf given config × Is (symbols_of elf) (setup_from elf given config))
 
 -- two arguments name one file
 abbrev pub AreOneFile : Failure → Type 0
@@ -117,5 +143,5 @@ pub record IsUnbegun (request : RunRequest) (before after : Host) (answer : Resu
 -- What a run answers: it concludes; or no run begins. The first type says that outputs tell what they hold.
 abbrev pub RunsInto : Type 0 → RunRequest → (before after : Host) → Result RunOutcome Failure → Type 0
 RunsInto tells request before after answer =
-    IsBegun (before.files request.path) request.input request.config (λ setup. Concludes tells request.records before after setup answer)
+    IsBegun (before.files request.path) request.input request.config (λ symbols setup. Concludes tells request.records symbols before after setup answer)
     ⊎ IsUnbegun request before after answer

@@ -1,6 +1,8 @@
 //! The command run, over any files and streams.
 #![tactic(auto)]
 
+mod observing;
+mod opened;
 mod performing;
 mod run_failure;
 mod running;

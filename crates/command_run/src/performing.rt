@@ -1,17 +1,21 @@
 //! Runs of files, with their texts put where they are to be.
-ghost use Rattle.std.specs.Prelude.{◌≡◌, ◌+◌, ◌-◌, ◌^◌, ◌<◌, []};
+ghost use Rattle.std.specs.Prelude.{◌≡◌, ◌+◌, ◌-◌, ◌^◌, ◌<◌, [], IfSome, is_some};
 ghost use Rattle.output_files.specs.Content.{Tells};
 ghost use Rattle.output_files.specs.Taken.{TakesAtMost};
 ghost use Rattle.run_limits.specs.Limits as limit;
 ghost use Rattle.command_outputs.specs.Records.{NamesNone};
+ghost use Rattle.symbols.specs.Symbol.{SymbolLists};
 ghost use Rattle.token.specs.RunInTurn.{point_of};
+ghost use Rattle.command_run.specs.Observing.{AreSameRun};
 ghost use Rattle.command_run.specs.Serves.{Concludes, RunsInto};
 
+use crate::observing::race_text;
+use crate::opened::Opened;
 use crate::running::{RunAttempt, open_file, run_start};
 use command_outputs::{Ended, Outputs, TextRecorders, abandon, begin, write_records};
 use command_requests::{Failure, Records, named_twice};
 use output_files::Files;
-use runtime::{Config, RunOutcome, Start, WriteSink};
+use runtime::{Config, RunOutcome, WriteSink};
 use std::alloc::Global;
 use std::io::{Read, Write};
 use std::sync::Wait;
@@ -41,28 +45,32 @@ pub fn run_file<'a, H: Threads + Wait + Sync, F: Files, R: Read, W: Write>(
     if let Some((one, other)) = named_twice(alloc, file, records, files)? {
         return Err(Failure::OneFile(one, other));
     }
-    let start = open_file(alloc, file, config, files, stdin)?;
-    run_opened_file(rt, alloc, start, config.workers, records, files, stdout)
+    let opened = open_file(alloc, file, config, records.races, files, stdin)?;
+    run_opened_file(rt, alloc, opened, config.workers, records, files, stdout)
 }
 
 /// Does all turns of a run, and puts its output and its texts where they are to be.
 fn run_opened_file<'a, H: Threads + Wait + Sync, F: Files, W: Write>(
     rt: &H,
     alloc: Global,
-    start: Start,
+    opened: Opened,
     workers: u32,
     records: &Records<'a>,
     files: &mut F,
     stdout: &mut WriteSink<W>,
 ) -> Result<RunOutcome, Failure<'a>>
-    requires output { (point_of start).state.output ≡ [] }
+    requires output { (point_of opened.start).state.output ≡ [] }
     requires failures { stdout.old.failures < 2 ^ 64 - 1 }
-    ensures answer { Concludes (Tells F.Output.contents) records.now
+    requires wanted { is_some opened.observed ≡ is_some records.now.races }
+    requires same { AreSameRun opened }
+    ensures answer { (symbols : SymbolLists) → IfSome opened.observed (λ observed. observed.symbols ≡ symbols)
+        → Concludes (Tells F.Output.contents) records.now symbols
         (record { files = F.content files.old; output = W.contents stdout.old.writer })
-        (record { files = F.content files.new; output = W.contents stdout.new.writer }) (point_of start).setup result }
+        (record { files = F.content files.new; output = W.contents stdout.new.writer }) (point_of opened.start).setup result }
     ensures unnamed { NamesNone records.now → files.new ≡ files.old }
 {
     one_history();
+    let Opened { start, observed } = opened;
     let Outputs { trace, made } = begin(alloc, records, files)?;
     let recorders = TextRecorders::new(alloc, records, trace);
     let RunAttempt { result, recorders } = run_start(
@@ -75,24 +83,33 @@ fn run_opened_file<'a, H: Threads + Wait + Sync, F: Files, W: Write>(
         stdout,
     );
     match result {
-        Ok(end) => {
-            let outcome = end.outcome;
-            let ended = Ended {
-                outcome: end.outcome,
-                output: end.output,
-                memory: end.memory,
-            };
-            write_records(
-                alloc,
-                records,
-                recorders,
-                made,
-                ended,
-                files,
-                &mut stdout.writer,
-            )?;
-            Ok(outcome)
-        }
+        Ok(end) => match race_text(rt, alloc, observed) {
+            Ok(races) => {
+                let outcome = end.outcome;
+                let ended = Ended {
+                    outcome: end.outcome,
+                    output: end.output,
+                    races,
+                    memory: end.memory,
+                    threads: end.threads,
+                };
+                write_records(
+                    alloc,
+                    records,
+                    recorders,
+                    made,
+                    ended,
+                    files,
+                    &mut stdout.writer,
+                )?;
+                Ok(outcome)
+            }
+            Err(failure) => {
+                let trace = recorders.into_trace_output();
+                abandon(records, Outputs { trace, made }, files);
+                Err(failure)
+            }
+        },
         Err(failure) => {
             let trace = recorders.into_trace_output();
             abandon(records, Outputs { trace, made }, files);

@@ -7,8 +7,11 @@ ghost use Rattle.runtime.specs.Recorded.{Ends};
 ghost use Rattle.runtime.specs.Sending.{SendsSoFar};
 ghost use Rattle.token.specs.RunInTurn.{point_of};
 ghost use Rattle.command_outputs.specs.Recorders.{AreSame, AreTold};
-ghost use Rattle.command_run.specs.Serves.{AreRun, IsOpenedFrom, IsRefused, IsStopped, IsUnrun};
+ghost use Rattle.command_run.specs.Observing.{AreSameRun};
+ghost use Rattle.command_run.specs.Serves.{AreRun, AreOpenedFrom, IsOpenedFrom, IsRefused, IsStopped, IsUnrun};
 
+use crate::observing::open_observed;
+use crate::opened::Opened;
 use crate::run_failure::{failure_of_interruption, failure_of_refusal};
 use command_outputs::TextRecorders;
 use command_requests::{Destination, Failure, Target};
@@ -34,17 +37,21 @@ pub struct RunAttempt<'a, O> {
     pub recorders: TextRecorders<O>,
 }
 
-/// The run of the program of a file on the bytes of `stdin`, of which no turn is done.
-pub fn open_file<'a, F: Files, R: Read>(
+/// The run of the program of a file on the bytes of `stdin`, of which no turn is done, and what its races are found by, if they
+/// have a destination.
+pub(crate) fn open_file<'a, F: Files, R: Read>(
     alloc: Global,
     file: &'a str,
     config: &Config,
+    races: Option<Destination<'a>>,
     files: &F,
     stdin: &mut R,
-) -> Result<Start, Failure<'a>>
+) -> Result<Opened, Failure<'a>>
     ensures input { TakesAtMost (limit.input + 1) (R.remaining stdin.old) (R.remaining stdin.new) }
-    ensures opened { IfOk result (λ start. AreRun (F.content files.now file.now) (R.remaining stdin.old) (IsOpenedFrom config.now start)) }
-    ensures output { IfOk result (λ start. (point_of start).state.output ≡ []) }
+    ensures wanted { IfOk result (λ opened. is_some opened.observed ≡ is_some races.entry) }
+    ensures opened { IfOk result (λ opened. AreRun (F.content files.now file.now) (R.remaining stdin.old) (AreOpenedFrom config.now opened)) }
+    ensures same { IfOk result AreSameRun }
+    ensures output { IfOk result (λ opened. (point_of opened.start).state.output ≡ []) }
     ensures failed { IfErr result (IsUnrun file.now (F.content files.now file.now) (R.remaining stdin.old) config.now) }
 {
     let elf = match files.read(alloc, file, FILE_LIMIT) {
@@ -55,7 +62,26 @@ pub fn open_file<'a, F: Files, R: Read>(
         Ok(input) => input,
         Err(fault) => return Err(Failure::of_read(Target::StandardInput, fault)),
     };
-    open_bytes(alloc, elf.as_slice(), input.as_slice(), config)
+    open_all(alloc, elf.as_slice(), input.as_slice(), config, races)
+}
+
+/// The run of the program that the bytes of a file are, and what its races are found by, if they have a destination.
+fn open_all<'a>(
+    alloc: Global,
+    elf: &[u8],
+    input: &[u8],
+    config: &Config,
+    races: Option<Destination<'a>>,
+) -> Result<Opened, Failure<'a>>
+    ensures wanted { IfOk result (λ opened. is_some opened.observed ≡ is_some races.entry) }
+    ensures opened { IfOk result (λ opened. AreOpenedFrom config.now opened elf.now input.now) }
+    ensures same { IfOk result AreSameRun }
+    ensures output { IfOk result (λ opened. (point_of opened.start).state.output ≡ []) }
+    ensures failed { IfErr result (IsRefused elf.now input.now config.now) }
+{
+    let start = open_bytes(alloc, elf, input, config)?;
+    let observed = open_observed(alloc, elf, input, config, races)?;
+    Ok(Opened { start, observed })
 }
 
 /// The run of the program that the bytes of a file are, of which no turn is done.
@@ -67,6 +93,7 @@ pub fn open_bytes<'a>(
 ) -> Result<Start, Failure<'a>>
     ensures opened { IfOk result (λ start. IsOpenedFrom config.now start elf.now input.now) }
     ensures output { IfOk result (λ start. (point_of start).state.output ≡ []) }
+    ensures done { IfOk result (λ start. (point_of start).done ≡ 0) }
     ensures failed { IfErr result (IsRefused elf.now input.now config.now) }
 {
     match open_run(alloc, elf, input, config) {

@@ -6,7 +6,7 @@ use hart::Hart;
 pub struct CoreThread {
     /// Its number there, from 1.
     pub pid: u32,
-    /// The number of the signal that ended it, and 0 if none did.
+    /// The number of the signal that ended the run, and 0 if none did.
     pub signal: u16,
     /// Its registers and pc.
     pub hart: Hart,

@@ -11,7 +11,7 @@ use thread_table::{Status, Thread};
 use token::RunOutcome;
 
 /// The threads of a run that ended so, as a core file shows them: the one that trapped, if one did, and then the others
-/// by their numbers.
+/// by their numbers. Each has the run's signal, since debuggers may take that of any of them.
 pub fn core_threads(
     alloc: Global,
     outcome: RunOutcome,
@@ -21,9 +21,19 @@ pub fn core_threads(
     ensures { IfOk result (λ shown. shown.items ≡ spec.core_threads outcome threads.now) }
 {
     let all = in_order(alloc, outcome, threads)?;
-    let ended = all.iter().filter(|thread| thread.signal > 0);
-    let others = all.iter().filter(|thread| thread.signal == 0);
-    ended.chain(others).copied().collect(alloc)
+    let trapped = all.iter().filter(|thread| has_trapped(outcome, thread));
+    let others = all.iter().filter(|thread| !has_trapped(outcome, thread));
+    trapped.chain(others).copied().collect(alloc)
+}
+
+/// Whether a thread is the one that trapped.
+fn has_trapped(outcome: RunOutcome, shown: &CoreThread) -> bool
+    ensures { result ≡ spec.has_trapped outcome shown.now }
+{
+    match outcome {
+        RunOutcome::Trap { thread, .. } => u64::from(shown.pid) == u64::from(thread) + 1,
+        _ => false,
+    }
 }
 
 /// All threads by their numbers.
@@ -49,17 +59,17 @@ fn core_thread(outcome: RunOutcome, number: u32, thread: &Thread) -> CoreThread
 {
     CoreThread {
         pid: number + 1,
-        signal: signal_in(outcome, number),
+        signal: signal_in(outcome),
         hart: resting(thread),
     }
 }
 
-/// The signal that ended a thread, 0 if none did.
-fn signal_in(outcome: RunOutcome, number: u32) -> u16
-    ensures { result ≡ spec.signal_in outcome number }
+/// The signal that ended a run, 0 if none did.
+fn signal_in(outcome: RunOutcome) -> u16
+    ensures { result ≡ spec.signal_in outcome }
 {
     match outcome {
-        RunOutcome::Trap { thread, trap, .. } if thread == number => signal_of(trap.cause),
+        RunOutcome::Trap { trap, .. } => signal_of(trap.cause),
         _ => 0,
     }
 }

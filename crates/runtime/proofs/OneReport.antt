@@ -1,5 +1,6 @@
 -- The answer of one complete history is that of every one: of an end, and of its report.
-use Rattle.std.proofs.Common.{◌≡◌, Option, Some, None, List, refl, ◌∙◌, ap, sym, subst}
+use Rattle.std.proofs.Common.{◌≡◌, ◌≤◌, Option, Some, None, List, length, refl, ◌∙◌, ap, sym, subst}
+use Rattle.abi.specs.Limits as limit
 use Rattle.call_table.specs.State.{State}
 use Rattle.paged_memory.specs.Snapshot.{cells_of}
 use Rattle.sharing_report.specs.Sharing.{IsSharing}
@@ -46,8 +47,8 @@ answer_so setup Is So follows answer = record {
 -- a run that ended so, and left this
 pub ends_so : {R : Type 0} → (records : Recording R) (run : RunInTurn) (setup : Setup) (end : RunEnd) (recorder : R) → Determinism → Progress → HasRecorded records recorder run
     → (point_of run).setup ≡ setup → (point_of run).ended ≡ Some end.outcome → end.output.items ≡ (point_of run).state.output → cells_of end.memory ≡ (point_of run).state.memory
-    → Ends records setup end recorder
-ends_so records run setup end recorder one goes has given ended output memory =
+    → end.threads.items ≡ (point_of run).state.threads → length end.threads.items ≤ limit.threads → Ends records setup end recorder
+ends_so records run setup end recorder one goes has given ended output memory threads few =
     let stands = has.1 in
     subst (λ (setup : Setup). Ends records setup end recorder) given
     (one_answer (point_of run).setup has.0 end.outcome (IsRecordedEnd records (point_of run).setup end recorder) one goes stands.legal (stands.ended ∙ ended)
@@ -55,6 +56,8 @@ ends_so records run setup end recorder one goes has given ended output memory =
       ends = stands.ended ∙ ended;
       output = ap (λ (state : State). state.output) stands.state ∙ sym output;
       memory = ap (λ (state : State). state.memory) stands.state ∙ sym memory;
+      threads = ap (λ (state : State). state.threads) stands.state ∙ sym threads;
+      few = few;
       recorded = has.2;
     }))
 

@@ -1,5 +1,6 @@
 -- What a run with a recorder answers.
-use Rattle.std.specs.Prelude.{◌≡◌, ℕ, Some, Result, Ok, Err, IfErr, List, [], MatchOption, Option}
+use Rattle.std.specs.Prelude.{◌≡◌, ◌≤◌, length, ℕ, Some, Result, Ok, Err, IfErr, List, [], MatchOption, Option}
+use Rattle.abi.specs.Limits as limit
 use Rattle.paged_memory.specs.Snapshot.{cells_of}
 use Rattle.token.specs.Change.{Change}
 use Rattle.token.specs.History.{History, changes_of, outcome, present, turns_of}
@@ -27,6 +28,8 @@ pub record IsRecordedEnd {R : Type 0} (records : Recording R) (setup : Setup) (e
   pub ends : outcome setup history ≡ Some end.outcome
   pub output : (present setup history).output ≡ end.output.items
   pub memory : (present setup history).memory ≡ cells_of end.memory
+  pub threads : (present setup history).threads ≡ end.threads.items
+  pub few : length end.threads.items ≤ limit.threads
   pub recorded : records recorder (turns_of history) (changes_of history)
 
 -- There is a complete history whose end it is and that was recorded, and so it is with every complete history.

@@ -59,5 +59,5 @@ Opens elf input config (Err fault) = IsUnopenedBy elf input config fault
 
 -- The run of a file of which no turn is done, where all is in order.
 abbrev pub OpensRun : List ℕ → List ℕ → Config → Result RunInTurn OpenFault → Type 0
-OpensRun elf input config (Ok start) = IsAccepted elf input config × ((point_of start).setup ≡ setup_from elf input config) × ((point_of start).state.output ≡ [])
+OpensRun elf input config (Ok start) = IsAccepted elf input config × ((point_of start).setup ≡ setup_from elf input config) × ((point_of start).state.output ≡ []) × ((point_of start).done ≡ 0)
 OpensRun elf input config (Err fault) = IsUnopenedBy elf input config fault

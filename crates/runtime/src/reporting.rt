@@ -1,5 +1,6 @@
 //! Makes the report of a run that has ended.
-ghost use Rattle.std.specs.Prelude.{◌≡◌, Some, IfOk, IfErr};
+ghost use Rattle.std.specs.Prelude.{◌≡◌, ◌≤◌, Some, IfOk, IfErr, length};
+ghost use Rattle.abi.specs.Limits as limit;
 ghost use Rattle.token.specs.Kept.{Keeps};
 ghost use Rattle.token.specs.Law.{Determinism, Progress};
 ghost use Rattle.token.specs.RunInTurn.{point_of};
@@ -11,6 +12,7 @@ ghost use Rattle.runtime.specs.Reports.{Reports};
 use crate::report::Report;
 use crate::run_end::RunEnd;
 use std::alloc::{AllocError, Global};
+use thread_table::{Thread, Threads};
 use token::{Kept, Recorder, RunOutcome, Serial};
 
 /// What a run left that ended so.
@@ -22,12 +24,27 @@ pub(crate) fn end_of<K: Recorder>(
     ensures outcome { IfOk result (λ end. end.outcome ≡ outcome) }
     ensures output { IfOk result (λ end. end.output.items ≡ (point_of serial.now).state.output) }
     ensures memory { IfOk result (λ end. cells_of end.memory ≡ (point_of serial.now).state.memory) }
+    ensures threads { IfOk result (λ end. end.threads.items ≡ (point_of serial.now).state.threads) }
+    ensures few { IfOk result (λ end. length end.threads.items ≤ limit.threads) }
 {
     Ok(RunEnd {
         outcome,
         output: Vec::from_slice(alloc, serial.output())?,
         memory: serial.now().try_clone()?,
+        threads: all_of(alloc, serial.threads())?,
     })
+}
+
+/// All threads of a table, by their numbers.
+fn all_of(alloc: Global, threads: &Threads) -> Result<Vec<Thread>, AllocError>
+    ensures all { IfOk result (λ all. all.items ≡ threads.now) }
+    ensures few { length threads.now ≤ limit.threads }
+{
+    let mut all = Vec::with_capacity(alloc, threads.len())?;
+    for number in 0..threads.len() as u32 {
+        all.push(*threads.get(number))?;
+    }
+    Ok(all)
 }
 
 /// The report of a run with this end, whose turns and changes were kept.

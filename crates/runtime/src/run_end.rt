@@ -1,5 +1,6 @@
-//! The end of a run: outcome, output and memory.
+//! The end of a run: outcome, output, memory and threads.
 use paged_memory::Snapshot;
+use thread_table::Thread;
 use token::RunOutcome;
 
 /// How a run ended, and what it left.
@@ -11,4 +12,6 @@ pub struct RunEnd {
     pub output: Vec<u8>,
     /// The shared memory at the end.
     pub memory: Snapshot,
+    /// All threads that were made, by their numbers: at most 256.
+    pub threads: Vec<Thread>,
 }

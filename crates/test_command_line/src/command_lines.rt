@@ -146,6 +146,8 @@ Options:
       --quantum <N>    After how many instructions a thread's turn ends, 1 to 2^40 [default: none]
       --trace <FILE>   Write a line for each turn to this file, or to standard output where it is -
       --report <FILE>  Write the sharing of pages to this file, or to standard output where it is -
+      --races <FILE>   Write the data races to this file, or to standard output where it is -
+      --core <FILE>    Write a core file of the end, for gdb, to this file, or to standard output where it is -
       --digest <FILE>  Write hashes of output, memory and trace to this file, or to standard output where it is -
   -h, --help           Print help
 ";
@@ -162,11 +164,21 @@ fn the_version_is_printed(rt: HostRuntime) {
 }
 
 /// Arguments of a run of which two name one file, and how the two are written.
-static TWICE_NAMED: [(&[&str], &str); 11] = [
+static TWICE_NAMED: [(&[&str], &str); 15] = [
     (&["a.elf", "--trace", "a.elf"], "a.elf and a.elf"),
     (&["a.elf", "--report", "a.elf"], "a.elf and a.elf"),
     (&["a.elf", "--digest", "a.elf"], "a.elf and a.elf"),
     (&["a.elf", "--digest", "t", "--report", "t"], "t and t"),
+    (&["a.elf", "--core", "t", "--report", "t"], "t and t"),
+    (&["a.elf", "--races", "t", "--core", "t"], "t and t"),
+    (
+        &["a.elf", "--races", "t", "--digest", "t.part"],
+        "t.part and t.part",
+    ),
+    (
+        &["a.elf", "--core", "t.part", "--digest", "t"],
+        "t.part and t.part",
+    ),
     (
         &["a.elf", "--trace", "t", "--digest", "t.part"],
         "t.part and t.part",
@@ -198,7 +210,9 @@ fn two_names_of_one_file_are_refused(rt: HostRuntime) -> Result<(), Fail> {
 
 /// Arguments of a run that name one file which doesn't count, or none.
 static COUNTED_ONCE: [&[&str]; 4] = [
-    &["-", "--trace", "-", "--report", "-", "--digest", "-"],
+    &[
+        "-", "--trace", "-", "--report", "-", "--races", "-", "--core", "-", "--digest", "-",
+    ],
     &["a", "--trace", "/dev/null", "--report", "/dev/null"],
     &["/dev/stdin", "--trace", "/dev/stdin"],
     &["a", "--trace", "b", "--report", "c", "--digest", "d"],

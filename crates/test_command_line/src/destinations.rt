@@ -71,6 +71,12 @@ fn a_path_that_cannot_be_written_is_found_before_the_first_turn(
         "--digest",
         "no/digest",
     ];
+    let line = "cannot write no/races\n";
+    let races = ["dthreads", "run", "a.elf", "--races", "no/races"];
+    check_line(&rt, &races, letter.as_slice(), &mut io::empty(), 124, line)?;
+    let line = "cannot write no/core\n";
+    let core = ["dthreads", "run", "a.elf", "--core", "no/core"];
+    check_line(&rt, &core, letter.as_slice(), &mut io::empty(), 124, line)?;
     let line = "cannot write no/digest\n";
     check_line(
         &rt,
@@ -138,6 +144,22 @@ fn a_write_that_fails_in_the_middle_leaves_the_old_files(rt: HostRuntime) -> Res
     let performed = Performed::new(&rt, &reported, &mut files, &mut io::empty());
     performed.assert_is(&rt, 124, b"", "cannot write report\n");
     files.assert_old(&rt);
+    let raced = ["dthreads", "run", "a.elf", "--races", "races"];
+    for room in [0, 50] {
+        let mut files = MemoryFiles::with_old_files(rt.alloc(), race.as_slice())?;
+        files.room = room;
+        let performed = Performed::new(&rt, &raced, &mut files, &mut io::empty());
+        performed.assert_is(&rt, 124, b"", "cannot write races\n");
+        files.assert_old(&rt);
+    }
+    let cored = ["dthreads", "run", "a.elf", "--core", "core"];
+    for room in [0, 100, 100_000, 271_187] {
+        let mut files = MemoryFiles::with_old_files(rt.alloc(), race.as_slice())?;
+        files.room = room;
+        let performed = Performed::new(&rt, &cored, &mut files, &mut io::empty());
+        performed.assert_is(&rt, 124, b"", "cannot write core\n");
+        files.assert_old(&rt);
+    }
     let printed = ["dthreads", "run", "a.elf", "--trace", "-"];
     let mut files = MemoryFiles::new(rt.alloc(), race.as_slice());
     files.room = 100;

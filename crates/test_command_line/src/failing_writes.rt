@@ -11,8 +11,9 @@ use std::sync::Wait;
 use std::test::Fail;
 use std::thread::Threads;
 
-const RUN: [&str; 9] = [
-    "dthreads", "run", "a.elf", "--trace", "trace", "--report", "report", "--digest", "digest",
+const RUN: [&str; 13] = [
+    "dthreads", "run", "a.elf", "--trace", "trace", "--report", "report", "--races", "races",
+    "--core", "core", "--digest", "digest",
 ];
 
 /// How many writes and flushes succeed, how many bytes each write takes, and how many of the eight bytes of
@@ -146,9 +147,39 @@ fn records_that_cannot_be_written(rt: HostRuntime) -> Result<(), Fail> {
         &mut files,
         &mut stdout,
         124,
-        "cannot write digest\n",
+        "cannot write races\n",
     )?;
     assert!(rt; files.report.as_slice().starts_with(b"page=00020000 "));
+    assert_eq!(rt; files.races.len(), 1000);
+    assert_eq!(rt; files.core.len(), 1000);
+    assert_eq!(rt; files.digest.len(), 1000);
+    files.good_ends = 3;
+    check(
+        &rt,
+        &RUN,
+        &mut files,
+        &mut stdout,
+        124,
+        "cannot write core\n",
+    )?;
+    assert!(rt;
+        files
+            .races
+            .as_slice()
+            .starts_with(b"race address=00020000 ")
+    );
+    assert_eq!(rt; files.core.len(), 1000);
+    assert_eq!(rt; files.digest.len(), 1000);
+    files.good_ends = 4;
+    check(
+        &rt,
+        &RUN,
+        &mut files,
+        &mut stdout,
+        124,
+        "cannot write digest\n",
+    )?;
+    assert!(rt; files.core.as_slice().starts_with(b"\x7fELF"));
     assert_eq!(rt; files.digest.len(), 1000);
     Ok(())
 }

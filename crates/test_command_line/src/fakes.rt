@@ -18,20 +18,28 @@ pub const TRACE: &str = "trace";
 /// The path of the file of `MemoryFiles` for a report.
 pub const REPORT: &str = "report";
 
+/// The path of the file of `MemoryFiles` for races.
+pub const RACES: &str = "races";
+
+/// The path of the file of `MemoryFiles` for a core file.
+pub const CORE: &str = "core";
+
 /// The path of the file of `MemoryFiles` for a digest.
 pub const DIGEST: &str = "digest";
 
 /// A path of `MemoryFiles` that can't be compared with another one, since memory is refused for that.
 pub const REFUSED: &str = "refused";
 
-/// A program, a schedule, and files in memory for a trace, a report and a digest. No other path has a file, and none can be
-/// written.
+/// A program, a schedule, and files in memory for a trace, a report, races, a core file and a digest. No other path has a
+/// file, and none can be written.
 #[derive(Drop)]
 pub struct MemoryFiles<'a> {
     pub program: &'a [u8],
     pub schedule: &'a [u8],
     pub trace: Vec<u8>,
     pub report: Vec<u8>,
+    pub races: Vec<u8>,
+    pub core: Vec<u8>,
     pub digest: Vec<u8>,
     /// How many bytes each output takes before its writes fail.
     pub room: usize,
@@ -46,6 +54,8 @@ pub struct MemoryFiles<'a> {
 struct Parts {
     trace: bool,
     report: bool,
+    races: bool,
+    core: bool,
     digest: bool,
 }
 
@@ -62,12 +72,16 @@ impl<'a> MemoryFiles<'a> {
             schedule,
             trace: Vec::new(alloc),
             report: Vec::new(alloc),
+            races: Vec::new(alloc),
+            core: Vec::new(alloc),
             digest: Vec::new(alloc),
             room: usize::MAX,
             good_ends: u32::MAX,
             parts: Parts {
                 trace: false,
                 report: false,
+                races: false,
+                core: false,
                 digest: false,
             },
         }
@@ -78,6 +92,8 @@ impl<'a> MemoryFiles<'a> {
         let mut files = MemoryFiles::new(alloc, program);
         files.trace.resize(1000, b'x')?;
         files.report.resize(1000, b'x')?;
+        files.races.resize(1000, b'x')?;
+        files.core.resize(1000, b'x')?;
         files.digest.resize(1000, b'x')?;
         Ok(files)
     }
@@ -86,13 +102,21 @@ impl<'a> MemoryFiles<'a> {
     pub fn assert_no_part(&self, rt: &impl Abort) {
         assert!(rt; !self.parts.trace, "the trace's part is left");
         assert!(rt; !self.parts.report, "the report's part is left");
+        assert!(rt; !self.parts.races, "the races' part is left");
+        assert!(rt; !self.parts.core, "the core file's part is left");
         assert!(rt; !self.parts.digest, "the digest's part is left");
     }
 
     /// Fails the test unless the files are still those of `with_old_files`, and no part is left.
     pub fn assert_old(&self, rt: &impl Abort) {
         self.assert_no_part(rt);
-        for file in [&self.trace, &self.report, &self.digest] {
+        for file in [
+            &self.trace,
+            &self.report,
+            &self.races,
+            &self.core,
+            &self.digest,
+        ] {
             assert_eq!(rt; file.len(), 1000);
             assert!(rt; file.as_slice().ends_with(b"x"));
         }
@@ -103,6 +127,8 @@ impl<'a> MemoryFiles<'a> {
         match path {
             TRACE => Some(&mut self.trace),
             REPORT => Some(&mut self.report),
+            RACES => Some(&mut self.races),
+            CORE => Some(&mut self.core),
             DIGEST => Some(&mut self.digest),
             _ => None,
         }
@@ -113,6 +139,8 @@ impl<'a> MemoryFiles<'a> {
         match path {
             TRACE => self.parts.trace = is_there,
             REPORT => self.parts.report = is_there,
+            RACES => self.parts.races = is_there,
+            CORE => self.parts.core = is_there,
             DIGEST => self.parts.digest = is_there,
             _ => {}
         }
@@ -145,7 +173,7 @@ impl Files for MemoryFiles<'_> {
 
     fn begin(&mut self, alloc: Global, path: &str) -> Result<MemoryOutput, WriteFault> {
         match path {
-            TRACE | REPORT | DIGEST => {
+            TRACE | REPORT | RACES | CORE | DIGEST => {
                 self.note_part(path, true);
                 Ok(MemoryOutput::new(alloc, self.room))
             }

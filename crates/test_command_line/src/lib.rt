@@ -6,6 +6,8 @@ mod argument_texts;
 #[cfg(test)]
 mod command_lines;
 #[cfg(test)]
+mod core_files;
+#[cfg(test)]
 mod destinations;
 #[cfg(test)]
 mod failing_writes;
@@ -15,6 +17,8 @@ mod fakes;
 mod listings;
 #[cfg(test)]
 mod performed;
+#[cfg(test)]
+mod race_lists;
 #[cfg(test)]
 mod refusals;
 #[cfg(test)]

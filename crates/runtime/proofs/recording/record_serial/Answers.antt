@@ -11,7 +11,8 @@ returns-in-Ok-end_of g c =
     record {
       end =
           ends_so g.K.Recorder.records c.take_turns.new.serial _ c.in-Ok-end_of.end c.into_recorder.result c.one_history.ensures.determinism c.one_history.ensures.progress
-          c.into_recorder.ensures c.in-Ok.ensures.setup (c.in-Ok.ensures.ended ∙ ap Some (sym c.in-Ok-end_of.ensures.outcome)) c.in-Ok-end_of.ensures.output c.in-Ok-end_of.ensures.memory;
+          c.into_recorder.ensures c.in-Ok.ensures.setup (c.in-Ok.ensures.ended ∙ ap Some (sym c.in-Ok-end_of.ensures.outcome)) c.in-Ok-end_of.ensures.output c.in-Ok-end_of.ensures.memory
+          c.in-Ok-end_of.ensures.threads c.in-Ok-end_of.ensures.few;
       writes_if = tt;
       sent = subst (Appends _ _) (sym c.in-Ok-end_of.ensures.output) (c.in-Ok.ensures.sent (g.S.Sink.taken c.args.sink.now) from_start);
       failures = search rules;

@@ -1,0 +1,6 @@
+use Rattle.std.proofs.Common.{◌∙◌}
+use Rattle.command_outputs.proofs.outputs.begin_rest.Goals as goal
+
+pub returns-in-Ok-clause-kept : goal.returns-in-Ok-clause-kept
+returns-in-Ok-clause-kept g c =
+    λ path trace report races core digest. c.in-Ok.ensures.kept path trace report races core digest ∙ c.begin_output.ensures.kept path races

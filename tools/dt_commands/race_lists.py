@@ -1,0 +1,118 @@
+"""Lists of races of programs in C.
+
+Each case of guest/tests/races/cases.c has the races that CASES names, with no quantum and with each of QUANTA the same list for 1, 2, 3, 4
+and 64 workers. Each program of guest/tests/list and each sample that is right has an empty list. DTHREADS names the program that runs the
+guests, or else ./dthreads.
+"""
+import os
+import re
+import subprocess
+import tempfile
+
+from dt_commands import guest_runs, guest_tests
+from dt_commands.progress import Progress
+from dt_commands.repository import TOP
+from dt_commands.texts import rows_of
+
+SOURCE = "guest/tests/races/cases.c"
+WORKERS, QUANTA, SECONDS = (1, 2, 3, 4, 64), (1, 7, 1000), 120
+# Each case, with its races: the object, and both accesses in their order, each with its kind and its function.
+CASES = {
+    "lost_update": ["counter: store one, load two", "counter: load one, store two", "counter: store one, store two"],
+    "under_mutex": [],
+    "reader_without_mutex": ["counter: store one, load two"],
+    "neighbouring_bytes": [],
+    "plain_flag": ["flag: store one, load two", "flag: store one, load two", "counter: store one, load two"],
+    "atomic_flag": [],
+    "phases_apart": ["counter: store one, store two"],
+    "barrier_ends": [],
+    "freed_block": [],
+    "same_value": ["counter: store one, load two"],
+    "one_path_locked": ["counter: store one, store two"],
+    "beside_created": ["counter: store main, store one"],
+    "joined": [],
+    "signalled": [],
+    "posted": [],
+    "read_write_lock": [],
+    "own_lock": [],
+    "once_made": [],
+}
+# The programs with a race: the sample of one, and the test of a loop on a plain flag.
+RACY = {"race": ["counter: store add, load add", "counter: store add, store add"], "spins": ["flag: load main, store sets"]}
+LINE = re.compile(
+    r"race address=[0-9a-f]{8} bytes=\d (load|store) thread=\d+ turn=\d+ pc=[0-9a-f]{8} (load|store) thread=\d+ turn=\d+ pc=[0-9a-f]{8}"
+    r" object=(\w+)\+\d+ in=(\w+)\+\d+ in=(\w+)\+\d+")
+
+
+def shown(text):
+    """Returns the races of a list, as CASES writes them; a line of another form as it is."""
+    found = []
+    for line in text.splitlines():
+        told = LINE.fullmatch(line)
+        found.append(f"{told[3]}: {told[1]} {told[4]}, {told[2]} {told[5]}" if told else line)
+    return found
+
+
+def list_of(elf, words=(), given=None):
+    """Returns the list of a run, or what went wrong in its place."""
+    with tempfile.TemporaryDirectory() as room, open(given or os.devnull, "rb") as it:
+        races = f"{room}/races"
+        command = [guest_runs.program(), "run", elf, "--races", races, *words]
+        ran = subprocess.run(command, stdin=it, stdout=subprocess.DEVNULL, stderr=subprocess.PIPE, timeout=SECONDS, check=False)
+        if not os.path.exists(races):
+            return f"no list: status {ran.returncode}, {ran.stderr[:200].decode(errors='replace')}"
+        with open(races, encoding="utf-8") as text:
+            return text.read()
+
+
+def test_case(tally, room, name, wanted):
+    """Tries a case with each number of workers and each quantum."""
+    elf = f"{room}/case.elf"
+    said = guest_runs.compiled(["-O2", "-g", f"-DCASE={name}", SOURCE], elf, TOP)
+    if said is not None:
+        tally.fail(f"{name}: doesn't build: {said}")
+        return
+    for quantum in (None, *QUANTA):
+        of_run = ["--quantum", str(quantum)] if quantum else []
+        texts = {list_of(elf, [*of_run, "--workers", str(it)]) for it in WORKERS}
+        if len(texts) != 1:
+            tally.fail(f"{name}, quantum {quantum}: the workers change the list")
+        if quantum is None and shown(min(texts)) != wanted:
+            tally.fail(f"{name}: {shown(min(texts))}, wanted {wanted}")
+
+
+def test_right(tally, room, name, words, source, folder, given):
+    """Tries a program, whose list must be empty but for those of RACY."""
+    elf = f"{room}/{name}.elf"
+    of_compiler = [it for it in words if it.startswith("--argument=")]
+    of_run = [part for it in words if it not in of_compiler and it != "--c++" for part in it.split("=", 1)]
+    said = guest_runs.compiled(["-O2", "-g", *of_compiler, source], elf, folder)
+    if said is not None:
+        tally.fail(f"{name}: doesn't build: {said}")
+        return
+    found = shown(list_of(elf, of_run, given))
+    if found != RACY.get(name, []):
+        tally.fail(f"{name}: {found[:5]}")
+
+
+def programs():
+    """Yields the programs of the kit's tests and the samples: name, words, source, its folder, and input."""
+    for name, _, *words in rows_of(f"{guest_tests.FOLDER}/list"):
+        if "--c++" not in words or guest_tests.has_cxx():
+            given = f"{guest_tests.FOLDER}/{name}.in"
+            yield name, words, guest_tests.source_of(name), guest_tests.FOLDER, given if os.path.exists(given) else None
+    folder = f"{TOP}/crates/test_c_samples/data"
+    for name, _, given, *_ in rows_of(f"{folder}/list"):
+        yield name, [], f"samples/c/{name}.c", TOP, None if given == "-" else f"{folder}/{given}"
+
+
+def test(_):
+    """Runs programs in C with --races: the cases have the races that are wanted, right programs and samples none."""
+    tally, right = guest_runs.Tally(), list(programs())
+    tally.tried = len(CASES) + len(right)
+    with tempfile.TemporaryDirectory() as room, Progress("programs", tally.tried) as progress:
+        tasks = [(it, lambda it=it: test_case(tally, room, it, CASES[it])) for it in CASES]
+        tasks += [(it[0], lambda it=it: test_right(tally, room, *it)) for it in right]
+        for _, task in progress.each(tasks, lambda it: it[0]):
+            task()
+    return tally.status("programs", ": the races that are wanted, and no others")
