@@ -1,13 +1,10 @@
 //! How programs of a few words are run.
 
 use data_guest_programs::{EXIT, file_of, operands};
-use elf32_reader::read;
-use paged_memory::WholeMemory;
 use runtime::{Config, MAX_BOUND, OpenGate, RunFault, RunOutcome, run};
 use std::alloc::{AllocError, Global};
 use std::process::Abort;
 use std::sync::Wait;
-use std::test::Fail;
 use std::thread::Threads;
 
 /// As many instructions as a run may have, no quantum, and one worker.
@@ -19,12 +16,6 @@ pub const CONFIG: Config = Config {
 
 /// How many workers a run is tried with. Their number changes no answer.
 pub static WORKERS: [u32; 3] = [1, 4, 64];
-
-/// The memory of a file of these words.
-pub fn memory_of(alloc: Global, words: &[u32]) -> Result<WholeMemory, Fail> {
-    let file = file_of(alloc, words)?;
-    Ok(WholeMemory::of_image(alloc, &read(alloc, &file)?)?)
-}
 
 /// How a run ended, or why there is no report of it.
 pub type Ending = Result<RunOutcome, RunFault>;
