@@ -1,3 +1,6 @@
 pub mod Ending
-pub mod Telling
+pub mod GoingOn
+pub mod Sliced
+pub mod Stretched
+pub mod Told
 pub mod Turning

@@ -23,7 +23,7 @@ use Rattle.observed_run.specs.Calls.{AreOfEnd, blocked_in, held_by, let_go}
 use Rattle.observed_run.specs.Runs.{AreEvents, AreLast, AreOfTurn, actor_of, needed_events, segment_events, thread_by}
 use Rattle.observed_run.specs.Told.{IsTold}
 use Rattle.observed_run.specs.declared.actor.Actor.{Actor}
-use Rattle.observed_run.proofs.Telling.{told_more, told_none}
+use Rattle.observed_run.proofs.Told.{told_more, told_none}
 
 -- the next phase leaves the state as it was
 passed_state : (point : Point) → (passed_on point).state ≡ point.state

@@ -2,4 +2,6 @@ pub mod Calls
 pub mod Ended
 pub mod Events
 pub mod Runs
+pub mod Slices
+pub mod Stretches
 pub mod Told

@@ -1,32 +1,33 @@
 //! The event that an instruction is: the load or store that it makes, or a hint.
-ghost use Rattle.std.specs.Prelude.{◌≡◌, ◌%◌, ◌/◌, Some};
+ghost use Rattle.std.specs.Prelude.{◌≡◌, ◌≤◌, ◌<◌, ◌+◌, ◌^◌, ◌%◌, ◌/◌, ℕ, Some};
 ghost use Rattle.decoded_code.specs.Code.{HasCode, entry_at};
+ghost use Rattle.hart.specs.HartState.{with_pc};
 ghost use Rattle.observed_run.specs.Events as spec;
 
 use crate::actor::Actor;
-use crate::ranges::access;
 use decoded_code::{CodeSlice, entry as entry_of_word};
 use decoder::{Instr, Register};
 use guest_memory::GuestMemory;
 use hart::Hart;
-use races::{Event, Site};
+use races::{Access, ByteSet, Event, Site};
 
-/// The event that an instruction of a thread is, none if it loads and stores nothing and is no hint.
+/// The event that an instruction of a thread is at an address, none if it loads and stores nothing and is no hint.
 #[tactic(auto, unfolding(crate::specs::Events::event_of))]
-pub(crate) fn event_of(actor: Actor, hart: &Hart, instr: &Instr) -> Option<Event>
-    ensures { result ≡ spec.event_of actor hart.now instr.now }
+#[inline(always)]
+pub(crate) fn event_of(actor: Actor, hart: &Hart, pc: u32, instr: &Instr) -> Option<Event>
+    ensures { result ≡ spec.event_of actor (with_pc hart.now pc) instr.now }
 {
     match *instr {
         Instr::Lb { rs1, offset, .. } | Instr::Lbu { rs1, offset, .. } => {
-            Some(load(actor, hart, rs1, offset.word(), 1))
+            Some(load(actor, hart, pc, rs1, offset.word(), 1))
         }
         Instr::Lh { rs1, offset, .. } | Instr::Lhu { rs1, offset, .. } => {
-            Some(load(actor, hart, rs1, offset.word(), 2))
+            Some(load(actor, hart, pc, rs1, offset.word(), 2))
         }
-        Instr::Lw { rs1, offset, .. } => Some(load(actor, hart, rs1, offset.word(), 4)),
-        Instr::Sb { rs1, offset, .. } => Some(store(actor, hart, rs1, offset.word(), 1)),
-        Instr::Sh { rs1, offset, .. } => Some(store(actor, hart, rs1, offset.word(), 2)),
-        Instr::Sw { rs1, offset, .. } => Some(store(actor, hart, rs1, offset.word(), 4)),
+        Instr::Lw { rs1, offset, .. } => Some(load(actor, hart, pc, rs1, offset.word(), 4)),
+        Instr::Sb { rs1, offset, .. } => Some(store(actor, hart, pc, rs1, offset.word(), 1)),
+        Instr::Sh { rs1, offset, .. } => Some(store(actor, hart, pc, rs1, offset.word(), 2)),
+        Instr::Sw { rs1, offset, .. } => Some(store(actor, hart, pc, rs1, offset.word(), 4)),
         Instr::Slt { rd, rs1, rs2 } if rd.number() == 0 => signed_hint(actor, hart, rs1, rs2),
         Instr::Sltu { rd, rs1, rs2 } if rd.number() == 0 => unsigned_hint(actor, hart, rs1, rs2),
         _ => None,
@@ -34,21 +35,21 @@ pub(crate) fn event_of(actor: Actor, hart: &Hart, instr: &Instr) -> Option<Event
 }
 
 /// A load of so many bytes at a register's address plus an offset.
-fn load(actor: Actor, hart: &Hart, base: Register, offset: u32, width: u32) -> Event
-    ensures { result ≡ spec.load actor hart.now base offset width }
+#[inline(always)]
+fn load(actor: Actor, hart: &Hart, pc: u32, base: Register, offset: u32, width: u32) -> Event
+    requires { width ≤ 4 }
+    ensures { result ≡ spec.load actor (with_pc hart.now pc) base offset width }
 {
-    access_at(actor.load(hart.pc()), address_of(hart, base, offset), width)
+    access_at(actor.load(pc), address_of(hart, base, offset), width)
 }
 
 /// A store of so many bytes at a register's address plus an offset.
-fn store(actor: Actor, hart: &Hart, base: Register, offset: u32, width: u32) -> Event
-    ensures { result ≡ spec.store actor hart.now base offset width }
+#[inline(always)]
+fn store(actor: Actor, hart: &Hart, pc: u32, base: Register, offset: u32, width: u32) -> Event
+    requires { width ≤ 4 }
+    ensures { result ≡ spec.store actor (with_pc hart.now pc) base offset width }
 {
-    access_at(
-        actor.store(hart.pc()),
-        address_of(hart, base, offset),
-        width,
-    )
+    access_at(actor.store(pc), address_of(hart, base, offset), width)
 }
 
 /// A register's address plus an offset.
@@ -60,10 +61,31 @@ fn address_of(hart: &Hart, base: Register, offset: u32) -> u32
 }
 
 /// An access of so many bytes at an address, all in one word.
+#[inline(always)]
 fn access_at(site: Site, address: u32, width: u32) -> Event
+    requires { width ≤ 4 }
     ensures { result ≡ spec.access_at site address width }
 {
-    access(site, address / 4, address, width)
+    let from = address % 4;
+    Event::Access(Access {
+        site,
+        word: address / 4,
+        bytes: ByteSet {
+            first: is_within(0, from, width),
+            second: is_within(1, from, width),
+            third: is_within(2, from, width),
+            fourth: is_within(3, from, width),
+        },
+    })
+}
+
+/// Whether a place of a word is among those from another on, so many.
+#[inline(always)]
+fn is_within(place: u32, from: u32, width: u32) -> bool
+    requires { from + width < 2 ^ 32 }
+    ensures { (address : ℕ) → address % 4 ≡ from → result ≡ spec.is_among (address / 4) place address width }
+{
+    from <= place && place < from + width
 }
 
 /// The hint that SLT into x0 is.
@@ -112,8 +134,8 @@ pub(crate) fn next_event<M: GuestMemory>(
 {
     let pc = hart.pc();
     match code.at(pc) {
-        Some(entry) => event_of(actor, hart, entry),
-        None => event_of(actor, hart, &entry_in(memory, pc)),
+        Some(entry) => event_of(actor, hart, pc, entry),
+        None => event_of(actor, hart, pc, &entry_in(memory, pc)),
     }
 }
 

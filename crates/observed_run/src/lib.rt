@@ -7,6 +7,10 @@ mod call_events;
 mod instruction_event;
 mod observing;
 mod ranges;
+mod register_set;
 mod run;
+mod straight;
+mod stretch;
+mod telling;
 
 pub use run::races_of_run;

@@ -5,13 +5,13 @@ ghost use Rattle.token.specs.RunInTurn.{point_of};
 ghost use Rattle.observed_run.specs.Runs as spec;
 ghost use Rattle.token.specs.declared.turn_fault.TurnFault.TheVariants.{OutOfMemory};
 ghost use Rattle.observed_run.specs.Runs.{AreRacesOf};
-ghost use Rattle.observed_run.specs.Told.{IsTold};
 
 use crate::actor::{Actor, byte_of};
 use crate::before::Before;
 use crate::call_events::{Ended, end_events, let_go};
 use crate::observing::observe;
-use races::{Event, Race, RaceRecorder};
+use crate::telling::tell_all;
+use races::{Race, RaceRecorder};
 use std::alloc::{AllocError, Global};
 use std::sync::Wait;
 use token::{Need, NoRecord, RunOutcome, SegmentEnd, Serial, Start, TurnFault};
@@ -118,14 +118,4 @@ impl ObservedRun {
         let events = end_events(alloc, &ended, end, turn.stop)?;
         Ok(tell_all(&mut self.recorder, &events)?)
     }
-}
-
-/// Tells some events, one after another.
-fn tell_all(recorder: &mut RaceRecorder, events: &[Event]) -> Result<(), AllocError>
-    ensures { OnOk result (IsTold recorder.old recorder.new events.now) }
-{
-    for event in events {
-        recorder.record(event)?;
-    }
-    Ok(())
 }

@@ -1,6 +1,6 @@
 -- The accesses that are kept of a word, with one step more at the end.
 use Rattle.std.proofs.Common.{◌≡◌, ℕ, zero, suc, ◌+◌, ◌≤◌, ◌<◌, Bool, true, false, not, cond, Option, Some, None, List, [], ◌∷◌, ◌++◌, length, filter, get_or, set, refl, sym, ◌∙◌, ap, subst, arith, ⊎_elim, inl, inr}
-use Rattle.std.specs.Prelude.{◌⊎◌, ◌↔◌, Contains, MatchOption}
+use Rattle.std.specs.Prelude.{◌⊎◌, ◌↔◌, Contains, IsTrue, MatchOption}
 use Rattle.std.specs.Option.{option_to_list}
 use Rattle.std.proofs.lemmas.Bool.{cases_lt, cases_eq}
 use Rattle.std.proofs.lemmas.List.{get_or-set_same, get_or-set_other, get_or_default, length_push}
@@ -377,6 +377,15 @@ kept_alone (Some was) own replaced = record {
       let same = one_contained was past among in
       inl (subst (λ (one : Latest). IsSameAuthor own.site one.site) same replaced.author, replaced.bytes place (ap (λ (one : Latest). has one.bytes place) same ∙ there));
 }
+
+-- the first one, or the only one
+pub kept_first : (first : Option Latest) (own : Latest) (others : List Latest) → MatchOption first (others ≡ []) (λ was. IsReplaced was own) → IsKept own (option_to_list first ++ others) (own ∷ others)
+kept_first None own others none = subst (λ (all : List Latest). IsKept own all (own ∷ all)) (sym none) (kept_alone None own tt)
+kept_first (Some was) own others replaced = kept_at own was (was ∷ others) 0 (omega arith) refl replaced
+
+pub kept_again : (first : Option Latest) (own : Latest) (others : List Latest) → MatchOption first (IsTrue false) (λ was. IsReplaced was own) → IsKept own (option_to_list first ++ others) (own ∷ others)
+kept_again None own others never = absurd (cc never)
+kept_again (Some was) own others replaced = kept_first (Some was) own others replaced
 
 -- an access of the word
 pub latest_kept : (steps : List Step) (access : Access) (old new : List Latest) → IsKept (record { site = access.site; bytes = access.bytes; step = length steps }) old new → KnowsLatest steps access.word old

@@ -1,9 +1,9 @@
 -- What is kept of the words of pages, as one of them changes.
-use Rattle.std.proofs.Common.{◌≡◌, ℕ, zero, suc, ◌+◌, ◌*◌, ◌/◌, ◌%◌, ◌≤◌, ◌<◌, Some, List, [], ◌∷◌, ◌++◌, length, get_or, set, refl, sym, ◌∙◌, ap, subst, arith, ⊎_elim, inl, inr}
-use Rattle.std.specs.Prelude.{◌⊎◌, MatchOption, Option, slice_get}
+use Rattle.std.proofs.Common.{◌≡◌, ℕ, zero, suc, ◌+◌, ◌*◌, ◌/◌, ◌%◌, ◌≤◌, ◌<◌, None, Some, List, [], ◌∷◌, ◌++◌, length, get_or, set, refl, sym, ◌∙◌, ap, subst, arith, ⊎_elim, inl, inr}
+use Rattle.std.specs.Prelude.{◌⊎◌, IsTrue, MatchOption, Option, nat_le, slice_get}
 use Rattle.std.specs.Option.{option_to_list}
-use Rattle.std.proofs.lemmas.List.{append-nil}
 use Rattle.std.proofs.lemmas.Bool.{cases_lt, cases_eq}
+use Rattle.std.proofs.lemmas.Bool.Decides.{nat_tests}
 use Rattle.std.proofs.lemmas.Option.{slice_get_read, slice_get_past}
 use Rattle.races.specs.Races.{Renews}
 use Rattle.races.specs.Steps.Step.{Renew}
@@ -12,7 +12,7 @@ use Rattle.races.specs.declared.latest.Latest.{Latest}
 use Rattle.races.specs.declared.page.Page.{Page}
 use Rattle.races.specs.declared.word.Word.{Word}
 use Rattle.races.proofs.Clocked.{get_set, get_set_apart}
-use Rattle.races.proofs.Kept.{kept_alone, kept_both, renewed_none, renewed_outside, renewed_same}
+use Rattle.races.proofs.Kept.{kept_after, kept_both, kept_first, renewed_none, renewed_outside, renewed_same}
 
 -- ---- the places of a page
 
@@ -91,16 +91,35 @@ module _ (firsts : List (Option Latest)) (words : List Word) (place : ℕ) (own 
       (both_same _ _ _ _ (sym (word_is option_to_list firsts place first left in_firsts first_is)) (sym (word_is latest_of words place was now in_words was_is)))
       (kept_both own (option_to_list first) (option_to_list left) (latest_of was) (latest_of now) erased kept)
 
-  -- the only access
-  pub place_alone : (first : Option Latest) → place < length firsts → first ≡ get_or firsts place first → length words ≤ place → MatchOption first (Unit {0}) (λ past. IsReplaced past own)
+  none_past : (first : Option Latest) → MatchOption first (IsTrue (nat_le (length words) place)) (λ past. IsReplaced past own) → MatchOption first (kept_by latest_of (slice_get words place) ≡ []) (λ past. IsReplaced past own)
+  none_past None none = ap (kept_by latest_of) (slice_get_past words place (grind (arith, nat_tests)))
+  none_past (Some past) replaced = replaced
+
+  -- an access that takes the first one's place, of a page that has no words so far if there is none
+  pub place_first : (first : Option Latest) → place < length firsts → first ≡ get_or firsts place first → MatchOption first (IsTrue (nat_le (length words) place)) (λ past. IsReplaced past own)
       → IsKept own (kept_by option_to_list (slice_get firsts place) ++ kept_by latest_of (slice_get words place))
       (kept_by option_to_list (slice_get (set firsts place (Some own)) place) ++ kept_by latest_of (slice_get words place))
-  place_alone first in_firsts first_is none free =
-      let nothing : kept_by latest_of (slice_get words place) ≡ [] = ap (kept_by latest_of) (slice_get_past words place none) in
+  place_first first in_firsts first_is free =
       kept_same own _ _ _ _
-      (sym (both_same _ _ _ _ (word_was option_to_list firsts place first (Some own) in_firsts first_is) nothing ∙ append-nil (option_to_list first)))
-      (sym (both_same _ _ _ _ (word_is option_to_list firsts place first (Some own) in_firsts first_is) nothing ∙ append-nil (own ∷ [])))
-      (kept_alone first own free)
+      (both_same _ _ _ _ (sym (word_was option_to_list firsts place first (Some own) in_firsts first_is)) refl)
+      (both_same _ _ _ _ (sym (word_is option_to_list firsts place first (Some own) in_firsts first_is)) refl)
+      (kept_first first own (kept_by latest_of (slice_get words place)) (none_past first free))
+
+  -- a later one
+  pub place_later : (was now : Word) → place < length words → was ≡ get_or words place was → IsKept own (latest_of was) (latest_of now)
+      → IsKept own (kept_by option_to_list (slice_get firsts place) ++ kept_by latest_of (slice_get words place))
+      (kept_by option_to_list (slice_get firsts place) ++ kept_by latest_of (slice_get (set words place now) place))
+  place_later was now in_words was_is kept =
+      kept_same own _ _ _ _
+      (both_same _ _ _ _ refl (sym (word_was latest_of words place was now in_words was_is)))
+      (both_same _ _ _ _ refl (sym (word_is latest_of words place was now in_words was_is)))
+      (kept_after own (kept_by option_to_list (slice_get firsts place)) (latest_of was) (latest_of now) kept)
+
+  -- what is kept of a later one stays the same
+  pub place_stays : (was now : Word) → place < length words → was ≡ get_or words place was → latest_of now ≡ latest_of was
+      → kept_by option_to_list (slice_get firsts place) ++ kept_by latest_of (slice_get (set words place now) place) ≡ kept_by option_to_list (slice_get firsts place) ++ kept_by latest_of (slice_get words place)
+  place_stays was now in_words was_is same =
+      both_same _ _ _ _ refl (word_is latest_of words place was now in_words was_is ∙ same ∙ sym (word_was latest_of words place was now in_words was_is))
 
 -- ---- the pages
 

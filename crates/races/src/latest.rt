@@ -20,6 +20,7 @@ pub(crate) struct Latest {
 
 impl Latest {
     /// Whether it races with an access of now: another thread's, one of both a store, and not in the past of the other.
+    #[inline(always)]
     pub(crate) fn is_hit(&self, access: &Access, clocks: &Clocks) -> bool
         ensures { IsTrue result ↔ IsHit (time_of clocks.now.threads.clocks.items access.now.site.thread) self.now access.now }
     {
@@ -56,6 +57,7 @@ impl Latest {
     }
 
     /// Whether a later access is the same: of the same bytes by the same instruction of the thread.
+    #[inline(always)]
     pub(crate) fn is_again(&self, own: &Latest) -> bool
         ensures { IsTrue result → IsReplaced self.now own.now }
     {

@@ -1,11 +1,11 @@
 //! What is kept of the words of a page.
-ghost use Rattle.std.specs.Prelude.{◌≡◌, ℕ, ◌+◌, ◌-◌, ◌<◌, ◌≤◌, ◌^◌, [], MatchOption, OnOk, Some, vec_len};
+ghost use Rattle.std.specs.Prelude.{◌≡◌, ℕ, ◌+◌, ◌-◌, ◌<◌, ◌≤◌, ◌^◌, [], IsFalse, IsTrue, MatchOption, OnOk, Some, vec_len};
 ghost use Rattle.std.specs.Option.{option_to_list};
 ghost use Rattle.races.specs.Words.{IsKept, IsRenewed, first_on, latest_of, latest_on, others_on};
 
 use crate::fresh::Fresh;
 use crate::latest::Latest;
-use crate::word::{Word, is_free, left};
+use crate::word::{Word, left, takes_first};
 use std::alloc::{AllocError, Global};
 
 /// A page has so many words, which follow each other.
@@ -60,14 +60,32 @@ impl Page {
         ensures others { OnOk result ((other : ℕ) → (place ≡ other → ⊥) → latest_on (Some self.new) other ≡ latest_on (Some self.old) other) }
     {
         self.reach(place)?;
-        if self.words.len() > place || !is_free(&self.firsts[place], &own) {
-            return self.keep_after(alloc, place, own);
+        let is_alone = self.words.len() <= place;
+        if takes_first(&self.firsts[place], is_alone, &own) {
+            self.firsts[place] = Some(own);
+            return Ok(());
         }
-        self.firsts[place] = Some(own);
-        Ok(())
+        if self.replace(place, &own) {
+            return Ok(());
+        }
+        self.keep_after(alloc, place, own)
+    }
+
+    /// Puts an access in the place of the later one that it is again, if there is one.
+    fn replace(&mut self, place: usize, own: &Latest) -> bool
+        ensures kept { IsTrue result → IsKept own.now (latest_on (Some self.old) place) (latest_on (Some self.new) place) }
+        ensures stays { IsFalse result → latest_on (Some self.new) place ≡ latest_on (Some self.old) place }
+        ensures others { (other : ℕ) → (place ≡ other → ⊥) → latest_on (Some self.new) other ≡ latest_on (Some self.old) other }
+        ensures firsts { self.new.firsts ≡ self.old.firsts }
+    {
+        if self.words.len() <= place {
+            return false;
+        }
+        self.words[place].replace(own)
     }
 
     /// Keeps an access of the word at a place after the others.
+    #[inline(never)]
     fn keep_after(&mut self, alloc: Global, place: usize, own: Latest) -> Result<(), AllocError>
         requires inside { place < vec_len self.old.firsts }
         requires small { place < 1024 }

@@ -30,6 +30,8 @@ impl RaceMap {
     }
 
     /// Notes a race at a word.
+    #[cold]
+    #[inline(never)]
     pub(crate) fn note(&mut self, word: u32, race: Found) -> Result<(), AllocError>
         ensures noted { OnOk result (IsNoted (found_at self.old.words word) (found_at self.new.words word) race) }
         ensures others { OnOk result ((other : ℕ) → (word ≡ other → ⊥) → found_at self.new.words other ≡ found_at self.old.words other) }

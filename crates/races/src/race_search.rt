@@ -29,6 +29,7 @@ pub(crate) fn find_races(
 }
 
 /// Notes the race of an access with one that is kept, if there is one.
+#[inline(always)]
 pub(crate) fn find_first(
     races: &mut RaceMap,
     first: &Option<Latest>,
@@ -63,6 +64,7 @@ fn find_others(
 }
 
 /// Notes the race of an access of now with one of before, if they race.
+#[inline(always)]
 fn find_race(
     races: &mut RaceMap,
     past: &Latest,

@@ -1,5 +1,5 @@
 //! What is kept of a word: the latest accesses of its bytes, but for its first one.
-ghost use Rattle.std.specs.Prelude.{◌≡◌, ℕ, ◌<◌, [], IsFalse, IsTrue, MatchOption, OnOk, length, slice_index_or};
+ghost use Rattle.std.specs.Prelude.{◌≡◌, ℕ, ◌<◌, [], IfSome, IsFalse, IsTrue, MatchOption, OnOk, length, slice_index_or};
 ghost use Rattle.std.specs.Option.{option_to_list};
 ghost use Rattle.races.specs.Words.{IsCleaned, IsErased, IsKept, IsReplaced, latest_of};
 ghost use Rattle.races.specs.declared.latest.Latest.{Latest as Past};
@@ -29,28 +29,29 @@ impl Word {
         }
     }
 
-    /// Keeps an access. One that is made again takes its own place if no other came after it.
+    /// Puts an access in the place of the one that it is again, if there is one.
+    pub(crate) fn replace(&mut self, own: &Latest) -> bool
+        ensures kept { IsTrue result → IsKept own.now (latest_of self.old) (latest_of self.new) }
+        ensures stays { IsFalse result → latest_of self.new ≡ latest_of self.old }
+    {
+        if takes_first(&self.first, false, own) {
+            self.first = Some(*own);
+            return true;
+        }
+        replace_same(&mut self.others, own)
+    }
+
+    /// Keeps an access, after the others if there are any.
     pub(crate) fn keep(&mut self, own: Latest) -> Result<(), AllocError>
         ensures { OnOk result (IsKept own (latest_of self.old) (latest_of self.new)) }
     {
-        if self.is_alone(&own) {
+        if takes_first(&self.first, self.others.is_empty(), &own) {
             self.first = Some(own);
-            return Ok(());
-        }
-        if replace_last(&mut self.others, &own) {
             return Ok(());
         }
         self.take(Some(own.site), own.bytes);
         self.others.push(own)?;
         Ok(())
-    }
-
-    /// Whether there is no other access than this one.
-    fn is_alone(&self, own: &Latest) -> bool
-        ensures others { IsTrue result → self.now.others.items ≡ [] }
-        ensures first { IsTrue result → MatchOption self.now.first (Unit {0}) (λ was. IsReplaced was own.now) }
-    {
-        self.others.is_empty() && is_free(&self.first, own)
     }
 
     /// These bytes begin a new life.
@@ -69,13 +70,14 @@ impl Word {
     }
 }
 
-/// Whether there is no access, or it is this one.
-pub(crate) fn is_free(first: &Option<Latest>, own: &Latest) -> bool
-    ensures { IsTrue result → MatchOption first.now (Unit {0}) (λ was. IsReplaced was own.now) }
+/// Whether an access takes the place of the first one: it is this one made again, or there is none at all.
+#[inline(always)]
+pub(crate) fn takes_first(first: &Option<Latest>, is_alone: bool, own: &Latest) -> bool
+    ensures { IsTrue result → MatchOption first.now (IsTrue is_alone) (λ was. IsReplaced was own.now) }
 {
     match first {
         Some(was) => was.is_again(own),
-        None => true,
+        None => is_alone,
     }
 }
 
@@ -108,15 +110,29 @@ fn clean(latest: &mut [Latest], of: Option<Site>, bytes: ByteSet)
     }
 }
 
-/// Puts an access in the place of the last one, if it is the same.
-fn replace_last(latest: &mut Vec<Latest>, own: &Latest) -> bool
+/// Puts an access in the place of the one that it is again, if there is one.
+fn replace_same(latest: &mut Vec<Latest>, own: &Latest) -> bool
     ensures kept { IsTrue result → IsKept own.now latest.old.items latest.new.items }
     ensures stays { IsFalse result → latest.new.items ≡ latest.old.items }
 {
-    let count = latest.len();
-    if count == 0 || !latest[count - 1].is_again(own) {
-        return false;
+    match find_same(latest, own) {
+        Some(index) => {
+            latest[index] = *own;
+            true
+        }
+        None => false,
     }
-    latest[count - 1] = *own;
-    true
+}
+
+/// The first access that another is again.
+fn find_same(latest: &[Latest], own: &Latest) -> Option<usize>
+    ensures within { IfSome result (λ index. index < length latest.now) }
+    ensures same { IfSome result (λ index. (d : Past) → IsReplaced (slice_index_or latest.now index d) own.now) }
+{
+    for (index, past) in latest.iter().enumerate() {
+        if past.is_again(own) {
+            return Some(index);
+        }
+    }
+    None
 }

@@ -16,6 +16,46 @@ pub fn races_of(alloc: Global, steps: &[Step]) -> Result<Vec<Race>, AllocError> 
     Ok(races)
 }
 
+/// Whether the two accesses that a race names do race, at one of its bytes.
+pub fn is_race(alloc: Global, steps: &[Step], race: &Race) -> Result<bool, AllocError> {
+    for (later, step) in steps.iter().enumerate() {
+        if let Some(access) = step.access
+            && access.word == race.word
+            && access.site == race.second
+        {
+            let (before, _) = steps.split_at(later);
+            let past = past_of(alloc, before, step)?;
+            if ends_race(before, &past, &access, race) {
+                return Ok(true);
+            }
+        }
+    }
+    Ok(false)
+}
+
+/// Whether an access races with one of before that has the site of a race's first access.
+fn ends_race(before: &[Step], past: &[bool], access: &Access, race: &Race) -> bool {
+    for (index, (step, is_before)) in before.iter().zip(past.iter().rev()).enumerate() {
+        if let Some(first) = step.access
+            && !*is_before
+            && first.site == race.first
+            && races_with(&first, access)
+            && shares_byte(race.bytes, racing_bytes(&first, access, before, index))
+        {
+            return true;
+        }
+    }
+    false
+}
+
+/// Whether two sets have a common byte.
+fn shares_byte(bytes: ByteSet, other: ByteSet) -> bool {
+    (bytes.first && other.first)
+        || (bytes.second && other.second)
+        || (bytes.third && other.third)
+        || (bytes.fourth && other.fourth)
+}
+
 /// Which of the steps before one happen before it, from the last one back.
 fn past_of(alloc: Global, before: &[Step], step: &Step) -> Result<Vec<bool>, AllocError> {
     let mut past = Vec::new(alloc);

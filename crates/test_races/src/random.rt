@@ -1,7 +1,7 @@
 //! Random histories, told to a recorder and to the plain detector.
 use crate::dice::Dice;
-use crate::literal::races_of;
-use crate::step::steps_of;
+use crate::literal::{is_race, races_of};
+use crate::step::{Step, steps_of};
 use anyhow::{Result, anyhow};
 use races::{Access, ByteSet, Event, Race, RaceRecorder, Site, races_text};
 use std::alloc::{AllocError, Global};
@@ -10,12 +10,12 @@ use symbols::Symbols;
 /// How many events a history has at most.
 const EVENTS: u8 = 60;
 
-/// What random histories are like, and how closely the recorder's races are compared with those of the plain detector.
+/// What random histories are like.
 #[derive(Clone, Copy, Debug)]
 pub enum Kind {
-    /// Of a hundred turns: hardly an access is made again in its turn. The texts are the same.
+    /// Of a hundred turns: hardly an access is made again in its turn.
     ManyTurns,
-    /// Of one turn: many accesses are made again. The races are the same, in the order of their second accesses.
+    /// Of one turn: many accesses are made again.
     OneTurn,
 }
 
@@ -28,7 +28,7 @@ where
     let mut races: u64 = 0;
     for number in 0..count {
         let events = history(rt.alloc(), &mut dice, turns_of(kind))?;
-        let found = look_at(rt.alloc(), &events, number, kind)?;
+        let found = look_at(rt.alloc(), &events, number)?;
         races = races.saturating_add(found);
     }
     println!(rt;
@@ -53,27 +53,24 @@ fn name_of(kind: Kind) -> &'static str {
 }
 
 /// How many races a history has, by the recorder and by the plain detector.
-fn look_at(alloc: Global, events: &[Event], number: u32, kind: Kind) -> Result<u64> {
+fn look_at(alloc: Global, events: &[Event], number: u32) -> Result<u64> {
     let mut recorder = RaceRecorder::new(alloc)?;
     for event in events {
         recorder.record(event)?;
     }
     let races = recorder.races()?;
-    let wanted = races_of(alloc, &steps_of(alloc, events)?)?;
-    let symbols = Symbols::read(alloc, b"")?;
-    let text = races_text(alloc, &races, &symbols)?;
-    let wanted_text = races_text(alloc, &wanted, &symbols)?;
-    let is_same = match kind {
-        Kind::ManyTurns => text.as_str() == wanted_text.as_str(),
-        Kind::OneTurn => are_same(&races, &wanted),
-    };
-    if !is_same {
+    let steps = steps_of(alloc, events)?;
+    let wanted = races_of(alloc, &steps)?;
+    if !are_same(&races, &wanted) || !are_races(alloc, &steps, &races)? {
+        let symbols = Symbols::read(alloc, b"")?;
+        let text = races_text(alloc, &races, &symbols)?;
+        let wanted_text = races_text(alloc, &wanted, &symbols)?;
         return Err(anyhow!("history {number} has\n{wanted_text}and not\n{text}"));
     }
     Ok(races.len() as u64)
 }
 
-/// Whether races are the same, up to the order of those of one second access.
+/// Whether races are the same, in the order of their second accesses. Which of the earlier accesses a race names is left open.
 fn are_same(races: &[Race], wanted: &[Race]) -> bool {
     races.len() == wanted.len()
         && races
@@ -83,6 +80,16 @@ fn are_same(races: &[Race], wanted: &[Race]) -> bool {
         && wanted
             .iter()
             .all(|one| races.iter().any(|other| is_same_race(one, other)))
+}
+
+/// Whether the two accesses that each race names do race.
+fn are_races(alloc: Global, steps: &[Step], races: &[Race]) -> Result<bool, AllocError> {
+    for race in races {
+        if !is_race(alloc, steps, race)? {
+            return Ok(false);
+        }
+    }
+    Ok(true)
 }
 
 /// Whether two races are of the same bytes and instructions, with the same second access.

@@ -8,8 +8,8 @@ use Rattle.observed_run.specs.Events.{events_upto}
 use Rattle.observed_run.specs.Told.{IsTold}
 use Rattle.observed_run.proofs.observing.observe.Given as goal
 
-abbrev pub invariant-loop-event : goal.invariant-loop-event
-invariant-loop-event l = record {
+abbrev pub invariant-loop-view : goal.invariant-loop-view
+invariant-loop-view l = record {
   runs : Runs l.segment.hart (snapshots.cells_of l.base) l.segment.left l.segment.quantum l.done l.hart (cells_of l.view);
   bound : l.done ≤ l.segment.left;
   quantum : IfSome l.segment.quantum (λ q. l.done ≤ q);
@@ -18,5 +18,5 @@ invariant-loop-event l = record {
   told : IsTold l.fn.recorder l.recorder (events_upto l.actor l.segment.hart (snapshots.cells_of l.base) l.done);
 }
 
-abbrev pub decreases-loop-event : goal.decreases-loop-event
-decreases-loop-event l = l.segment.left - l.done
+abbrev pub decreases-loop-view : goal.decreases-loop-view
+decreases-loop-view l = l.segment.left - l.done
