@@ -3,4 +3,4 @@ pub mod Works
 pub mod Events
 pub mod Scheduling
 pub mod Fates
-pub mod Places
+pub mod Names

@@ -14,7 +14,7 @@ use claim_table::DrawSeat;
 use std::alloc::{AllocError, Global};
 
 /// As many skipped jobs.
-pub fn all_skipped(alloc: Global, count: usize) -> Result<Vec<Outcome>, AllocError>
+fn all_skipped(alloc: Global, count: usize) -> Result<Vec<Outcome>, AllocError>
     ensures { IfOk result (λ outcomes. (length outcomes.items ≡ count) × All (λ outcome. outcome ≡ Outcome.Skipped) outcomes.items) }
 {
     let mut outcomes = Vec::with_capacity(alloc, count)?;
@@ -41,7 +41,7 @@ fn parted(alloc: Global, works: Vec<WorkDone>) -> Result<(Vec<DrawSeat>, Vec<Dra
 }
 
 /// Puts the outcome of a drawn job into its place.
-pub fn put(outcomes: &mut [Outcome], drawn: Drawn)
+fn put(outcomes: &mut [Outcome], drawn: Drawn)
     requires { drawn.number < length outcomes.old }
     ensures { outcomes.new ≡ slice_set outcomes.old drawn.number drawn.outcome }
 {

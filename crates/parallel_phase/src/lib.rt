@@ -4,19 +4,16 @@
 //! caller with threads of its own opens a [`Phase`] and lets each of them work.
 #![tactic(auto)]
 
-mod alone;
 mod collect;
-mod desk;
 mod drawn;
+mod ends_of_phase;
 mod in_order;
-mod message;
+mod of_phase;
 mod outcome;
 mod phase;
 mod ran;
-mod sending;
 mod taker_stage;
 mod turn_taker;
-mod waiting;
 mod whole_phase;
 mod work_done;
 

@@ -1,5 +1,5 @@
 //! The turns of a run, in token order, beside the host threads that execute its segments.
-ghost use Rattle.std.specs.Prelude.{◌≡◌, ◌<◌, ◌≤◌, Some, IfOk, IfErr, OnErr};
+ghost use Rattle.std.specs.Prelude.{◌≡◌, ◌<◌, ◌≤◌, Some, IfOk, IfErr, IfNone, OnErr};
 ghost use Rattle.token.specs.RunInTurn.{point_of};
 ghost use Rattle.run_limits.specs.Limits as limit;
 ghost use Rattle.runtime.specs.Turns.{GoesOn, MayGoOn, Moves};
@@ -13,7 +13,7 @@ use std::alloc::Global;
 use std::sync::Wait;
 use std::thread::{Threads, join_mut};
 use token::{Need, Recorder, RunOutcome, Serial, TurnFault};
-use worker_pool::{Crew, OfRun, Pool};
+use worker_pool::{Crew, EndsOfRun, OfRun, Pool};
 
 /// Does the next turn, or answers how the run ended where there is none.
 fn take_turn<B: OfRun + Send + Sync, R: Wait, K: Recorder, G: Gate>(
@@ -27,6 +27,7 @@ fn take_turn<B: OfRun + Send + Sync, R: Wait, K: Recorder, G: Gate>(
     ensures moved { IfOk result (λ ends. Moves ends (point_of serial.old) (point_of serial.new)) }
     ensures kept { OnErr result (point_of serial.new ≡ point_of serial.old) }
     ensures fault { IfErr result (λ fault. fault ≡ TurnFault.WriteFailed → K.writes) }
+    ensures pool { pool.new ≡ pool.old }
 {
     match serial.need() {
         Need::Ended(outcome) => Ok(Some(outcome)),
@@ -59,7 +60,8 @@ fn send_turn<B: OfRun + Send + Sync, R: Wait, K: Recorder, G: Gate, S: Sink>(
     sink: &mut S,
 ) -> Result<Option<RunOutcome>, Interruption>
     requires { MayGoOn S.failed B.setup serial.old sink.old }
-    ensures { GoesOn K.writes S.taken S.failed (λ ends. ends) result serial.old serial.new sink.old sink.new }
+    ensures goes { GoesOn K.writes S.taken S.failed (λ ends. ends) result serial.old serial.new sink.old sink.new }
+    ensures pool { pool.new ≡ pool.old }
 {
     if let Some(outcome) = take_turn(rt, serial, pool, gate)? {
         return Ok(Some(outcome));
@@ -80,7 +82,9 @@ fn go_on<B: OfRun + Send + Sync, R: Wait, K: Recorder, G: Gate, S: Sink>(
     sink: &mut S,
 ) -> Result<Option<RunOutcome>, Interruption>
     requires { MayGoOn S.failed B.setup serial.old sink.old }
-    ensures { GoesOn K.writes S.taken S.failed (λ ends. ends) result serial.old serial.new sink.old sink.new }
+    ensures goes { GoesOn K.writes S.taken S.failed (λ ends. ends) result serial.old serial.new sink.old sink.new }
+    ensures pool { pool.new ≡ pool.old }
+    ensures wants { IfOk result (λ ends. IfNone ends (pool.old.hands < pool.old.most)) }
 {
     for _ in rt.forever() {
         if pool.wants_worker(serial) {
@@ -93,27 +97,8 @@ fn go_on<B: OfRun + Send + Sync, R: Wait, K: Recorder, G: Gate, S: Sink>(
     unreachable!()
 }
 
-/// Does the rest of the turns, beside the workers that serve, and answers how the run ended.
-fn go_to_end<B: OfRun + Send + Sync, R: Wait, K: Recorder, G: Gate, S: Sink>(
-    rt: &R,
-    serial: &mut Serial<K>,
-    pool: &mut Pool<B>,
-    gate: &G,
-    sink: &mut S,
-) -> Result<RunOutcome, Interruption>
-    requires { MayGoOn S.failed B.setup serial.old sink.old }
-    ensures { GoesOn K.writes S.taken S.failed Some result serial.old serial.new sink.old sink.new }
-{
-    for _ in rt.forever() {
-        if let Some(outcome) = go_on(rt, serial, pool, gate, sink)? {
-            return Ok(outcome);
-        }
-    }
-    unreachable!()
-}
-
 /// Does the rest of the turns, and answers how the run ended. Each time that a phase has work for one worker more, that
-/// one is started, as long as so many are left.
+/// one is started, as long as there may be one.
 ///
 /// Each is started by the caller, since the system puts a thread beside the one that starts it: where workers started
 /// each other, two of them shared a processor for as long as some short runs take.
@@ -130,20 +115,15 @@ fn go_on_with<
     pool: &mut Pool<B>,
     gate: &G,
     sink: &mut S,
-    crew: &Crew<B>,
-    left: u32,
+    crew: &Crew<EndsOfRun<B>>,
 ) -> Result<RunOutcome, Interruption>
     requires { MayGoOn S.failed B.setup serial.old sink.old }
     ensures { GoesOn K.writes S.taken S.failed Some result serial.old serial.new sink.old sink.new }
 {
-    if left == 0 {
-        return go_to_end(rt, serial, pool, gate, sink);
-    }
     if let Some(outcome) = go_on(rt, serial, pool, gate, sink)? {
         return Ok(outcome);
     }
     pool.add_worker();
-    let others = left - 1;
     let (_, result) = join_mut(
         rt,
         &mut || crew.serve(rt, gate),
@@ -151,7 +131,7 @@ fn go_on_with<
             requires { IsSync R.row × IsSync G.row × IsSync B.row × IsSend B.row × MayGoOn S.failed B.setup serial.now sink.now }
             ensures { GoesOn K.writes S.taken S.failed Some result serial.entry.now serial.exit.now sink.entry.now sink.exit.now }
         {
-            let outcome = go_on_with(rt, serial, pool, gate, sink, crew, others);
+            let outcome = go_on_with(rt, serial, pool, gate, sink, crew);
             pool.dismiss();
             outcome
         },
@@ -159,7 +139,7 @@ fn go_on_with<
     result
 }
 
-/// Does the rest of the turns, beside so many workers at most, and answers how the run ended.
+/// Does the rest of the turns, beside the workers that are started, and answers how the run ended.
 fn go_on_hiring<
     B: OfRun + Send + Sync,
     R: Threads + Wait + Sync,
@@ -172,13 +152,12 @@ fn go_on_hiring<
     pool: &mut Pool<B>,
     gate: &G,
     sink: &mut S,
-    workers: u32,
 ) -> Result<RunOutcome, Interruption>
     requires { MayGoOn S.failed B.setup serial.old sink.old }
     ensures { GoesOn K.writes S.taken S.failed Some result serial.old serial.new sink.old sink.new }
 {
     let crew = pool.hire()?;
-    go_on_with(rt, serial, pool, gate, sink, &crew, workers)
+    go_on_with(rt, serial, pool, gate, sink, &crew)
 }
 
 /// Does all turns with so many host threads at most, the caller's included, and sends the output of each before the
@@ -205,5 +184,5 @@ pub(crate) fn take_turns<
     if let Some(outcome) = go_on(rt, serial, &mut pool, gate, sink)? {
         return Ok(outcome);
     }
-    go_on_hiring(rt, serial, &mut pool, gate, sink, workers - 1)
+    go_on_hiring(rt, serial, &mut pool, gate, sink)
 }

@@ -1,5 +1,5 @@
 //! A sink over any writer. Flushes each piece, and counts its failures.
-ghost use Rattle.std.specs.Prelude.{◌≡◌, ◌<◌, length, IfOk, OnOk};
+ghost use Rattle.std.specs.Prelude.{◌≡◌, ◌<◌, false, length, IfOk, OnOk};
 ghost use Rattle.std.specs.Io.{WritesAtMost};
 ghost use Rattle.std.specs.Io.KnownBytes.{Appends, Keeps, WriteAppends};
 
@@ -24,6 +24,7 @@ impl<W: Write> WriteSink<W> {
     pub fn new(writer: W) -> Self
         ensures writer { result.writer ≡ writer }
         ensures failures { result.failures ≡ 0 }
+        ensures lost { result.is_lost ≡ false }
     {
         WriteSink {
             writer,
@@ -32,9 +33,10 @@ impl<W: Write> WriteSink<W> {
         }
     }
 
-    /// Writes all of these bytes and flushes them.
+    /// Writes all of these bytes and flushes them. It fails if this or an earlier flush did.
     pub fn print(&mut self, bytes: &[u8]) -> Result<(), SinkFault>
         ensures bytes { OnOk result (Appends (W.contents self.old.writer) (W.contents self.new.writer) bytes.now) }
+        ensures whole { OnOk result (self.old.is_lost ≡ false) }
         ensures others { (self.new.failures ≡ self.old.failures) × (self.new.is_lost ≡ self.old.is_lost) }
     {
         match self.writer.write_all(bytes) {
@@ -43,9 +45,10 @@ impl<W: Write> WriteSink<W> {
         }
     }
 
-    /// Flushes what was written. It fails where this or an earlier flush did.
+    /// Flushes what was written. It fails if this or an earlier flush did.
     pub fn finish(&mut self) -> Result<(), SinkFault>
         ensures bytes { Keeps (W.contents self.old.writer) (W.contents self.new.writer) }
+        ensures whole { OnOk result (self.old.is_lost ≡ false) }
         ensures others { (self.new.failures ≡ self.old.failures) × (self.new.is_lost ≡ self.old.is_lost) }
     {
         match self.writer.flush() {
@@ -61,6 +64,7 @@ impl<W: Write> WriteSink<W> {
         ensures some { IfOk result (λ count. 0 < count) }
         ensures bytes { WriteAppends (W.contents self.old.writer) (W.contents self.new.writer) result bytes.now }
         ensures failures { self.new.failures ≡ self.old.failures }
+        ensures whole { OnOk result (self.old.is_lost ≡ false) }
     {
         if self.is_lost {
             return Err(SinkFault);

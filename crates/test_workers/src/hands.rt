@@ -1,5 +1,5 @@
-//! Runs with two workers whose gate holds one host thread until another one has come somewhere: jobs run side by
-//! side, turns are taken beside running jobs, and a run ends beside an endless one, which is some slices old by then.
+//! Runs with two or three workers whose gate holds one host thread until another one has come somewhere: jobs run side
+//! by side, turns are taken beside running jobs, and a run ends beside an endless one, which is some slices old by then.
 
 use crate::seen::{BEFORE, Seen, is_reached, linger, reach};
 use data_guest_programs::{KEEPER_EXIT, KEEPER_EXIT_TRACE, LATE_WORK, Program, RACE, RACE_TRACE};
@@ -75,6 +75,23 @@ impl Holding for Meeting {
     }
 }
 
+/// The three jobs of phase 2 wait for each other.
+#[derive(Drop)]
+struct MeetingOfThree;
+
+impl Holding for MeetingOfThree {
+    fn hold<R: Clock>(&self, seen: &Seen<'_, R>, _worker: u32, job: u32) {
+        match job {
+            0 => reach(&seen.first),
+            1 => reach(&seen.second),
+            _ => reach(&seen.third),
+        }
+        seen.wait_until(|| {
+            is_reached(&seen.first) && is_reached(&seen.second) && is_reached(&seen.third)
+        });
+    }
+}
+
 /// In phase 2 the caller waits until another worker has come to a job above 0, or until thread 0's turn. That worker
 /// waits there for thread 0's turn.
 #[derive(Drop)]
@@ -140,32 +157,34 @@ impl Holding for LateWork {
     }
 }
 
-/// The report of a run of a program with two workers.
+/// The report of a run of a program with so many workers.
 fn report_of<G: Gate + Sync>(
     rt: &(impl Threads + Wait + Sync),
     alloc: Global,
     program: &Program,
+    workers: u32,
     gate: &G,
 ) -> Result<Report, Fail> {
     let file = program.file(alloc)?;
     let config = Config {
         bound: MAX_BOUND,
         quantum: None,
-        workers: 2,
+        workers,
     };
     Ok(run(rt, alloc, &file, &[], &config, gate)?)
 }
 
-/// Asserts that runs of a program with two workers end so, with this trace, and that no host thread waits in vain.
+/// Asserts that runs of a program with so many workers end so, with this trace, and that no host thread waits in vain.
 fn assert_runs<H: Holding + Sync>(
     rt: &(impl Abort + Clock + Threads + Wait + Sync),
     alloc: Global,
     (program, trace, status): (&Program, &str, u32),
+    workers: u32,
     holding: &H,
 ) -> Result<(), Fail> {
     for _ in 0..TIMES {
         let gate = Held::by(rt, holding)?;
-        let report = report_of(rt, alloc, program, &gate)?;
+        let report = report_of(rt, alloc, program, workers, &gate)?;
         assert_eq!(rt; report.outcome, RunOutcome::Exit(status));
         assert_eq!(rt; trace_text(alloc, &report.trace)?.as_str(), trace);
         assert!(rt; !is_reached(&gate.seen.missed));
@@ -175,24 +194,30 @@ fn assert_runs<H: Holding + Sync>(
 
 #[test]
 fn jobs_run_side_by_side(rt: HostRuntime) -> Result<(), Fail> {
-    assert_runs(&rt, rt.alloc(), (&RACE, RACE_TRACE, 2), &Meeting)
+    assert_runs(&rt, rt.alloc(), (&RACE, RACE_TRACE, 2), 2, &Meeting)
+}
+
+#[test]
+fn as_many_jobs_as_workers_run_side_by_side(rt: HostRuntime) -> Result<(), Fail> {
+    let case = (&RACE, RACE_TRACE, 2);
+    assert_runs(&rt, rt.alloc(), case, 3, &MeetingOfThree)
 }
 
 #[test]
 fn turns_are_taken_beside_running_jobs(rt: HostRuntime) -> Result<(), Fail> {
-    assert_runs(&rt, rt.alloc(), (&RACE, RACE_TRACE, 2), &Overlap)
+    assert_runs(&rt, rt.alloc(), (&RACE, RACE_TRACE, 2), 2, &Overlap)
 }
 
 #[test]
 fn a_keeper_exits_beside_an_endless_worker(rt: HostRuntime) -> Result<(), Fail> {
     let case = (&KEEPER_EXIT, KEEPER_EXIT_TRACE, 9);
-    assert_runs(&rt, rt.alloc(), case, &EndlessWorker)
+    assert_runs(&rt, rt.alloc(), case, 2, &EndlessWorker)
 }
 
 #[test]
 fn a_keeper_exits_beside_an_endless_job_of_the_caller(rt: HostRuntime) -> Result<(), Fail> {
     let case = (&KEEPER_EXIT, KEEPER_EXIT_TRACE, 9);
-    assert_runs(&rt, rt.alloc(), case, &EndlessCaller)
+    assert_runs(&rt, rt.alloc(), case, 2, &EndlessCaller)
 }
 
 /// The worker has the milliseconds of one job to come in, and has to in one run at least.
@@ -203,7 +228,7 @@ fn a_phase_whose_first_job_the_caller_began_alone_is_shared_out(
     let mut is_shared = false;
     for _ in 0..TIMES {
         let gate = Held::by(&rt, &LateWork)?;
-        let report = report_of(&rt, rt.alloc(), &LATE_WORK, &gate)?;
+        let report = report_of(&rt, rt.alloc(), &LATE_WORK, 2, &gate)?;
         assert_eq!(rt; report.outcome, RunOutcome::Exit(0));
         if is_reached(&gate.seen.first) {
             is_shared = true;

@@ -27,6 +27,8 @@ pub struct Seen<'a, R> {
     pub first: AtomicBool,
     /// A host thread has come to the other one.
     pub second: AtomicBool,
+    /// A host thread has come to a third one.
+    pub third: AtomicBool,
     /// A wait was in vain.
     pub missed: AtomicBool,
 }
@@ -40,6 +42,7 @@ impl<'a, R: Clock> Seen<'a, R> {
             turns: AtomicU64::new(0),
             first: AtomicBool::new(false),
             second: AtomicBool::new(false),
+            third: AtomicBool::new(false),
             missed: AtomicBool::new(false),
         })
     }

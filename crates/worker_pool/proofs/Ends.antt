@@ -1,20 +1,14 @@
 -- An end that a host thread made of a phase's job is what the run needs of that thread in that phase.
-use Rattle.std.proofs.Common.{◌≡◌, ◌∙◌, ℕ, ◌<◌, Option, Some, None, List, [], ◌∷◌, length, sym, ap, subst, zero, suc, arith}
-use Rattle.std.proofs.Common.{get_or}
+use Rattle.std.proofs.Common.{◌≡◌, ◌∙◌, ℕ, ◌<◌, Some, List, [], ◌∷◌, sym, ap, subst, zero, suc}
 use Rattle.std.proofs.lemmas.Option.{slice_get-map}
 use Rattle.std.specs.Option.{option_map}
-use Rattle.std.specs.Prelude.{IfSome, map, slice_get}
 use Rattle.guest_memory.specs.Memory.{Memory}
-use Rattle.claim_table.specs.Logs.{times}
-use Rattle.claim_table.specs.Seat.{SeatState}
-use Rattle.paged_memory.specs.Snapshot.{cells_of}
-use Rattle.phase_jobs.specs.SharedJobs.{PhaseState}
-use Rattle.phase_jobs.specs.Slices.{IsEndOfJob, IsSlice}
+use Rattle.std.specs.Prelude.{map, slice_get}
+use Rattle.phase_jobs.specs.Slices.{IsEndOfJob}
 use Rattle.segment.specs.Ends.{IsEndOf}
 use Rattle.segment.specs.Progress.{IsProgress}
 use Rattle.segment.specs.Stands.{UnderwayState}
-use Rattle.segment.specs.declared.progress.Progress.{Progress}
-use Rattle.segment.specs.declared.progress.Progress.TheVariants.{GoesOn, Over}
+use Rattle.segment.specs.declared.progress.Progress.TheVariants.{GoesOn}
 use Rattle.segment.specs.declared.segment.Segment.{Segment}
 use Rattle.segment.specs.declared.segment_end.SegmentEnd.{SegmentEnd}
 use Rattle.thread_table.specs.declared.thread.Thread.{Thread}
@@ -28,8 +22,7 @@ use Rattle.token.specs.declared.need.Work.{Work}
 use Rattle.token.proofs.Needs.{segment_is}
 use Rattle.token.proofs.OneBeginning.{one_base}
 use Rattle.worker_pool.specs.Jobs.{AreJobsIn, IsBegunIn, jobs_in}
-use Rattle.worker_pool.specs.Posts.{IsEndIn, IsPost}
-use Rattle.worker_pool.specs.Sharing.{HasLed}
+use Rattle.worker_pool.specs.Ends.{IsEndIn}
 
 -- the job at a place
 job_there : (segment_of : ℕ → Segment) (threads : List ℕ) (k thread : ℕ) (job : Segment) → slice_get threads k ≡ Some thread → slice_get (map segment_of threads) k ≡ Some job
@@ -54,12 +47,6 @@ end_of_job setup number threads jobs memory k thread end are at_thread is point 
     let same : is.job ≡ segment_in setup point.base_threads thread = job_there (segment_in setup point.base_threads) threads k thread is.job at_thread there in
     same_end memory point.base is.job (segment_in setup point.base_threads thread) end here.0 same is.is
 
--- the message of a job
-pub post_of_job : (setup : Setup) (number : ℕ) (threads : List ℕ) (jobs : List Segment) (memory : Memory) (k thread : ℕ) (end : Option SegmentEnd)
-    → AreJobsIn setup number threads jobs memory → slice_get threads k ≡ Some thread → IfSome end (IsEndOfJob jobs memory k) → IsPost setup number thread end
-post_of_job setup number threads jobs memory k thread None are at_thread is = tt
-post_of_job setup number threads jobs memory k thread (Some end) are at_thread is = end_of_job setup number threads jobs memory k thread end are at_thread is
-
 -- what is right where a run stands is right wherever in the phase it stands
 pub jobs_everywhere : (setup : Setup) (point : Point) (history : History) (number : ℕ) (threads : List ℕ) (jobs : List Segment) (memory : Memory) → StandsAfter point history → point.setup ≡ setup
     → number ≡ point.phase → memory ≡ point.base → jobs ≡ jobs_in setup point.base_threads threads → AreJobsIn setup number threads jobs memory
@@ -78,19 +65,6 @@ needed setup point history phase work end stands setup_is phase_is need is =
     ap (λ (s : Setup). segment_in s point.base_threads work.thread) (sym setup_is) ∙ sym (ap (λ (w : Work). w.segment) (segment_is point work need)) in
     subst (λ (s : Segment). IsEndOf point.base s end) same here
 
--- the end in a message
-pub end_in_post : (setup : Setup) (phase thread other_phase other : ℕ) (told : Option SegmentEnd) (end : SegmentEnd) → IsPost setup phase thread told → told ≡ Some end
-    → phase ≡ other_phase → thread ≡ other → IsEndIn setup other_phase other end
-end_in_post setup phase thread other_phase other told end is some phase_is thread_is =
-    let here : IsEndIn setup phase thread end = subst (λ (t : Option SegmentEnd). IsPost setup phase thread t) some is in
-    subst (λ (n : ℕ). IsEndIn setup other_phase n end) thread_is (subst (λ (p : ℕ). IsEndIn setup p thread end) phase_is here)
-
--- a thread at its place
-pub thread_at : (threads : List ℕ) (k thread : ℕ) → k < length threads → thread ≡ get_or threads k thread → slice_get threads k ≡ Some thread
-thread_at [] k thread within is = absurd (omega arith)
-thread_at (t ∷ ts) zero thread within is = ap Some (sym is)
-thread_at (t ∷ ts) (suc k) thread within is = thread_at ts k thread (omega arith) is
-
 -- a needed segment that has begun is its thread's in the phase
 pub begun_in : (point : Point) (work : Work) (memory : Memory) (new : UnderwayState) → need_at point ≡ need.Segment work → memory ≡ point.base → IsProgress memory work.segment 0 (GoesOn new)
     → IsBegunIn point work.thread new
@@ -108,18 +82,3 @@ begun_at setup point threads jobs thread job setup_is jobs_are begun k at =
     let f : ℕ → Segment = segment_in setup point.base_threads in
     let same : f thread ≡ job.segment = ap (λ (s : Setup). segment_in s point.base_threads thread) (sym setup_is) ∙ sym begun.segment_is in
     ap (λ (js : List Segment). slice_get js k) jobs_are ∙ slice_get-map f threads k ∙ ap (option_map f) at ∙ ap Some same
-
--- where a slice has led
-
--- a slice by a seat keeps the seat's row
-pub row_kept : (jobs : List Segment) (memory : Memory) (number done : ℕ) (old new : SeatState) (slice : Option Progress) → IsSlice jobs memory number done old new slice → new.row ≡ old.row
-row_kept jobs memory number done old new None is = is.0.row
-row_kept jobs memory number done old new (Some (GoesOn job)) is = is.0.row
-row_kept jobs memory number done old new (Some (Over end)) is = ap (λ (s : SeatState). s.row) is.noted ∙ is.looks.row
-
-pub has_led : (phase : PhaseState) (number done : ℕ) (old new : SeatState) (slice : Option Progress) → 0 < times number old.log.drawn
-    → IsSlice phase.jobs (cells_of phase.base) number done old new slice → HasLed phase new number slice
-has_led phase number done old new None drawn is = tt
-has_led phase number done old new (Some (GoesOn job)) drawn is =
-    record { job = is.1; drawn = subst (λ (ns : List ℕ). 0 < times number ns) (sym is.0.drawn) drawn }
-has_led phase number done old new (Some (Over end)) drawn is = is.is

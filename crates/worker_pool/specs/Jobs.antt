@@ -1,8 +1,7 @@
--- A phase of a run as its jobs are shared out.
-use Rattle.std.specs.Prelude.{◌≡◌, ℕ, ◌<◌, List, length, map}
+-- A phase of a run as its jobs are shared out, and the caller's host threads.
+use Rattle.std.specs.Prelude.{◌≡◌, ℕ, ◌<◌, List, map}
 use Rattle.guest_memory.specs.Memory.{Memory}
 use Rattle.paged_memory.specs.Snapshot.{cells_of}
-use Rattle.phase_jobs.specs.SharedJobs.{PhaseState}
 use Rattle.segment.specs.Stands.{UnderwayState}
 use Rattle.segment.specs.declared.segment.Segment.{Segment}
 use Rattle.thread_table.specs.declared.thread.Thread.{Thread}
@@ -12,11 +11,10 @@ use Rattle.token.specs.Segments.{segment_in}
 use Rattle.token.specs.Serial.{StandsAfter}
 use Rattle.token.specs.Setup.{Setup}
 
--- a phase's number, its ready threads, and their jobs
-pub record SharedState : Type 0 where
-  pub number : ℕ
-  pub threads : List ℕ
-  pub phase : PhaseState
+-- how many host threads there may be and are, the caller counted
+pub record PoolState : Type 0 where
+  pub most : ℕ
+  pub hands : ℕ
 
 -- the jobs of some threads in a phase that began with these rows
 abbrev pub jobs_in : Setup → List Thread → List ℕ → List Segment
@@ -26,10 +24,6 @@ jobs_in setup rows threads = map (segment_in setup rows) threads
 abbrev pub AreJobsIn : Setup → ℕ → List ℕ → List Segment → Memory → Type 0
 AreJobsIn setup number threads jobs memory =
     (point : Point) (history : History) → StandsAfter point history → point.setup ≡ setup → point.phase ≡ number → (memory ≡ point.base) × (jobs ≡ jobs_in setup point.base_threads threads)
-
-pub record IsShared (setup : Setup) (number : ℕ) (threads : List ℕ) (phase : PhaseState) : Type 0 where
-  pub as_many : length threads ≡ length phase.jobs
-  pub jobs : AreJobsIn setup number threads phase.jobs (cells_of phase.base)
 
 -- it is a thread's job in the phase where a run stands, and goes on
 pub record IsBegunIn (point : Point) (thread : ℕ) (job : UnderwayState) : Type 0 where

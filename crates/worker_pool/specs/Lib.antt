@@ -1,3 +1,2 @@
+pub mod Ends
 pub mod Jobs
-pub mod Posts
-pub mod Sharing

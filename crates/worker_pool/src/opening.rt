@@ -1,24 +1,21 @@
-//! A phase of a run is made ready to be shared out.
+//! A phase of a run is made ready and shared out.
 ghost use Rattle.std.specs.Prelude.{◌≡◌, ◌<◌, ◌≤◌, ℕ, Some, true, All, length, map, slice_get, vec_len, IfOk, IfSome};
 ghost use Rattle.claim_table.specs.Logs.{most_seats, times};
 ghost use Rattle.paged_memory.specs.Snapshot.{cells_of};
+ghost use Rattle.phase_workers.specs.Hands.{IsHeld};
 ghost use Rattle.token.specs.RunInTurn.{point_of};
 ghost use Rattle.token.specs.Serial.{IsAskedFor};
-ghost use Rattle.std.specs.Arc.{arc_value};
 ghost use Rattle.token.specs.Segments as segments;
 ghost use Rattle.worker_pool.specs.Jobs.{IsBegunIn, jobs_in};
-ghost use Rattle.worker_pool.specs.Sharing.{IsHeld};
 
-use crate::board::Board;
-use crate::held::Held;
-use crate::line::Line;
+use crate::ends_of_run::EndsOfRun;
 use crate::of_run::OfRun;
-use crate::shared_phase::SharedPhase;
 use claim_table::DrawSeat;
 use phase_jobs::SharedJobs;
+use phase_workers::{Desk, Hand, Held, SharedPhase};
 use segment::{Segment, Underway};
 use std::alloc::{AllocError, Global};
-use std::sync::{Arc, Wait};
+use std::sync::Wait;
 use thread_table::Threads;
 use token::{Recorder, Serial, segment_of};
 
@@ -41,18 +38,18 @@ fn jobs_of(
 }
 
 /// The phase that a run is in, to be shared out to so many seats at most, and its seats.
-pub(crate) fn shared_phase<B: OfRun, K: Recorder>(
+fn shared_phase<B: OfRun, K: Recorder>(
     alloc: Global,
     serial: &Serial<K>,
     seats: u32,
-) -> Result<(SharedPhase<B>, Vec<DrawSeat>), AllocError>
+) -> Result<(SharedPhase<EndsOfRun<B>>, Vec<DrawSeat>), AllocError>
     requires setup { (point_of serial.now).setup ≡ B.setup }
     requires asked { IsAskedFor serial.now }
     requires seats { (0 < seats) × (seats ≤ most_seats) }
     ensures some { IfOk result (λ made. 0 < vec_len made.1) }
     ensures seats { IfOk result (λ made. All (λ seat. seat.row ≡ made.0.phase.row) made.1.items) }
     ensures base { IfOk result (λ made. cells_of made.0.phase.base ≡ (point_of serial.now).base) }
-    ensures jobs { IfOk result (λ made. made.0.phase.jobs ≡ jobs_in B.setup (point_of serial.now).base_threads made.0.threads) }
+    ensures jobs { IfOk result (λ made. made.0.phase.jobs ≡ jobs_in B.setup (point_of serial.now).base_threads made.0.names) }
 {
     let ready = serial.base_threads().ready_list();
     let threads = Vec::from_slice(alloc, ready.as_slice())?;
@@ -94,28 +91,28 @@ fn place_of(threads: &[u32], thread: u32) -> Option<u32>
 }
 
 /// A thread's job that has begun already, drawn by this seat. None where it can't be drawn.
-pub(crate) fn adopted<B: OfRun>(
-    shared: &SharedPhase<B>,
+fn adopted<B: OfRun>(
+    shared: &SharedPhase<EndsOfRun<B>>,
     seat: &mut DrawSeat,
     thread: u32,
     job: Underway,
 ) -> Option<Held>
     requires row { seat.old.row ≡ shared.now.phase.row }
-    requires job { (k : ℕ) → slice_get shared.now.threads k ≡ Some thread → slice_get shared.now.phase.jobs k ≡ Some job.segment }
+    requires job { (k : ℕ) → slice_get shared.now.names k ≡ Some thread → slice_get shared.now.phase.jobs k ≡ Some job.segment }
     requires base { cells_of job.base ≡ cells_of shared.now.phase.base }
     requires going { job.done < job.segment.left }
     ensures row { seat.new.row ≡ seat.old.row }
     ensures held { IfSome result (IsHeld shared.now.phase seat.new) }
 {
-    let number = place_of(shared.threads(), thread)?;
-    if draw_up_to(shared.phase(), seat, number) {
+    let number = place_of(shared.names(), thread)?;
+    if draw_up_to(shared.jobs(), seat, number) {
         return Some(Held { number, job });
     }
     None
 }
 
 /// The seat of the caller, which is the first one.
-fn first_seat<B: OfRun>(shared: &SharedPhase<B>, seats: &mut Vec<DrawSeat>) -> DrawSeat
+fn first_seat<B: OfRun>(shared: &SharedPhase<EndsOfRun<B>>, seats: &mut Vec<DrawSeat>) -> DrawSeat
     requires some { 0 < vec_len seats.old }
     requires rows { All (λ seat. seat.row ≡ shared.now.phase.row) seats.old.items }
     ensures row { result.row ≡ shared.now.phase.row }
@@ -124,34 +121,17 @@ fn first_seat<B: OfRun>(shared: &SharedPhase<B>, seats: &mut Vec<DrawSeat>) -> D
     seats.remove(0)
 }
 
-/// Offers a phase by these seats.
-fn offer_all<B: OfRun + Send + Sync, R: Wait>(
-    rt: &R,
-    line: &Line<B>,
-    shared: &Arc<SharedPhase<B>>,
-    mut seats: Vec<DrawSeat>,
-)
-    requires { All (λ seat. seat.row ≡ (arc_value shared.now).phase.row) seats.items }
-{
-    line.take_back(rt);
-    while let Some(seat) = seats.pop() {
-        if !line.offer(rt, shared, seat) {
-            return;
-        }
-    }
-}
-
-/// Shares the present phase of a run out to so many host threads at most, the caller counted. None where it has no two
-/// jobs. The job is the thread's, where it has begun.
+/// Shares the present phase of a run out to so many host threads at most, the caller counted. Whether it has two jobs, so
+/// that this could be done. The job is the thread's, if it has begun.
 pub(crate) fn share_out<B: OfRun + Send + Sync, R: Wait, K: Recorder>(
     rt: &R,
     alloc: Global,
-    line: &Line<B>,
+    desk: &mut Desk<EndsOfRun<B>>,
     serial: &Serial<K>,
     most: u32,
     thread: u32,
     job: Option<Underway>,
-) -> Result<Option<Board<B>>, AllocError>
+) -> Result<bool, AllocError>
     requires setup { (point_of serial.now).setup ≡ B.setup }
     requires asked { IsAskedFor serial.now }
     requires most { (0 < most) × (most ≤ most_seats) }
@@ -159,17 +139,15 @@ pub(crate) fn share_out<B: OfRun + Send + Sync, R: Wait, K: Recorder>(
 {
     let jobs = serial.base_threads().ready_list().len();
     if jobs < 2 {
-        return Ok(None);
+        return Ok(false);
     }
-    let posts = Vec::with_capacity(alloc, jobs)?;
     let hands = most.min(jobs as u32);
-    let (shared, mut seats) = shared_phase(alloc, serial, hands)?;
+    let (shared, mut seats) = shared_phase::<B, K>(alloc, serial, hands)?;
     let mut seat = first_seat(&shared, &mut seats);
-    let mine = match job {
+    let held = match job {
         Some(job) => adopted(&shared, &mut seat, thread, job),
         None => None,
     };
-    let shared = Arc::new(alloc, shared)?;
-    offer_all(rt, line, &shared, seats);
-    Ok(Some(Board::new(shared, seat, mine, posts)))
+    desk.share(rt, alloc, shared, Hand { seat, held }, seats)?;
+    Ok(true)
 }

@@ -1,25 +1,22 @@
 //! The caller's side of the pool: gives the end of the needed segment, whoever executed it. May wait for a worker.
-ghost use Rattle.std.specs.Prelude.{◌≡◌, ◌<◌, ◌≤◌, IfOk, IfSome};
+ghost use Rattle.std.specs.Prelude.{◌≡◌, ◌+◌, ◌<◌, ◌≤◌, true, IfOk, IfSome};
 ghost use Rattle.claim_table.specs.Logs.{most_seats};
 ghost use Rattle.segment.specs.Ends.{IsEndOf};
 ghost use Rattle.token.specs.Point.{need_at};
 ghost use Rattle.token.specs.RunInTurn.{point_of};
 ghost use Rattle.token.specs.Serial.{IsAskedFor};
 ghost use Rattle.worker_pool.specs.Jobs.{IsBegunIn};
-ghost use Rattle.worker_pool.specs.Posts.{IsEndIn};
+ghost use Rattle.worker_pool.specs.Ends.{IsEndIn};
 
-use crate::board::Board;
-use crate::crew::Crew;
-use crate::flags::Flags;
-use crate::line::{Line, MOST_OFFERS};
+use crate::ends_of_run::EndsOfRun;
 use crate::of_run::OfRun;
 use crate::opening::share_out;
-use claim_table::JOBS;
-use crossbeam_channel::bounded;
 use phase_jobs::Gate;
+use phase_workers::{Crew, Desk};
 use segment::{Progress, SegmentEnd, Underway};
 use std::alloc::{AllocError, Global};
-use std::sync::{Arc, Wait};
+use std::marker::Model;
+use std::sync::Wait;
 use token::{Need, Recorder, Serial, Work};
 
 /// The number of the caller among the host threads of a run.
@@ -38,37 +35,49 @@ pub struct Pool<B: OfRun> {
     alloc: Global,
     /// How many host threads there may be, the caller counted.
     most: u32,
-    ghost most_is: { (0 < most) × (most ≤ most_seats) },
     /// How many host threads there are, the caller counted.
     hands: u32,
-    line: Option<Line<B>>,
-    /// The phase that the rest speaks of.
+    desk: Desk<EndsOfRun<B>>,
+    /// The phase that the desk and `taken` speak of.
     phase: u64,
     /// How many of its jobs the caller took without sharing it out.
     taken: u32,
-    board: Option<Board<B>>,
     credit: u32,
+}
+
+impl<B: OfRun> Model for Pool<B> {
+    ghost use Rattle.std.specs.Prelude.{◌<◌, ◌≤◌};
+    ghost use Rattle.claim_table.specs.Logs.{most_seats};
+    ghost use Rattle.worker_pool.specs.Jobs.{PoolState};
+
+    ghost Value = { PoolState };
+
+    ghost view = { λ p. record { most = p.most; hands = p.hands } };
+
+    ghost invariant = { λ p. (0 < p.most) × (p.most ≤ most_seats) };
 }
 
 impl<B: OfRun + Send + Sync> Pool<B> {
     /// The caller alone, who may hire workers up to so many host threads in all, 1 to 64.
     pub fn new(alloc: Global, most: u32) -> Self
         requires { (0 < most) × (most ≤ most_seats) }
+        ensures { result ≡ record { most = most; hands = 1 } }
     {
         Pool {
             alloc,
             most,
             hands: 1,
-            line: None,
+            desk: Desk::new(),
             phase: 0,
             taken: 0,
-            board: None,
             credit: CREDIT,
         }
     }
 
-    /// Whether the present phase has work for one host thread more.
-    pub fn wants_worker<K: Recorder>(&self, serial: &Serial<K>) -> bool {
+    /// Whether the present phase has work for one host thread more, and there may be one.
+    pub fn wants_worker<K: Recorder>(&self, serial: &Serial<K>) -> bool
+        ensures { result ≡ true → self.now.hands < self.now.most }
+    {
         let hands = self.hands as usize;
         self.hands < self.most
             && serial.list().len() > hands
@@ -76,36 +85,25 @@ impl<B: OfRun + Send + Sync> Pool<B> {
     }
 
     /// One host thread more serves.
-    pub fn add_worker(&mut self) {
-        self.hands = self.hands.saturating_add(1);
+    pub fn add_worker(&mut self)
+        requires { self.old.hands < self.old.most }
+        ensures { self.new ≡ record self.old { hands = self.old.hands + 1 } }
+    {
+        self.hands += 1;
     }
 
     /// What the workers of the run share. Each works once somebody lets it serve.
-    pub fn hire(&mut self) -> Result<Crew<B>, AllocError> {
-        let (offers, left) = bounded(self.alloc, MOST_OFFERS)?;
-        let (posts, received) = bounded(self.alloc, JOBS)?;
-        let flags = Arc::new(self.alloc, Flags::new())?;
-        let crew = Crew {
-            offers: left.clone()?,
-            posts,
-            flags: Arc::try_clone(&flags)?,
-        };
-        self.line = Some(Line {
-            offers,
-            left,
-            posts: received,
-            flags,
-        });
-        Ok(crew)
+    pub fn hire(&mut self) -> Result<Crew<EndsOfRun<B>>, AllocError>
+        ensures { self.new ≡ self.old }
+    {
+        self.desk.hire(self.alloc)
     }
 
     /// Tells the workers that the run has ended.
-    pub fn dismiss(&mut self) {
-        if let Some(line) = &self.line {
-            line.flags.end();
-        }
-        self.line = None;
-        self.board = None;
+    pub fn dismiss(&mut self)
+        ensures { self.new ≡ self.old }
+    {
+        self.desk.dismiss();
     }
 
     /// The end of the segment that a run needs next, on the memory that its phase began with. The caller works at
@@ -120,10 +118,11 @@ impl<B: OfRun + Send + Sync> Pool<B> {
         requires setup { (point_of serial.now).setup ≡ B.setup }
         requires asked { IsAskedFor serial.now }
         requires need { need_at (point_of serial.now) ≡ Need.Segment work.now }
-        ensures { IfOk result (IsEndOf (point_of serial.now).base work.now.segment) }
+        ensures end { IfOk result (IsEndOf (point_of serial.now).base work.now.segment) }
+        ensures same { self.new ≡ self.old }
     {
         self.come_to(serial.phase());
-        if self.board.is_none() {
+        if !self.desk.is_shared_out() {
             if let Some(end) = self.begin(rt, serial, work, gate)? {
                 return Ok(end);
             }
@@ -135,16 +134,20 @@ impl<B: OfRun + Send + Sync> Pool<B> {
     }
 
     /// The run is in this phase.
-    fn come_to(&mut self, phase: u64) {
+    fn come_to(&mut self, phase: u64)
+        ensures { self.new ≡ self.old }
+    {
         if self.phase != phase {
             self.phase = phase;
             self.taken = 0;
-            self.board = None;
+            self.desk.clear();
         }
     }
 
     /// Passes the gate with the next job, which the caller takes without sharing its phase out.
-    fn pass<G: Gate>(&mut self, gate: &G) {
+    fn pass<G: Gate>(&mut self, gate: &G)
+        ensures { self.new ≡ self.old }
+    {
         let job = self.taken;
         self.taken = job.saturating_add(1);
         gate.pass(CALLER, job);
@@ -161,9 +164,10 @@ impl<B: OfRun + Send + Sync> Pool<B> {
         requires setup { (point_of serial.now).setup ≡ B.setup }
         requires asked { IsAskedFor serial.now }
         requires need { need_at (point_of serial.now) ≡ Need.Segment work.now }
-        ensures { IfOk result (λ end. IfSome end (IsEndOf (point_of serial.now).base work.now.segment)) }
+        ensures end { IfOk result (λ end. IfSome end (IsEndOf (point_of serial.now).base work.now.segment)) }
+        ensures same { self.new ≡ self.old }
     {
-        if self.line.is_none() || serial.list().len() < 2 {
+        if !self.desk.has_crew() || serial.list().len() < 2 {
             self.pass(gate);
             return Ok(Some(work.segment.run(serial.base())?));
         }
@@ -199,17 +203,10 @@ impl<B: OfRun + Send + Sync> Pool<B> {
         requires setup { (point_of serial.now).setup ≡ B.setup }
         requires asked { IsAskedFor serial.now }
         requires job { IfSome job (IsBegunIn (point_of serial.now) thread) }
+        ensures { self.new ≡ self.old }
     {
-        let Some(line) = &self.line else {
-            return false;
-        };
-        match share_out(rt, self.alloc, line, serial, self.most, thread, job) {
-            Ok(Some(board)) => {
-                self.board = Some(board);
-                true
-            }
-            Ok(None) | Err(_) => false,
-        }
+        let desk = &mut self.desk;
+        share_out(rt, self.alloc, desk, serial, self.most, thread, job).unwrap_or(false)
     }
 
     /// The end of a thread's segment in a phase, once it is there. None where it doesn't come.
@@ -220,12 +217,10 @@ impl<B: OfRun + Send + Sync> Pool<B> {
         phase: u64,
         thread: u32,
     ) -> Option<SegmentEnd>
-        ensures { IfSome result (IsEndIn B.setup phase thread) }
+        ensures end { IfSome result (IsEndIn B.setup phase thread) }
+        ensures same { self.new ≡ self.old }
     {
-        let (Some(board), Some(line)) = (&mut self.board, &self.line) else {
-            return None;
-        };
-        let end = board.await_post(rt, line, gate, phase, thread)?.into_end()?;
+        let end = self.desk.awaited(rt, gate, phase, thread)?;
         if end.count >= FIRST {
             self.credit = CREDIT;
         }

@@ -4,8 +4,8 @@ use Rattle.runtime.proofs.Needs.{goes_on}
 use Rattle.runtime.proofs.Sent.{prefix_more}
 use Rattle.runtime.proofs.turns.send_turn.Goals as goal
 
-pub returns-in-Err : goal.returns-in-Err
-returns-in-Err g c =
+pub returns-in-Err-clause-goes : goal.returns-in-Err-clause-goes
+returns-in-Err-clause-goes g c =
     let before : List ℕ = (point_of c.args.serial.now).state.output in
     let longer : (point_of c.take_turn.new.serial).state.output ≡ before ++ c.fresh.result.now =
     goes_on c.in_ok-outcome.field-0 (point_of c.args.serial.now) (point_of c.take_turn.new.serial) c.in_default.not-Some c.in_ok-outcome.ensures.moved

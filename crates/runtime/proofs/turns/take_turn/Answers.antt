@@ -8,7 +8,7 @@ use Rattle.runtime.proofs.turns.take_turn.Goals as goal
 
 pub turn-requires : goal.turn-requires
 turn-requires g c =
-    segment_needed (point_of c.args.serial.now) c.in-Segment.work c.in_ok-end-in-Segment.end (sym c.in-Segment.ensures.need) c.in_ok-end-in-Segment.ensures
+    segment_needed (point_of c.args.serial.now) c.in-Segment.work c.in_ok-end-in-Segment.end (sym c.in-Segment.ensures.need) c.in_ok-end-in-Segment.ensures.end
 
 pub turn-requires-in-Keeper : goal.turn-requires-in-Keeper
 turn-requires-in-Keeper g c =

@@ -7,8 +7,9 @@ use Rattle.token.specs.Point.{Point}
 use Rattle.token.specs.RunInTurn.{point_of}
 use Rattle.token.specs.Setup.{Setup}
 use Rattle.token.specs.Segments.{row_in, segment_in, segment_of}
-use Rattle.worker_pool.specs.Jobs.{SharedState, jobs_in}
-use Rattle.worker_pool.proofs.Ends.{jobs_everywhere}
+use Rattle.phase_workers.specs.Sharing.{SharedState}
+use Rattle.worker_pool.specs.Jobs.{jobs_in}
+use Rattle.worker_pool.proofs.Ends.{end_of_job, jobs_everywhere}
 use Rattle.worker_pool.proofs.Seats.{all_of_row}
 use Rattle.worker_pool.proofs.opening.shared_phase.Goals as goal
 
@@ -23,7 +24,8 @@ new-requires g c =
     given ∙ (λ i. map (λ thread. segment_of (bound i) (quantum i) (row_in (c.base_threads-2.ensures i) thread)) (c.as_slice-2.ensures.value i)) in
     record {
       as_many = sym (ap length jobs ∙ length-map c.in_ok-threads.threads.items (segment_in g.B.OfRun.setup point.base_threads));
-      jobs = jobs_everywhere g.B.OfRun.setup point c.requires.asked.0 _ _ _ _ c.requires.asked.1 c.requires.setup c.phase.ensures (c.in_ok-phase.ensures.jobs.1 ∙ c.base.ensures) jobs;
+      facts = λ k name end at is. end_of_job g.B.OfRun.setup _ _ _ _ k name end
+          (jobs_everywhere g.B.OfRun.setup point c.requires.asked.0 _ _ _ _ c.requires.asked.1 c.requires.setup c.phase.ensures (c.in_ok-phase.ensures.jobs.1 ∙ c.base.ensures) jobs) at is;
     }
 
 pub returns-clause-some : goal.returns-clause-some

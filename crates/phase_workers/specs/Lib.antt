@@ -1,0 +1,3 @@
+pub mod Hands
+pub mod Posts
+pub mod Sharing
