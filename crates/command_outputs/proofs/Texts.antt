@@ -16,6 +16,9 @@ use Rattle.sharing_report.specs.declared.page_row.PageRow.{PageRow}
 use Rattle.sharing_report.specs.declared.sharing_recorder.SharingRecorder.{SharingRecorder}
 use Rattle.token.specs.Change.{Change}
 use Rattle.token.specs.declared.turn.Turn.{Turn}
+use Rattle.trace_events.specs.Recording.{Records as HasTimeline}
+use Rattle.trace_events.specs.Timeline.{timeline_text}
+use Rattle.trace_events.specs.declared.timeline_recorder.TimelineRecorder.{TimelineRecorder}
 use Rattle.tracer.specs.Recording.{Traces}
 use Rattle.tracer.specs.TraceText.{text_of as trace_text_of}
 use Rattle.tracer.specs.declared.trace_recorder.TraceRecorder.{TraceRecorder}
@@ -23,7 +26,7 @@ use Rattle.core_file.specs.Core.{IsCoreOf}
 use Rattle.core_file.specs.Shown.{core_threads}
 use Rattle.core_file.specs.declared.core_thread.CoreThread.{CoreThread}
 use Rattle.command_requests.specs.Destination.{IsApart, IsFiled, KeepsButFileOf, KeepsButPartFor, Prints}
-use Rattle.command_outputs.specs.Records.{AreLastWritten, AreMadeWritten, AreRestWritten, AreUnwritten, AreUnwrittenLast, AreUnwrittenMade, AreUnwrittenRest, AreWritten, IsCoreAt, IsPut, IsReportOf, IsUnwrittenTo, KeepsButLast, KeepsButMade, KeepsButRest, KeepsUnlessPrinted, Left, left_by}
+use Rattle.command_outputs.specs.Records.{AreLastWritten, AreMadeWritten, AreRestWritten, AreTimedWritten, AreUnwritten, AreUnwrittenLast, AreUnwrittenMade, AreUnwrittenRest, AreUnwrittenTimed, AreWritten, IsCoreAt, IsPut, IsReportOf, IsUnwrittenTo, KeepsButLast, KeepsButMade, KeepsButRest, KeepsButTimed, KeepsUnlessPrinted, Left, left_by}
 use Rattle.command_requests.specs.declared.destination.Destination.{Destination}
 use Rattle.command_requests.specs.declared.destination.Destination.TheVariants.{StandardOutput, File}
 use Rattle.command_requests.specs.declared.failure.Failure.{Failure}
@@ -50,6 +53,21 @@ published {T} {O} contents result destination one recorder told writer Is is_one
     (λ put turns traces.
     subst (λ (to : Option Destination). Is to (trace_text_of turns)) (sym is_one)
     (put (trace_text_of turns) (whole turns (subst (λ (all : Option (TraceRecorder O)). IfSome all (λ recorder. Traces contents recorder turns)) is_told traces))))
+    put
+
+-- and so was a timeline
+pub timeline_published : {T O : Type 0} (contents : O → Option (List ℕ)) (result : Result T Failure) (destination : Option Destination) (one : Destination)
+    (recorder : Option (TimelineRecorder O)) (told : TimelineRecorder O) (writer : O) (Is : Option Destination → List ℕ → Type 0) → destination ≡ Some one → recorder ≡ Some told
+    → ((turns : List Turn) (changes : List Change) → HasTimeline contents told turns changes → Has contents writer (timeline_text turns changes))
+    → OnOk result ((text : List ℕ) → Has contents writer text → Is (Some one) text)
+    → OnOk result ((turns : List Turn) (changes : List Change) → IfSome recorder (λ recorder. HasTimeline contents recorder turns changes)
+    → Is destination (timeline_text turns changes))
+timeline_published {T} {O} contents result destination one recorder told writer Is is_one is_told whole put =
+    where_ok result _ _
+    (λ put turns changes has.
+    subst (λ (to : Option Destination). Is to (timeline_text turns changes)) (sym is_one)
+    (put (timeline_text turns changes)
+    (whole turns changes (subst (λ (all : Option (TimelineRecorder O)). IfSome all (λ recorder. HasTimeline contents recorder turns changes)) is_told has))))
     put
 
 -- a text for another destination leaves a file as it is
@@ -85,6 +103,16 @@ still_there (Some StandardOutput) records text old new kept filed report races c
 still_there (Some (File path)) records text old new kept filed report races core digest =
     subst (λ (known : Option (List ℕ)). IfSome known (λ all. all ≡ text)) (sym (kept path.now report.0 report.1 races.0 races.1 core.0 core.1 digest.0 digest.1)) filed
 
+-- and those after the trace
+still_before_timed : (destination : Option Destination) (records : Records) (text : List ℕ) (old new : Content) → KeepsButTimed records old new
+    → IsFiled destination text old → IsApart destination records.timeline → IsApart destination records.report → IsApart destination records.races
+    → IsApart destination records.core → IsApart destination records.digest → IsFiled destination text new
+still_before_timed None records text old new kept filed timeline report races core digest = tt
+still_before_timed (Some StandardOutput) records text old new kept filed timeline report races core digest = tt
+still_before_timed (Some (File path)) records text old new kept filed timeline report races core digest =
+    subst (λ (known : Option (List ℕ)). IfSome known (λ all. all ≡ text))
+    (sym (kept path.now timeline.0 timeline.1 report.0 report.1 races.0 races.1 core.0 core.1 digest.0 digest.1)) filed
+
 -- the last texts leave all other files as they are
 pub but_last : (records : Records) (old now new : Content) → KeepsButFileOf records.core old now → KeepsButFileOf records.digest now new → KeepsButLast records old new
 but_last records old now new first second = λ path core core_part digest digest_part. second path digest digest_part ∙ first path core core_part
@@ -111,6 +139,12 @@ pub but_made_and_parts : (records : Records) (old now then later new : Content) 
 but_made_and_parts records old now then later new first second third fourth =
     λ path report report_part races races_part core core_part digest digest_part.
     fourth path digest_part ∙ third path core_part ∙ second path races_part ∙ first path report report_part
+
+-- and so do the timeline and they
+pub but_timed : (records : Records) (old now new : Content) → KeepsButFileOf records.timeline old now → KeepsButMade records now new → KeepsButTimed records old new
+but_timed records old now new first others =
+    λ path timeline timeline_part report report_part races races_part core core_part digest digest_part.
+    others path report report_part races races_part core core_part digest digest_part ∙ first path timeline timeline_part
 
 -- what makes the text of the report of these changes, by a recorder of their sharing
 abbrev pub MakesReport : Option SharingRecorder → List ℕ → Type 0
@@ -186,7 +220,7 @@ module _ {X E : Type 0} (bytes : X → List ℕ) (tells : Type 0) (records : Rec
       let told : IsOk {T = X} {E = E} (Err refused) = made_digest in cc
   last_out (Ok other) (Ok value) same makes made_digest put_digest =
       λ turns changes digests. (
-        record { trace = []; report = []; races = []; core = put.0; digest = bytes other },
+        record { trace = []; timeline = []; report = []; races = []; core = put.0; digest = bytes other },
         put.1,
         λ is. digest_is records.digest digest (bytes other) turns end same makes digests is,
         record {
@@ -207,7 +241,7 @@ module _ {X E : Type 0} (bytes : X → List ℕ) (tells : Type 0) (records : Rec
   rest_out (Ok text) (Ok value) made is put out =
       λ turns changes digests.
       let others = out turns changes digests in (
-        record { trace = []; report = []; races = bytes text; core = others.0.core; digest = others.0.digest },
+        record { trace = []; timeline = []; report = []; races = bytes text; core = others.0.core; digest = others.0.digest },
         λ _. is,
         others.1,
         others.2,
@@ -245,10 +279,19 @@ module _ {X E : Type 0} (bytes : X → List ℕ) (tells : Type 0) (records : Rec
   made_out (Ok text) (Ok value) same made makes put out =
       λ turns changes shares digests order.
       let others = out turns changes digests in (
-        record { trace = trace_text_of turns; report = bytes text; races = others.0.races; core = others.0.core; digest = others.0.digest },
+        record {
+          trace = trace_text_of turns;
+          timeline = timeline_text turns changes;
+          report = bytes text;
+          races = others.0.races;
+          core = others.0.core;
+          digest = others.0.digest;
+        },
+        refl,
         refl,
         record {
           trace = λ is. refl;
+          timeline = λ is. refl;
           report = λ is. report_is records.report sharing (bytes text) changes same makes shares order is;
           races = others.1;
           core = others.2;
@@ -278,9 +321,42 @@ module _ {X E : Type 0} (bytes : X → List ℕ) (tells : Type 0) (records : Rec
         others = left turns changes;
       })
 
+-- the timeline and the texts that are made at the end are where they are to be
+pub timed_out : (tells : Type 0) (records : Records) (left : Left) (now new : Content) (old mid last : Option (List ℕ))
+    → IsPut tells records.timeline (timeline_text left.turns left.changes) now old mid → KeepsButMade records now new → AreMadeWritten tells records left new mid last
+    → AreTimedWritten tells records left new old last
+timed_out tells records left now new old mid last put kept made =
+    let texts = made.0 in
+    let out = made.4 in (
+      texts,
+      made.1,
+      made.3,
+      record {
+        filed = (
+          λ apart.
+              subst (λ (text : List ℕ). IsFiled records.timeline text new) (sym made.2)
+              (still_there records.timeline records _ now new kept put.filed apart.0 apart.1.0 apart.1.1.0 apart.1.1.1.0),
+          out.filed,
+        );
+        printed_after = λ can.
+            Appends-trans old mid last _ _ (subst (λ (text : List ℕ). Prints tells records.timeline text old mid) (sym made.2) put.printed_after can.0) (out.printed_after can.1);
+      },
+    )
+
+-- the timeline is where it is to be, and not each text that is made at the end
+pub timed_left : (tells : Type 0) (records : Records) (left : Left) (failure : Failure) (now new : Content) (out mid out' : Option (List ℕ))
+    → IsPut tells records.timeline (timeline_text left.turns left.changes) now out mid → KeepsButMade records now new
+    → AreUnwrittenMade tells records left new mid out' failure → AreUnwrittenTimed tells records left new out out' failure
+timed_left tells records left failure now new out mid out' put kept missing = inr (record {
+  filed = λ report races core digest. still_there records.timeline records _ now new kept put.filed report races core digest;
+  between = mid;
+  printed_before = put.printed_after;
+  others = missing;
+})
+
 -- all texts are where they are to be
 pub all_out : (tells : Type 0) (records : Records) (left : Left) (now new : Content) (old mid last : Option (List ℕ))
-    → IsPut tells records.trace (trace_text_of left.turns) now old mid → KeepsButMade records now new → AreMadeWritten tells records left new mid last
+    → IsPut tells records.trace (trace_text_of left.turns) now old mid → KeepsButTimed records now new → AreTimedWritten tells records left new mid last
     → AreWritten tells records left new old last
 all_out tells records left now new old mid last put kept made =
     let texts = made.0 in
@@ -291,7 +367,7 @@ all_out tells records left now new old mid last put kept made =
         filed = (
           λ apart.
               subst (λ (text : List ℕ). IsFiled records.trace text new) (sym made.1)
-              (still_there records.trace records _ now new kept put.filed apart.0 apart.1.0 apart.1.1.0 apart.1.1.1.0),
+              (still_before_timed records.trace records _ now new kept put.filed apart.0 apart.1.0 apart.1.1.0 apart.1.1.1.0 apart.1.1.1.1.0),
           out.filed,
         );
         printed_after = λ can.
@@ -301,10 +377,10 @@ all_out tells records left now new old mid last put kept made =
 
 -- the trace is where it is to be, and not each other text
 pub trace_out : (tells : Type 0) (records : Records) (left : Left) (failure : Failure) (old now new : Content) (out mid out' : Option (List ℕ))
-    → IsPut tells records.trace (trace_text_of left.turns) now out mid → KeepsButMade records now new
-    → AreUnwrittenMade tells records left new mid out' failure → AreUnwritten tells records left old new out out' failure
+    → IsPut tells records.trace (trace_text_of left.turns) now out mid → KeepsButTimed records now new
+    → AreUnwrittenTimed tells records left new mid out' failure → AreUnwritten tells records left old new out out' failure
 trace_out tells records left failure old now new out mid out' put kept missing = inr (record {
-  filed = λ report races core digest. still_there records.trace records _ now new kept put.filed report races core digest;
+  filed = λ timeline report races core digest. still_before_timed records.trace records _ now new kept put.filed timeline report races core digest;
   between = mid;
   printed_before = put.printed_after;
   others = missing;

@@ -4,6 +4,7 @@ use Rattle.run_digest.specs.Recording.{Digests}
 use Rattle.sharing_report.specs.Recording.{Shares}
 use Rattle.token.specs.Change.{Change}
 use Rattle.token.specs.declared.turn.Turn.{Turn}
+use Rattle.trace_events.specs.Recording.{Records as HasTimeline}
 use Rattle.tracer.specs.Recording.{Traces}
 use Rattle.command_requests.specs.declared.records.Records.{Records}
 use Rattle.command_outputs.specs.declared.text_recorders.TextRecorders.{TextRecorders}
@@ -11,17 +12,20 @@ use Rattle.command_outputs.specs.declared.text_recorders.TextRecorders.{TextReco
 -- each of them that is there has recorded these turns and these changes
 pub record AreTold {O : Type 0} (contents : O → Option (List ℕ)) (recorders : TextRecorders O) (turns : List Turn) (changes : List Change) : Type 0 where
   pub trace : IfSome recorders.trace (λ trace. Traces contents trace turns)
+  pub timeline : IfSome recorders.timeline (λ timeline. HasTimeline contents timeline turns changes)
   pub sharing : IfSome recorders.sharing (λ sharing. Shares sharing changes)
   pub digest : IfSome recorders.digest (λ digest. Digests digest turns)
 
 -- the same recorders are there
 pub record AreSame {O : Type 0} (recorders others : TextRecorders O) : Type 0 where
   pub trace : is_some others.trace ≡ is_some recorders.trace
+  pub timeline : is_some others.timeline ≡ is_some recorders.timeline
   pub sharing : is_some others.sharing ≡ is_some recorders.sharing
   pub digest : is_some others.digest ≡ is_some recorders.digest
 
 -- there is a recorder for each text that is wanted, and for no other
 pub record AreFor {O : Type 0} (records : Records) (recorders : TextRecorders O) : Type 0 where
   pub trace : is_some recorders.trace ≡ is_some records.trace
+  pub timeline : is_some recorders.timeline ≡ is_some records.timeline
   pub report : is_some recorders.sharing ≡ is_some records.report
   pub digest : is_some recorders.digest ≡ is_some records.digest

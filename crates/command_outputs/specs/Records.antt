@@ -15,6 +15,7 @@ use Rattle.sharing_report.specs.declared.page_row.PageRow.{PageRow}
 use Rattle.token.specs.Change.{Change}
 use Rattle.token.specs.declared.outcome.RunOutcome.{RunOutcome}
 use Rattle.token.specs.declared.turn.Turn.{Turn}
+use Rattle.trace_events.specs.Timeline.{timeline_text}
 use Rattle.tracer.specs.TraceText.{text_of as trace_text_of}
 use Rattle.command_requests.specs.Destination.{Carries, CanPrint, IsApart, IsFileOf, IsFiled, IsPartFor, IsTargetOf, KeepsButFileOf, Prints, printed_to}
 use Rattle.command_requests.specs.declared.destination.Destination.{Destination}
@@ -28,7 +29,7 @@ use Rattle.command_requests.specs.declared.records.Records.{Records}
 
 -- no text is wanted
 abbrev pub NamesNone : Records → Type 0
-NamesNone records = IsNone records.trace × IsNone records.report × IsNone records.races × IsNone records.core × IsNone records.digest
+NamesNone records = IsNone records.trace × IsNone records.timeline × IsNone records.report × IsNone records.races × IsNone records.core × IsNone records.digest
 
 -- why a text didn't get to its destination
 abbrev pub IsUnwrittenTo : Option Destination → Failure → Type 0
@@ -40,7 +41,8 @@ IsUnwrittenTo destination other = ⊥
 abbrev pub IsUnwritten : Records → Failure → Type 0
 IsUnwritten records failure =
     IsUnwrittenTo records.trace failure
-    ⊎ (IsUnwrittenTo records.report failure ⊎ (IsUnwrittenTo records.races failure ⊎ (IsUnwrittenTo records.core failure ⊎ IsUnwrittenTo records.digest failure)))
+    ⊎ (IsUnwrittenTo records.timeline failure
+    ⊎ (IsUnwrittenTo records.report failure ⊎ (IsUnwrittenTo records.races failure ⊎ (IsUnwrittenTo records.core failure ⊎ IsUnwrittenTo records.digest failure))))
 
 -- an output was begun for each text that is made at the end and wanted, and holds nothing yet
 abbrev pub AreBegunMade : {O : Type 0} → (O → Option (List ℕ)) → Records → MadeOutputs O → Type 0
@@ -48,15 +50,16 @@ AreBegunMade contents records made =
     Carries contents records.report made.report [] × Carries contents records.races made.races [] × Carries contents records.core made.core []
     × Carries contents records.digest made.digest []
 
--- and so for the trace
+-- and so for the trace and the timeline
 abbrev pub AreBegun : {O : Type 0} → (O → Option (List ℕ)) → Records → Outputs O → Type 0
-AreBegun contents records outputs = Carries contents records.trace outputs.trace [] × AreBegunMade contents records outputs.made
+AreBegun contents records outputs =
+    Carries contents records.trace outputs.trace [] × Carries contents records.timeline outputs.timeline [] × AreBegunMade contents records outputs.made
 
 -- the files at all paths but the parts of the texts' files are as they were
 abbrev pub KeepsButParts : Records → Content → Content → Type 0
 KeepsButParts records old new =
-    (path : List ℕ) → ¬ IsPartFor records.trace path → ¬ IsPartFor records.report path → ¬ IsPartFor records.races path → ¬ IsPartFor records.core path
-    → ¬ IsPartFor records.digest path → new path ≡ old path
+    (path : List ℕ) → ¬ IsPartFor records.trace path → ¬ IsPartFor records.timeline path → ¬ IsPartFor records.report path → ¬ IsPartFor records.races path
+    → ¬ IsPartFor records.core path → ¬ IsPartFor records.digest path → new path ≡ old path
 
 -- the files at all paths but those for the core file and the digest are as they were
 abbrev pub KeepsButLast : Records → Content → Content → Type 0
@@ -75,9 +78,17 @@ KeepsButMade records old new =
     (path : List ℕ) → ¬ IsFileOf records.report path → ¬ IsPartFor records.report path → ¬ IsFileOf records.races path → ¬ IsPartFor records.races path
     → ¬ IsFileOf records.core path → ¬ IsPartFor records.core path → ¬ IsFileOf records.digest path → ¬ IsPartFor records.digest path → new path ≡ old path
 
+-- and but that for the timeline
+abbrev pub KeepsButTimed : Records → Content → Content → Type 0
+KeepsButTimed records old new =
+    (path : List ℕ) → ¬ IsFileOf records.timeline path → ¬ IsPartFor records.timeline path → ¬ IsFileOf records.report path → ¬ IsPartFor records.report path
+    → ¬ IsFileOf records.races path → ¬ IsPartFor records.races path → ¬ IsFileOf records.core path → ¬ IsPartFor records.core path → ¬ IsFileOf records.digest path
+    → ¬ IsPartFor records.digest path → new path ≡ old path
+
 -- the texts of a run
 pub record Texts : Type 0 where
   pub trace : List ℕ
+  pub timeline : List ℕ
   pub report : List ℕ
   pub races : List ℕ
   pub core : List ℕ
@@ -112,6 +123,7 @@ IsCoreAt end file = IsCore end.outcome (cells_of end.memory) end.threads.items f
 -- They are those of what a run left. A text that isn't wanted is nowhere.
 pub record AreTextsOf (records : Records) (left : Left) (texts : Texts) : Type 0 where
   pub trace : IsSome records.trace → texts.trace ≡ trace_text_of left.turns
+  pub timeline : IsSome records.timeline → texts.timeline ≡ timeline_text left.turns left.changes
   pub report : IsSome records.report → IsReportOf left.changes texts.report
   pub races : IsSome records.races → texts.races ≡ left.races
   pub core : IsSome records.core → IsCore left.ends left.memory left.threads texts.core
@@ -134,9 +146,13 @@ rest records texts = record { destination = records.races; text = texts.races } 
 abbrev pub made : Records → Texts → List Placed
 made records texts = record { destination = records.report; text = texts.report } ∷ rest records texts
 
+-- the timeline before them
+abbrev pub timed : Records → Texts → List Placed
+timed records texts = record { destination = records.timeline; text = texts.timeline } ∷ made records texts
+
 -- all texts of a run, the trace first
 abbrev pub placed : Records → Texts → List Placed
-placed records texts = record { destination = records.trace; text = texts.trace } ∷ made records texts
+placed records texts = record { destination = records.trace; text = texts.trace } ∷ timed records texts
 
 -- what texts add to standard output
 abbrev pub printed : List Placed → List ℕ
@@ -167,10 +183,16 @@ pub record AreOut (tells : Type 0) (texts : List Placed) (content : Content) (ol
 abbrev pub AreWritten : Type 0 → Records → Left → Content → (old new : Option (List ℕ)) → Type 0
 AreWritten tells records left content old new = (texts : Texts) × AreTextsOf records left texts × AreOut tells (placed records texts) content old new
 
--- of those that are made at the end, beside a trace that was written
+-- of those after the trace, beside a trace that was written
+abbrev pub AreTimedWritten : Type 0 → Records → Left → Content → (old new : Option (List ℕ)) → Type 0
+AreTimedWritten tells records left content old new =
+    (texts : Texts) × (texts.trace ≡ trace_text_of left.turns) × AreTextsOf records left texts × AreOut tells (timed records texts) content old new
+
+-- of those that are made at the end, beside a trace and a timeline that were written
 abbrev pub AreMadeWritten : Type 0 → Records → Left → Content → (old new : Option (List ℕ)) → Type 0
 AreMadeWritten tells records left content old new =
-    (texts : Texts) × (texts.trace ≡ trace_text_of left.turns) × AreTextsOf records left texts × AreOut tells (made records texts) content old new
+    (texts : Texts) × (texts.trace ≡ trace_text_of left.turns) × (texts.timeline ≡ timeline_text left.turns left.changes) × AreTextsOf records left texts
+    × AreOut tells (made records texts) content old new
 
 -- of those after the report alone
 abbrev pub AreRestWritten : Type 0 → Records → Left → Content → (old new : Option (List ℕ)) → Type 0
@@ -243,20 +265,33 @@ pub record RestMisses (tells : Type 0) (records : Records) (left : Left) (conten
 abbrev pub AreUnwrittenMade : Type 0 → Records → Left → Content → (old new : Option (List ℕ)) → Failure → Type 0
 AreUnwrittenMade tells records left content old new failure = Misses records.report old new failure ⊎ RestMisses tells records left content old new failure
 
+-- The timeline is where it is to be, and then not each of the texts that are made at the end got to its destination.
+pub record MadeMiss (tells : Type 0) (records : Records) (left : Left) (content : Content) (old new : Option (List ℕ)) (failure : Failure) : Type 0 where
+  pub filed : IsApart records.timeline records.report → IsApart records.timeline records.races → IsApart records.timeline records.core → IsApart records.timeline records.digest
+      → IsFiled records.timeline (timeline_text left.turns left.changes) content
+  pub between : Option (List ℕ)
+  pub printed_before : Prints tells records.timeline (timeline_text left.turns left.changes) old between
+  pub others : AreUnwrittenMade tells records left content between new failure
+
+-- Why not each text after the trace is where it is to be: the timeline isn't, or not each of those that are made at the end is.
+abbrev pub AreUnwrittenTimed : Type 0 → Records → Left → Content → (old new : Option (List ℕ)) → Failure → Type 0
+AreUnwrittenTimed tells records left content old new failure = Misses records.timeline old new failure ⊎ MadeMiss tells records left content old new failure
+
 -- The trace didn't get to its destination, and the files but its own and the parts are as they were.
 pub record TraceMisses (records : Records) (files files' : Content) (old new : Option (List ℕ)) (failure : Failure) : Type 0 where
   pub trace : Misses records.trace old new failure
   pub others :
-      (path : List ℕ) → ¬ IsFileOf records.trace path → ¬ IsPartFor records.trace path → ¬ IsPartFor records.report path → ¬ IsPartFor records.races path
+      (path : List ℕ) → ¬ IsFileOf records.trace path → ¬ IsPartFor records.trace path → ¬ IsPartFor records.timeline path → ¬ IsPartFor records.report path
+      → ¬ IsPartFor records.races path
       → ¬ IsPartFor records.core path → ¬ IsPartFor records.digest path → files' path ≡ files path
 
 -- The trace is where it is to be, and then not each of the other texts got to its destination.
 pub record OthersMiss (tells : Type 0) (records : Records) (left : Left) (content : Content) (old new : Option (List ℕ)) (failure : Failure) : Type 0 where
-  pub filed : IsApart records.trace records.report → IsApart records.trace records.races → IsApart records.trace records.core → IsApart records.trace records.digest
-      → IsFiled records.trace (trace_text_of left.turns) content
+  pub filed : IsApart records.trace records.timeline → IsApart records.trace records.report → IsApart records.trace records.races → IsApart records.trace records.core
+      → IsApart records.trace records.digest → IsFiled records.trace (trace_text_of left.turns) content
   pub between : Option (List ℕ)
   pub printed_before : Prints tells records.trace (trace_text_of left.turns) old between
-  pub others : AreUnwrittenMade tells records left content between new failure
+  pub others : AreUnwrittenTimed tells records left content between new failure
 
 -- Why not each text is where it is to be: the trace isn't, or not each of the others is.
 abbrev pub AreUnwritten : Type 0 → Records → Left → (files files' : Content) → (old new : Option (List ℕ)) → Failure → Type 0

@@ -13,6 +13,8 @@ use std::alloc::Global;
 pub struct Outputs<O> {
     /// For the trace.
     pub trace: Option<O>,
+    /// For the timeline.
+    pub timeline: Option<O>,
     /// For the texts that are made when the run has ended.
     pub made: MadeOutputs<O>,
 }
@@ -29,10 +31,36 @@ pub fn begin<'a, F: Files>(
     ensures failed { IfErr result (IsUnwritten records.now) }
 {
     let trace = begin_output(alloc, records.trace, files)?;
-    match begin_made(alloc, records, files) {
-        Ok(made) => Ok(Outputs { trace, made }),
+    match begin_timed(alloc, records, files) {
+        Ok((timeline, made)) => Ok(Outputs {
+            trace,
+            timeline,
+            made,
+        }),
         Err(failure) => {
             abandon_output(records.trace, trace, files);
+            Err(failure)
+        }
+    }
+}
+
+/// Begins the outputs for the timeline and the texts that are made at the end. Where one can't be begun none is left.
+fn begin_timed<'a, F: Files>(
+    alloc: Global,
+    records: &Records<'a>,
+    files: &mut F,
+) -> Result<(Option<F::Output>, MadeOutputs<F::Output>), Failure<'a>>
+    ensures begun { IfOk result (λ timed. Carries F.Output.contents records.now.timeline timed.0 [] × AreBegunMade F.Output.contents records.now timed.1) }
+    ensures kept { KeepsButParts records.now (F.content files.old) (F.content files.new) }
+    ensures unnamed { NamesNone records.now → files.new ≡ files.old }
+    ensures failed { IfErr result (λ failure. IsUnwrittenTo records.now.timeline failure ⊎ (IsUnwrittenTo records.now.report failure
+        ⊎ (IsUnwrittenTo records.now.races failure ⊎ (IsUnwrittenTo records.now.core failure ⊎ IsUnwrittenTo records.now.digest failure)))) }
+{
+    let timeline = begin_output(alloc, records.timeline, files)?;
+    match begin_made(alloc, records, files) {
+        Ok(made) => Ok((timeline, made)),
+        Err(failure) => {
+            abandon_output(records.timeline, timeline, files);
             Err(failure)
         }
     }
@@ -115,6 +143,7 @@ pub fn abandon<F: Files>(records: &Records<'_>, outputs: Outputs<F::Output>, fil
     ensures unnamed { NamesNone records.now → files.new ≡ files.old }
 {
     abandon_output(records.trace, outputs.trace, files);
+    abandon_output(records.timeline, outputs.timeline, files);
     abandon_made(records, outputs.made, files);
 }
 

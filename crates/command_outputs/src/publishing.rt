@@ -9,16 +9,18 @@ ghost use Rattle.run_digest.specs.Texts.{digest_text};
 ghost use Rattle.sharing_report.specs.Recording.{AreInOrder, Shares};
 ghost use Rattle.token.specs.Change.{Change};
 ghost use Rattle.token.specs.declared.turn.Turn.{Turn as TurnRecord};
+ghost use Rattle.trace_events.specs.Recording.{Records as HasTimeline};
+ghost use Rattle.trace_events.specs.Timeline.{timeline_text};
 ghost use Rattle.tracer.specs.Recording.{Traces};
 ghost use Rattle.tracer.specs.TraceText.{text_of as trace_text_of};
 ghost use Rattle.command_requests.specs.Destination.{Carries};
 ghost use Rattle.command_outputs.specs.Recorders.{AreFor, AreTold};
-ghost use Rattle.command_outputs.specs.Records.{AreBegunMade, AreLastWritten, AreMadeWritten, AreRestWritten, AreUnwritten, AreUnwrittenLast, AreUnwrittenMade, AreUnwrittenRest, AreWritten, IsCoreAt, IsPut, IsReportOf, IsUnwrittenTo, KeepsButLast, KeepsButMade, KeepsButRest, LeavesOthers, NamesNone, left_by};
+ghost use Rattle.command_outputs.specs.Records.{AreBegunMade, AreLastWritten, AreMadeWritten, AreRestWritten, AreTimedWritten, AreUnwritten, AreUnwrittenLast, AreUnwrittenMade, AreUnwrittenRest, AreUnwrittenTimed, AreWritten, IsCoreAt, IsPut, IsReportOf, IsUnwrittenTo, KeepsButLast, KeepsButMade, KeepsButRest, KeepsButTimed, LeavesOthers, NamesNone, left_by};
 
 use crate::ended::Ended;
 use crate::made_outputs::MadeOutputs;
 use crate::outputs::{abandon_made, abandon_output};
-use crate::text_recorders::TextRecorders;
+use crate::text_recorders::{TextRecorders, timeline_output};
 use crate::trace_failure::failure_of_turn;
 use command_requests::{Destination, Failure, Records, Target};
 use core_file::{CoreFault, core_threads, write_core};
@@ -27,6 +29,7 @@ use run_digest::DigestRecorder;
 use sharing_report::{SharingRecorder, report_text};
 use std::alloc::{AllocError, Global};
 use std::io::Write;
+use trace_events::TimelineRecorder;
 use tracer::TraceRecorder;
 
 /// Puts the texts of a run that ended so where they are to be, the trace first. After a failure nothing more is written.
@@ -53,10 +56,53 @@ pub fn write_records<'a, F: Files, W: Write>(
 {
     let TextRecorders {
         trace,
+        timeline,
         sharing,
         digest,
     } = recorders;
     match write_trace(records.trace, trace, files, writer) {
+        Ok(()) => write_timed(
+            alloc, records, timeline, sharing, digest, made, end, files, writer,
+        ),
+        Err(failure) => {
+            abandon_output(records.timeline, timeline_output(timeline), files);
+            abandon_made(records, made, files);
+            Err(failure)
+        }
+    }
+}
+
+/// Puts the timeline where it is to be, and then the texts that are made when a run has ended.
+fn write_timed<'a, F: Files, W: Write>(
+    alloc: Global,
+    records: &Records<'a>,
+    timeline: Option<TimelineRecorder<F::Output>>,
+    sharing: Option<SharingRecorder>,
+    digest: Option<DigestRecorder>,
+    made: MadeOutputs<F::Output>,
+    end: Ended,
+    files: &mut F,
+    writer: &mut W,
+) -> Result<(), Failure<'a>>
+    requires timeline { is_some timeline ≡ is_some records.now.timeline }
+    requires report { is_some sharing ≡ is_some records.now.report }
+    requires digest { is_some digest ≡ is_some records.now.digest }
+    requires few { length end.threads.items ≤ limit.threads }
+    requires begun { AreBegunMade F.Output.contents records.now made }
+    ensures out { OnOk result ((turns : List TurnRecord) (changes : List Change)
+        → IfSome timeline (λ timeline. HasTimeline F.Output.contents timeline turns changes)
+        → IfSome sharing (λ sharing. Shares sharing changes) → IfSome digest (λ digest. Digests digest turns) → AreInOrder changes
+        → AreTimedWritten (Tells F.Output.contents) records.now (left_by turns changes end)
+        (F.content files.new) (W.contents writer.old) (W.contents writer.new)) }
+    ensures others { KeepsButTimed records.now (F.content files.old) (F.content files.new) }
+    ensures unnamed { NamesNone records.now → files.new ≡ files.old }
+    ensures failed { IfErr result (λ failure. (turns : List TurnRecord) (changes : List Change)
+        → IfSome timeline (λ timeline. HasTimeline F.Output.contents timeline turns changes)
+        → IfSome sharing (λ sharing. Shares sharing changes) → AreInOrder changes
+        → AreUnwrittenTimed (Tells F.Output.contents) records.now (left_by turns changes end)
+        (F.content files.new) (W.contents writer.old) (W.contents writer.new) failure) }
+{
+    match write_timeline(records.timeline, timeline, files, writer) {
         Ok(()) => write_made(alloc, records, sharing, digest, made, end, files, writer),
         Err(failure) => {
             abandon_made(records, made, files);
@@ -286,6 +332,41 @@ fn write_trace<'a, F: Files, W: Write>(
     requires { is_some recorder ≡ is_some destination }
     ensures put { OnOk result ((turns : List TurnRecord) → IfSome recorder (λ recorder. Traces F.Output.contents recorder turns)
         → IsPut (Tells F.Output.contents) destination.entry (trace_text_of turns)
+        (F.content files.new) (W.contents writer.old) (W.contents writer.new)) }
+    ensures left { LeavesOthers F.content destination.entry result files.old files.new (W.contents writer.old) (W.contents writer.new) }
+{
+    let Some(recorder) = recorder else {
+        return Ok(());
+    };
+    let Some(destination) = destination else {
+        return Ok(());
+    };
+    let mut recorder = recorder;
+    match recorder.finish() {
+        Ok(()) => publish(
+            Some(destination),
+            Some(recorder.into_writer()),
+            files,
+            writer,
+        ),
+        Err(fault) => {
+            abandon_output(Some(destination), Some(recorder.into_writer()), files);
+            Err(failure_of_turn(destination.target(), fault))
+        }
+    }
+}
+
+/// Writes out the rest of a timeline, and puts it where it is to be.
+fn write_timeline<'a, F: Files, W: Write>(
+    destination: Option<Destination<'a>>,
+    recorder: Option<TimelineRecorder<F::Output>>,
+    files: &mut F,
+    writer: &mut W,
+) -> Result<(), Failure<'a>>
+    requires { is_some recorder ≡ is_some destination }
+    ensures put { OnOk result ((turns : List TurnRecord) (changes : List Change)
+        → IfSome recorder (λ recorder. HasTimeline F.Output.contents recorder turns changes)
+        → IsPut (Tells F.Output.contents) destination.entry (timeline_text turns changes)
         (F.content files.new) (W.contents writer.old) (W.contents writer.new)) }
     ensures left { LeavesOthers F.content destination.entry result files.old files.new (W.contents writer.old) (W.contents writer.new) }
 {

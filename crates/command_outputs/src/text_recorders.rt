@@ -4,6 +4,7 @@ use run_digest::DigestRecorder;
 use sharing_report::SharingRecorder;
 use std::alloc::Global;
 use std::io::Write;
+use trace_events::TimelineRecorder;
 use tracer::TraceRecorder;
 
 /// What records the texts of a run, each where it is wanted.
@@ -11,6 +12,8 @@ use tracer::TraceRecorder;
 pub struct TextRecorders<O> {
     /// The trace, which goes to its output as the turns are done.
     pub trace: Option<TraceRecorder<O>>,
+    /// The timeline, which goes to its output as the turns are done.
+    pub timeline: Option<TimelineRecorder<O>>,
     /// What the sharing report is made of.
     pub sharing: Option<SharingRecorder>,
     /// What the digest is made of.
@@ -22,16 +25,21 @@ impl<O: Write> TextRecorders<O> {
     ghost use Rattle.command_requests.specs.Destination.{Carries};
     ghost use Rattle.command_outputs.specs.Recorders.{AreFor, AreTold};
 
-    /// Recorders of the texts that are wanted, which have recorded no turn. The trace goes to the output that was begun
-    /// for it.
-    pub fn new(alloc: Global, records: &Records<'_>, trace: Option<O>) -> Self
-        requires { Carries O.contents records.now.trace trace [] }
+    /// Recorders of the texts that are wanted, which have recorded no turn. Trace and timeline go to the outputs that
+    /// were begun for them.
+    pub fn new(alloc: Global, records: &Records<'_>, trace: Option<O>, timeline: Option<O>) -> Self
+        requires trace { Carries O.contents records.now.trace trace [] }
+        requires timeline { Carries O.contents records.now.timeline timeline [] }
         ensures wanted { AreFor records.now result }
         ensures told { AreTold O.contents result [] [] }
     {
         TextRecorders {
             trace: match trace {
                 Some(output) => Some(TraceRecorder::new(alloc, output)),
+                None => None,
+            },
+            timeline: match timeline {
+                Some(output) => Some(TimelineRecorder::new(alloc, output)),
                 None => None,
             },
             sharing: match records.report {
@@ -45,12 +53,25 @@ impl<O: Write> TextRecorders<O> {
         }
     }
 
-    /// The output that the trace goes to, where there is one. Lines that weren't written are dropped.
-    pub fn into_trace_output(self) -> Option<O> {
-        let TextRecorders { trace, .. } = self;
-        match trace {
+    /// The outputs that trace and timeline go to, where there are. What wasn't written is dropped.
+    pub fn into_outputs(self) -> (Option<O>, Option<O>) {
+        let TextRecorders {
+            trace,
+            timeline,
+            ..
+        } = self;
+        let trace = match trace {
             Some(trace) => Some(trace.into_writer()),
             None => None,
-        }
+        };
+        (trace, timeline_output(timeline))
+    }
+}
+
+/// The output that a timeline goes to, where there is one. Events that weren't written are dropped.
+pub(crate) fn timeline_output<O: Write>(timeline: Option<TimelineRecorder<O>>) -> Option<O> {
+    match timeline {
+        Some(timeline) => Some(timeline.into_writer()),
+        None => None,
     }
 }

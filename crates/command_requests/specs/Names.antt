@@ -23,7 +23,7 @@ names_in (Some (File path)) = if counts path.now then At path ∷ PartOf path �
 -- the names of the files of a run: of the program, where it counts, of the files for the texts, and of their parts
 abbrev pub names_of : Bor (List ℕ) → Records → List FileName
 names_of file records =
-    (if counts file.now then At file ∷ [] else []) ++ (names_in records.trace ++ (names_in records.report ++ (names_in records.races ++ (names_in records.core ++ names_in records.digest))))
+    (if counts file.now then At file ∷ [] else []) ++ (names_in records.trace ++ (names_in records.timeline ++ (names_in records.report ++ (names_in records.races ++ (names_in records.core ++ names_in records.digest)))))
 
 -- a name is written unlike each of some others
 abbrev pub IsUnlike : FileName → List FileName → Type 0

@@ -81,6 +81,9 @@ fn with_records<'a>(command: Command<'a>, alloc: Global) -> Result<Command<'a>, 
         .arg(output(alloc, "trace").help(
             "Write a line for each turn to this file, or to standard output where it is -",
         ))?
+        .arg(output(alloc, "timeline").help(
+            "Write a timeline for trace viewers to this file, or to standard output where it is -",
+        ))?
         .arg(output(alloc, "report").help(
             "Write the sharing of pages to this file, or to standard output where it is -",
         ))?
@@ -161,6 +164,7 @@ fn requested<'a>(matches: &ArgMatches<'a>) -> Option<Request<'a>> {
             numbers: numbers_of(run)?,
             records: Records {
                 trace: run.get_str("trace").map(Destination::named),
+                timeline: run.get_str("timeline").map(Destination::named),
                 report: run.get_str("report").map(Destination::named),
                 races: run.get_str("races").map(Destination::named),
                 core: run.get_str("core").map(Destination::named),

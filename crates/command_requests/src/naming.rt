@@ -39,6 +39,7 @@ fn names_of<'a>(
         names.push(FileName::At(file))?;
     }
     add_names(records.trace, &mut names)?;
+    add_names(records.timeline, &mut names)?;
     add_names(records.report, &mut names)?;
     add_names(records.races, &mut names)?;
     add_names(records.core, &mut names)?;

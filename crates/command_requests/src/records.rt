@@ -6,6 +6,8 @@ use crate::destination::Destination;
 pub struct Records<'a> {
     /// For the trace.
     pub trace: Option<Destination<'a>>,
+    /// For the timeline.
+    pub timeline: Option<Destination<'a>>,
     /// For the sharing report.
     pub report: Option<Destination<'a>>,
     /// For the races.

@@ -1,5 +1,5 @@
 -- What a run answers, put together of its parts.
-use Rattle.std.proofs.Common.{false, true, ◌≡◌, ◌⊎◌, ◌∙◌, inl, inr, ℕ, Option, Some, None, Result, Ok, Err, List, IfOk, IfSome, IsSome, ap, is_some, refl, subst, sym}
+use Rattle.std.proofs.Common.{false, true, ◌≡◌, ◌⊎◌, ◌∙◌, inl, inr, ℕ, Option, Some, None, Result, Ok, Err, List, IfOk, IfSome, IsSome, ap, is_some, refl, subst, sym, ⊎_elim}
 use Rattle.std.proofs.KnownBytes.{Appends-trans}
 use Rattle.std.specs.Io.KnownBytes.{Appends}
 use Rattle.std.specs.Result.{IsErrAnd}
@@ -26,7 +26,7 @@ use Rattle.token.specs.Setup.{Setup}
 use Rattle.token.specs.declared.outcome.RunOutcome.{RunOutcome}
 use Rattle.token.specs.declared.turn.Turn.{Turn}
 use Rattle.command_run.specs.Failure.{failure_of_interruption}
-use Rattle.command_outputs.specs.Records.{AreTextsOf, AreUnwritten, AreWritten, IsUnwritten, KeepsButParts, Left, Texts}
+use Rattle.command_outputs.specs.Records.{AreTextsOf, AreUnwritten, AreWritten, IsUnwritten, IsUnwrittenTo, KeepsButParts, Left, Texts}
 use Rattle.command_outputs.specs.Recorders.{AreFor, AreSame}
 use Rattle.symbols.specs.Symbol.{SymbolLists}
 use Rattle.symbols.specs.Symbols.{symbols_of}
@@ -36,7 +36,8 @@ use Rattle.command_run.specs.declared.opened.Opened.{Opened}
 use Rattle.command_run.specs.Serves.{left_after, AreOneFile, AreOpenedFrom, AreRun, AreWantedRaces, Concludes, Host, IsBegun, IsStopped, IsUnrun, LeavesTexts, RunRequest, RunsInto}
 use Rattle.command_requests.specs.declared.destination.Destination.{Destination}
 use Rattle.command_requests.specs.declared.failure.Failure.{Failure}
-use Rattle.command_requests.specs.declared.failure.Failure.TheVariants.{OutOfMemory}
+use Rattle.command_requests.specs.declared.failure.Failure.TheVariants.{CannotWrite, OutOfMemory}
+use Rattle.command_requests.specs.declared.target.Target.TheVariants.{StandardOutput}
 use Rattle.command_requests.specs.declared.records.Records.{Records}
 use Rattle.command_outputs.specs.declared.text_recorders.TextRecorders.{TextRecorders}
 
@@ -64,12 +65,30 @@ pub in_order : (setup : Setup) (history : History) → IsLegal setup history →
 in_order setup history legal = record { phases = phases_ascend setup history legal; threads = thread_numbers_small setup history legal }
 
 -- why a run was stopped
-pub stopped_by : (trace : Option Destination) (setup : Setup) (interruption : Interruption) (old new : Option (List ℕ)) → SendsPrefix setup old new
-    → IsStopped trace setup old new (failure_of_interruption trace interruption)
-stopped_by trace setup stop.OutOfMemory old new sent = (inl refl, sent)
-stopped_by trace setup stop.WriteFailed old new sent = (inr (inl refl), sent)
-stopped_by None setup stop.RecordFailed old new sent = (inr (inl refl), sent)
-stopped_by (Some trace) setup stop.RecordFailed old new sent = (inr (inr refl), sent)
+unwritten_by : (destination : Option Destination) (interruption : Interruption)
+    → (failure_of_interruption destination interruption ≡ OutOfMemory)
+    ⊎ ((failure_of_interruption destination interruption ≡ CannotWrite StandardOutput) ⊎ IsUnwrittenTo destination (failure_of_interruption destination interruption))
+unwritten_by destination stop.OutOfMemory = inl refl
+unwritten_by destination stop.WriteFailed = inr (inl refl)
+unwritten_by None stop.RecordFailed = inr (inl refl)
+unwritten_by (Some destination) stop.RecordFailed = inr (inr refl)
+
+pub stopped_by : (trace timeline destination : Option Destination) (setup : Setup) (interruption : Interruption) (old new : Option (List ℕ))
+    → (destination ≡ trace) ⊎ (destination ≡ timeline) → SendsPrefix setup old new
+    → IsStopped trace timeline setup old new (failure_of_interruption destination interruption)
+stopped_by trace timeline destination setup interruption old new among sent = (
+  ⊎_elim
+      (λ memory. inl memory)
+      (λ others. ⊎_elim
+      (λ output. inr (inl output))
+      (λ unwritten. ⊎_elim
+      (λ is. inr (inr (inl (subst (λ (to : Option Destination). IsUnwrittenTo to (failure_of_interruption destination interruption)) is unwritten))))
+      (λ is. inr (inr (inr (subst (λ (to : Option Destination). IsUnwrittenTo to (failure_of_interruption destination interruption)) is unwritten))))
+      among)
+      others)
+      (unwritten_by destination interruption),
+  sent,
+)
 
 -- the output of a run that came to its end is a prefix of its history's
 pub all_sent : {R : Type 0} (records : Recording R) (setup : Setup) (end : RunEnd) (recorder : R) (old new : Option (List ℕ)) → Ends records setup end recorder
@@ -109,7 +128,7 @@ module _ {R : Type 0} (told : Recording R) (tells : Type 0) (records : Records) 
     output_is = ends.some.2.output;
     texts_are =
         let all = subst (λ (left : Left). AreTextsOf records left texts) (left_so end.output.items) are in
-        record { trace = all.trace; report = all.report; races = λ _. refl; core = all.core; digest = all.digest };
+        record { trace = all.trace; timeline = all.timeline; report = all.report; races = λ _. refl; core = all.core; digest = all.digest };
   }
 
   -- the run came to its end, and its texts are where they are to be
@@ -131,7 +150,7 @@ module _ {R : Type 0} (told : Recording R) (tells : Type 0) (records : Records) 
       → AreUnwritten tells records left now after.files mid after.output failure
       → AreUnwritten tells records left before.files after.files mid after.output failure
   unwritten_since left failure kept (inl missing) =
-      inl (record { trace = missing.trace; others = λ path file trace report races core digest. missing.others path file trace report races core digest ∙ kept path trace report races core digest })
+      inl (record { trace = missing.trace; others = λ path file trace timeline report races core digest. missing.others path file trace timeline report races core digest ∙ kept path trace timeline report races core digest })
   unwritten_since left failure kept (inr missing) = inr missing
 
   -- the run came to its end, and one of its texts isn't where it is to be
@@ -160,7 +179,7 @@ module _ {R : Type 0} (told : Recording R) (tells : Type 0) (records : Records) 
 
 -- the parts alone change twice
 pub but_parts_twice : (records : Records) (old now new : Content) → KeepsButParts records old now → KeepsButParts records now new → KeepsButParts records old new
-but_parts_twice records old now new first second = λ path trace report races core digest. second path trace report races core digest ∙ first path trace report races core digest
+but_parts_twice records old now new first second = λ path trace timeline report races core digest. second path trace timeline report races core digest ∙ first path trace timeline report races core digest
 
 -- the output of a text couldn't be begun, and nothing was put out
 pub concludes_unbegun : (tells : Type 0) (records : Records) (symbols : SymbolLists) (setup : Setup) (files now : Content) (out : Option (List ℕ)) (failure : Failure) (answer : Result RunOutcome Failure)
@@ -185,7 +204,7 @@ if_recorded records setup (Err interruption) recorder Is follows ends = tt
 
 -- the same recorders are there for the same texts
 pub still_for : {O : Type 0} (records : Records) (recorders others : TextRecorders O) → AreFor records recorders → AreSame recorders others → AreFor records others
-still_for records recorders others are same = record { trace = same.trace ∙ are.trace; report = same.sharing ∙ are.report; digest = same.digest ∙ are.digest }
+still_for records recorders others are same = record { trace = same.trace ∙ are.trace; timeline = same.timeline ∙ are.timeline; report = same.sharing ∙ are.report; digest = same.digest ∙ are.digest }
 
 -- a run that was begun answers what it concludes with
 pub runs_to : (tells : Type 0) (request : RunRequest) (before after : Host) (opened : Opened) (answer : Result RunOutcome Failure)

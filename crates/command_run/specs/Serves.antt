@@ -89,15 +89,16 @@ abbrev pub ComesTo : Setup → Records → RunOutcome → List ℕ → Texts →
 ComesTo setup records ends output texts = HasAnswer setup (LeavesTexts setup records ends output texts)
 
 -- Why a run that began has no answer, and what standard output holds: memory was refused, or standard output failed, or a write of the
--- trace to this destination. A prefix of the output of some legal history is put out.
-abbrev pub IsStopped : Option Destination → Setup → Option (List ℕ) → Option (List ℕ) → Failure → Type 0
-IsStopped trace setup old new failure =
-    ((failure ≡ OutOfMemory) ⊎ ((failure ≡ CannotWrite StandardOutput) ⊎ IsUnwrittenTo trace failure)) × SendsPrefix setup old new
+-- trace or of the timeline to its destination. A prefix of the output of some legal history is put out.
+abbrev pub IsStopped : (trace timeline : Option Destination) → Setup → Option (List ℕ) → Option (List ℕ) → Failure → Type 0
+IsStopped trace timeline setup old new failure =
+    ((failure ≡ OutOfMemory) ⊎ ((failure ≡ CannotWrite StandardOutput) ⊎ (IsUnwrittenTo trace failure ⊎ IsUnwrittenTo timeline failure)))
+    × SendsPrefix setup old new
 
 -- Why a run has no answer although nothing refuses it: the output of a text couldn't be begun, and nothing was put out; or the run
 -- was stopped.
 abbrev pub IsHalted : Records → Option (List ℕ) → Option (List ℕ) → Failure → Setup → Type 0
-IsHalted records old new failure setup = (IsUnwritten records failure × (new ≡ old)) ⊎ IsStopped records.trace setup old new failure
+IsHalted records old new failure setup = (IsUnwritten records failure × (new ≡ old)) ⊎ IsStopped records.trace records.timeline setup old new failure
 
 -- the text is that of the run's races, if they are wanted
 abbrev pub AreWantedRaces : Records → SymbolLists → Setup → List ℕ → Type 0

@@ -3,7 +3,7 @@ ghost use Rattle.std.specs.Prelude.{◌≡◌, ◌+◌, ◌-◌, ◌^◌, ◌<�
 ghost use Rattle.output_files.specs.Content.{Tells};
 ghost use Rattle.output_files.specs.Taken.{TakesAtMost};
 ghost use Rattle.run_limits.specs.Limits as limit;
-ghost use Rattle.command_outputs.specs.Records.{NamesNone};
+ghost use Rattle.command_outputs.specs.Records.{KeepsButParts, NamesNone};
 ghost use Rattle.symbols.specs.Symbol.{SymbolLists};
 ghost use Rattle.token.specs.RunInTurn.{point_of};
 ghost use Rattle.command_run.specs.Observing.{AreSameRun};
@@ -12,7 +12,7 @@ ghost use Rattle.command_run.specs.Serves.{Concludes, RunsInto};
 use crate::observing::race_text;
 use crate::opened::Opened;
 use crate::running::{RunAttempt, open_file, run_start};
-use command_outputs::{Ended, Outputs, TextRecorders, abandon, begin, write_records};
+use command_outputs::{Ended, MadeOutputs, Outputs, TextRecorders, abandon, begin, write_records};
 use command_requests::{Failure, Records, named_twice};
 use output_files::Files;
 use runtime::{Config, RunOutcome, WriteSink};
@@ -71,16 +71,14 @@ fn run_opened_file<'a, H: Threads + Wait + Sync, F: Files, W: Write>(
 {
     one_history();
     let Opened { start, observed } = opened;
-    let Outputs { trace, made } = begin(alloc, records, files)?;
-    let recorders = TextRecorders::new(alloc, records, trace);
+    let Outputs {
+        trace,
+        timeline,
+        made,
+    } = begin(alloc, records, files)?;
+    let recorders = TextRecorders::new(alloc, records, trace, timeline);
     let RunAttempt { result, recorders } = run_start(
-        rt,
-        alloc,
-        start,
-        workers,
-        records.trace,
-        recorders,
-        stdout,
+        rt, alloc, start, workers, records, recorders, stdout,
     );
     match result {
         Ok(end) => match race_text(rt, alloc, observed) {
@@ -105,15 +103,32 @@ fn run_opened_file<'a, H: Threads + Wait + Sync, F: Files, W: Write>(
                 Ok(outcome)
             }
             Err(failure) => {
-                let trace = recorders.into_trace_output();
-                abandon(records, Outputs { trace, made }, files);
+                abandon_all(records, recorders, made, files);
                 Err(failure)
             }
         },
         Err(failure) => {
-            let trace = recorders.into_trace_output();
-            abandon(records, Outputs { trace, made }, files);
+            abandon_all(records, recorders, made, files);
             Err(failure)
         }
     }
+}
+
+/// Takes away what was begun for the texts of a run that has no answer.
+fn abandon_all<F: Files>(
+    records: &Records<'_>,
+    recorders: TextRecorders<F::Output>,
+    made: MadeOutputs<F::Output>,
+    files: &mut F,
+)
+    ensures kept { KeepsButParts records.now (F.content files.old) (F.content files.new) }
+    ensures unnamed { NamesNone records.now → files.new ≡ files.old }
+{
+    let (trace, timeline) = recorders.into_outputs();
+    let outputs = Outputs {
+        trace,
+        timeline,
+        made,
+    };
+    abandon(records, outputs, files);
 }

@@ -1,5 +1,5 @@
 //! The command `run`: opens a file and its input, and runs them to their end.
-ghost use Rattle.std.specs.Prelude.{◌≡◌, ◌+◌, ◌-◌, ◌^◌, ◌<◌, [], IfErr, IfOk, is_some};
+ghost use Rattle.std.specs.Prelude.{◌≡◌, ◌⊎◌, ◌+◌, ◌-◌, ◌^◌, ◌<◌, [], IfErr, IfOk, is_some};
 ghost use Rattle.std.specs.Io.KnownBytes.{Appends};
 ghost use Rattle.output_files.specs.Taken.{TakesAtMost};
 ghost use Rattle.run_limits.specs.Limits as limit;
@@ -14,7 +14,7 @@ use crate::observing::open_observed;
 use crate::opened::Opened;
 use crate::run_failure::{failure_of_interruption, failure_of_refusal};
 use command_outputs::TextRecorders;
-use command_requests::{Destination, Failure, Target};
+use command_requests::{Destination, Failure, Records, Target};
 use elf32_reader::FILE_LIMIT;
 use output_files::{Files, read_upto};
 use runtime::{
@@ -104,13 +104,13 @@ pub fn open_bytes<'a>(
 }
 
 /// Does all turns of a run by so many host threads at most, puts its output out, and tells the recorders of its texts
-/// each turn. Its trace goes to this destination, where there is one.
+/// each turn. Its trace and its timeline go to their destinations, where there are.
 pub fn run_start<'a, H: Threads + Wait + Sync, O: Write, W: Write>(
     rt: &H,
     alloc: Global,
     start: Start,
     workers: u32,
-    trace: Option<Destination<'a>>,
+    records: &Records<'a>,
     recorders: TextRecorders<O>,
     stdout: &mut WriteSink<W>,
 ) -> RunAttempt<'a, O>
@@ -120,10 +120,10 @@ pub fn run_start<'a, H: Threads + Wait + Sync, O: Write, W: Write>(
     ensures ended { IfOk result.result (λ end. Ends (AreTold O.contents) (point_of start).setup end result.recorders) }
     ensures same { IfOk result.result (λ _. AreSame recorders result.recorders) }
     ensures sent { IfOk result.result (λ end. Appends (W.contents stdout.old.writer) (W.contents stdout.new.writer) end.output.items) }
-    ensures stopped { IfErr result.result (IsStopped trace.entry (point_of start).setup
+    ensures stopped { IfErr result.result (IsStopped records.now.trace records.now.timeline (point_of start).setup
         (W.contents stdout.old.writer) (W.contents stdout.new.writer)) }
 {
-    let run = run_wanted::<Brand, Brand, Brand, _, _, _>(
+    let run = run_wanted::<Brand, Brand, Brand, Brand, _, _, _>(
         rt, alloc, start, workers, recorders, stdout,
     );
     let RecordedRun { result, recorder } = run;
@@ -132,7 +132,10 @@ pub fn run_start<'a, H: Threads + Wait + Sync, O: Write, W: Write>(
             Ok(()) => Ok(end),
             Err(_) => Err(Failure::CannotWrite(Target::StandardOutput)),
         },
-        Err(interruption) => Err(failure_of_interruption(interruption, trace)),
+        Err(interruption) => {
+            let unwritten = unwritten_destination(records, &recorder);
+            Err(failure_of_interruption(interruption, unwritten))
+        }
     };
     RunAttempt {
         result,
@@ -140,8 +143,29 @@ pub fn run_start<'a, H: Threads + Wait + Sync, O: Write, W: Write>(
     }
 }
 
+/// The destination of the text whose recorder couldn't write, if one of them couldn't: the timeline's recorder says so.
+fn unwritten_destination<'a, O: Write>(
+    records: &Records<'a>,
+    recorders: &TextRecorders<O>,
+) -> Option<Destination<'a>>
+    ensures { (result ≡ records.now.trace) ⊎ (result ≡ records.now.timeline) }
+{
+    match &recorders.timeline {
+        Some(timeline) if timeline.failure().is_some() => records.timeline,
+        _ => records.trace,
+    }
+}
+
 /// Does all turns of a run, and tells the recorders each. At the end it is known that the same ones are there.
-fn run_wanted<T: IsWanted, S: IsWanted, D: IsWanted, H: Threads + Wait + Sync, O: Write, W: Write>(
+fn run_wanted<
+    T: IsWanted,
+    L: IsWanted,
+    S: IsWanted,
+    D: IsWanted,
+    H: Threads + Wait + Sync,
+    O: Write,
+    W: Write,
+>(
     rt: &H,
     alloc: Global,
     start: Start,
@@ -153,6 +177,7 @@ fn run_wanted<T: IsWanted, S: IsWanted, D: IsWanted, H: Threads + Wait + Sync, O
     requires failures { stdout.old.failures < 2 ^ 64 - 1 }
     requires none { AreTold O.contents recorders [] [] }
     requires trace { is_some recorders.trace ≡ T.is_wanted }
+    requires timeline { is_some recorders.timeline ≡ L.is_wanted }
     requires sharing { is_some recorders.sharing ≡ S.is_wanted }
     requires digest { is_some recorders.digest ≡ D.is_wanted }
     ensures ended { IfOk result.result (λ end. Ends (AreTold O.contents) (point_of start).setup end result.recorder) }
@@ -162,8 +187,11 @@ fn run_wanted<T: IsWanted, S: IsWanted, D: IsWanted, H: Threads + Wait + Sync, O
     let all = Both {
         first: Wanted::<T, _>::new(recorders.trace),
         second: Both {
-            first: Wanted::<S, _>::new(recorders.sharing),
-            second: Wanted::<D, _>::new(recorders.digest),
+            first: Wanted::<L, _>::new(recorders.timeline),
+            second: Both {
+                first: Wanted::<S, _>::new(recorders.sharing),
+                second: Wanted::<D, _>::new(recorders.digest),
+            },
         },
     };
     let run = run_opened(rt, alloc, start, workers, &OpenGate, stdout, all);
@@ -171,8 +199,9 @@ fn run_wanted<T: IsWanted, S: IsWanted, D: IsWanted, H: Threads + Wait + Sync, O
         result: run.result,
         recorder: TextRecorders {
             trace: run.recorder.first.recorder,
-            sharing: run.recorder.second.first.recorder,
-            digest: run.recorder.second.second.recorder,
+            timeline: run.recorder.second.first.recorder,
+            sharing: run.recorder.second.second.first.recorder,
+            digest: run.recorder.second.second.second.recorder,
         },
     }
 }

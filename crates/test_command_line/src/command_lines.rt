@@ -140,16 +140,17 @@ Arguments:
   <FILE>  The program, an ELF file
 
 Options:
-      --input <FILE>   The program's input [default: standard input]
-      --workers <N>    How many workers there are, 1 to 64 [default: 4]
-      --bound <N>      How many instructions a thread may execute, 1 to 2^40 [default: 1000000000]
-      --quantum <N>    After how many instructions a thread's turn ends, 1 to 2^40 [default: none]
-      --trace <FILE>   Write a line for each turn to this file, or to standard output where it is -
-      --report <FILE>  Write the sharing of pages to this file, or to standard output where it is -
-      --races <FILE>   Write the data races to this file, or to standard output where it is -
-      --core <FILE>    Write a core file of the end, for gdb, to this file, or to standard output where it is -
-      --digest <FILE>  Write hashes of output, memory and trace to this file, or to standard output where it is -
-  -h, --help           Print help
+      --input <FILE>     The program's input [default: standard input]
+      --workers <N>      How many workers there are, 1 to 64 [default: 4]
+      --bound <N>        How many instructions a thread may execute, 1 to 2^40 [default: 1000000000]
+      --quantum <N>      After how many instructions a thread's turn ends, 1 to 2^40 [default: none]
+      --trace <FILE>     Write a line for each turn to this file, or to standard output where it is -
+      --timeline <FILE>  Write a timeline for trace viewers to this file, or to standard output where it is -
+      --report <FILE>    Write the sharing of pages to this file, or to standard output where it is -
+      --races <FILE>     Write the data races to this file, or to standard output where it is -
+      --core <FILE>      Write a core file of the end, for gdb, to this file, or to standard output where it is -
+      --digest <FILE>    Write hashes of output, memory and trace to this file, or to standard output where it is -
+  -h, --help             Print help
 ";
     let arguments = ["dthreads", "run", "--help"];
     asked(&rt, &arguments).assert_is(&rt, 0, text.as_bytes(), "");
@@ -164,12 +165,17 @@ fn the_version_is_printed(rt: HostRuntime) {
 }
 
 /// Arguments of a run of which two name one file, and how the two are written.
-static TWICE_NAMED: [(&[&str], &str); 15] = [
+static TWICE_NAMED: [(&[&str], &str); 17] = [
     (&["a.elf", "--trace", "a.elf"], "a.elf and a.elf"),
     (&["a.elf", "--report", "a.elf"], "a.elf and a.elf"),
     (&["a.elf", "--digest", "a.elf"], "a.elf and a.elf"),
     (&["a.elf", "--digest", "t", "--report", "t"], "t and t"),
     (&["a.elf", "--core", "t", "--report", "t"], "t and t"),
+    (&["a.elf", "--timeline", "t", "--trace", "t"], "t and t"),
+    (
+        &["a.elf", "--timeline", "t.part", "--digest", "t"],
+        "t.part and t.part",
+    ),
     (&["a.elf", "--races", "t", "--core", "t"], "t and t"),
     (
         &["a.elf", "--races", "t", "--digest", "t.part"],
@@ -211,7 +217,19 @@ fn two_names_of_one_file_are_refused(rt: HostRuntime) -> Result<(), Fail> {
 /// Arguments of a run that name one file which doesn't count, or none.
 static COUNTED_ONCE: [&[&str]; 4] = [
     &[
-        "-", "--trace", "-", "--report", "-", "--races", "-", "--core", "-", "--digest", "-",
+        "-",
+        "--trace",
+        "-",
+        "--timeline",
+        "-",
+        "--report",
+        "-",
+        "--races",
+        "-",
+        "--core",
+        "-",
+        "--digest",
+        "-",
     ],
     &["a", "--trace", "/dev/null", "--report", "/dev/null"],
     &["/dev/stdin", "--trace", "/dev/stdin"],

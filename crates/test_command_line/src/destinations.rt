@@ -71,6 +71,16 @@ fn a_path_that_cannot_be_written_is_found_before_the_first_turn(
         "--digest",
         "no/digest",
     ];
+    let line = "cannot write no/timeline\n";
+    let timeline = ["dthreads", "run", "a.elf", "--timeline", "no/timeline"];
+    check_line(
+        &rt,
+        &timeline,
+        letter.as_slice(),
+        &mut io::empty(),
+        124,
+        line,
+    )?;
     let line = "cannot write no/races\n";
     let races = ["dthreads", "run", "a.elf", "--races", "no/races"];
     check_line(&rt, &races, letter.as_slice(), &mut io::empty(), 124, line)?;
@@ -144,6 +154,14 @@ fn a_write_that_fails_in_the_middle_leaves_the_old_files(rt: HostRuntime) -> Res
     let performed = Performed::new(&rt, &reported, &mut files, &mut io::empty());
     performed.assert_is(&rt, 124, b"", "cannot write report\n");
     files.assert_old(&rt);
+    let timed = ["dthreads", "run", "a.elf", "--timeline", "timeline"];
+    for room in [0, 50, 4000] {
+        let mut files = MemoryFiles::with_old_files(rt.alloc(), race.as_slice())?;
+        files.room = room;
+        let performed = Performed::new(&rt, &timed, &mut files, &mut io::empty());
+        performed.assert_is(&rt, 124, b"", "cannot write timeline\n");
+        files.assert_old(&rt);
+    }
     let raced = ["dthreads", "run", "a.elf", "--races", "races"];
     for room in [0, 50] {
         let mut files = MemoryFiles::with_old_files(rt.alloc(), race.as_slice())?;

@@ -11,9 +11,22 @@ use std::sync::Wait;
 use std::test::Fail;
 use std::thread::Threads;
 
-const RUN: [&str; 13] = [
-    "dthreads", "run", "a.elf", "--trace", "trace", "--report", "report", "--races", "races",
-    "--core", "core", "--digest", "digest",
+const RUN: [&str; 15] = [
+    "dthreads",
+    "run",
+    "a.elf",
+    "--trace",
+    "trace",
+    "--timeline",
+    "timeline",
+    "--report",
+    "report",
+    "--races",
+    "races",
+    "--core",
+    "core",
+    "--digest",
+    "digest",
 ];
 
 /// How many writes and flushes succeed, how many bytes each write takes, and how many of the eight bytes of
@@ -136,11 +149,28 @@ fn records_that_cannot_be_written(rt: HostRuntime) -> Result<(), Fail> {
         &mut files,
         &mut stdout,
         124,
-        "cannot write report\n",
+        "cannot write timeline\n",
     )?;
     assert!(rt; files.trace.as_slice().starts_with(b"1 0 lock "));
+    assert_eq!(rt; files.timeline.len(), 1000);
     assert_eq!(rt; files.report.len(), 1000);
     files.good_ends = 2;
+    check(
+        &rt,
+        &RUN,
+        &mut files,
+        &mut stdout,
+        124,
+        "cannot write report\n",
+    )?;
+    assert!(rt;
+        files
+            .timeline
+            .as_slice()
+            .starts_with(b"{\"traceEvents\":[\n")
+    );
+    assert_eq!(rt; files.report.len(), 1000);
+    files.good_ends = 3;
     check(
         &rt,
         &RUN,
@@ -153,7 +183,7 @@ fn records_that_cannot_be_written(rt: HostRuntime) -> Result<(), Fail> {
     assert_eq!(rt; files.races.len(), 1000);
     assert_eq!(rt; files.core.len(), 1000);
     assert_eq!(rt; files.digest.len(), 1000);
-    files.good_ends = 3;
+    files.good_ends = 4;
     check(
         &rt,
         &RUN,
@@ -170,7 +200,7 @@ fn records_that_cannot_be_written(rt: HostRuntime) -> Result<(), Fail> {
     );
     assert_eq!(rt; files.core.len(), 1000);
     assert_eq!(rt; files.digest.len(), 1000);
-    files.good_ends = 4;
+    files.good_ends = 5;
     check(
         &rt,
         &RUN,

@@ -15,6 +15,9 @@ pub const SCHEDULE: &str = "schedule";
 /// The path of the file of `MemoryFiles` for a trace.
 pub const TRACE: &str = "trace";
 
+/// The path of the file of `MemoryFiles` for a timeline.
+pub const TIMELINE: &str = "timeline";
+
 /// The path of the file of `MemoryFiles` for a report.
 pub const REPORT: &str = "report";
 
@@ -30,13 +33,14 @@ pub const DIGEST: &str = "digest";
 /// A path of `MemoryFiles` that can't be compared with another one, since memory is refused for that.
 pub const REFUSED: &str = "refused";
 
-/// A program, a schedule, and files in memory for a trace, a report, races, a core file and a digest. No other path has a
-/// file, and none can be written.
+/// A program, a schedule, and files in memory for a trace, a timeline, a report, races, a core file and a digest. No other
+/// path has a file, and none can be written.
 #[derive(Drop)]
 pub struct MemoryFiles<'a> {
     pub program: &'a [u8],
     pub schedule: &'a [u8],
     pub trace: Vec<u8>,
+    pub timeline: Vec<u8>,
     pub report: Vec<u8>,
     pub races: Vec<u8>,
     pub core: Vec<u8>,
@@ -53,6 +57,7 @@ pub struct MemoryFiles<'a> {
 #[derive(Clone, Copy)]
 struct Parts {
     trace: bool,
+    timeline: bool,
     report: bool,
     races: bool,
     core: bool,
@@ -71,6 +76,7 @@ impl<'a> MemoryFiles<'a> {
             program,
             schedule,
             trace: Vec::new(alloc),
+            timeline: Vec::new(alloc),
             report: Vec::new(alloc),
             races: Vec::new(alloc),
             core: Vec::new(alloc),
@@ -79,6 +85,7 @@ impl<'a> MemoryFiles<'a> {
             good_ends: u32::MAX,
             parts: Parts {
                 trace: false,
+                timeline: false,
                 report: false,
                 races: false,
                 core: false,
@@ -91,6 +98,7 @@ impl<'a> MemoryFiles<'a> {
     pub fn with_old_files(alloc: Global, program: &'a [u8]) -> Result<Self, AllocError> {
         let mut files = MemoryFiles::new(alloc, program);
         files.trace.resize(1000, b'x')?;
+        files.timeline.resize(1000, b'x')?;
         files.report.resize(1000, b'x')?;
         files.races.resize(1000, b'x')?;
         files.core.resize(1000, b'x')?;
@@ -101,6 +109,7 @@ impl<'a> MemoryFiles<'a> {
     /// Fails the test where an output was begun that was neither put in its file's place nor abandoned.
     pub fn assert_no_part(&self, rt: &impl Abort) {
         assert!(rt; !self.parts.trace, "the trace's part is left");
+        assert!(rt; !self.parts.timeline, "the timeline's part is left");
         assert!(rt; !self.parts.report, "the report's part is left");
         assert!(rt; !self.parts.races, "the races' part is left");
         assert!(rt; !self.parts.core, "the core file's part is left");
@@ -112,6 +121,7 @@ impl<'a> MemoryFiles<'a> {
         self.assert_no_part(rt);
         for file in [
             &self.trace,
+            &self.timeline,
             &self.report,
             &self.races,
             &self.core,
@@ -126,6 +136,7 @@ impl<'a> MemoryFiles<'a> {
     fn at(&mut self, path: &str) -> Option<&mut Vec<u8>> {
         match path {
             TRACE => Some(&mut self.trace),
+            TIMELINE => Some(&mut self.timeline),
             REPORT => Some(&mut self.report),
             RACES => Some(&mut self.races),
             CORE => Some(&mut self.core),
@@ -138,6 +149,7 @@ impl<'a> MemoryFiles<'a> {
     fn note_part(&mut self, path: &str, is_there: bool) {
         match path {
             TRACE => self.parts.trace = is_there,
+            TIMELINE => self.parts.timeline = is_there,
             REPORT => self.parts.report = is_there,
             RACES => self.parts.races = is_there,
             CORE => self.parts.core = is_there,
@@ -173,7 +185,7 @@ impl Files for MemoryFiles<'_> {
 
     fn begin(&mut self, alloc: Global, path: &str) -> Result<MemoryOutput, WriteFault> {
         match path {
-            TRACE | REPORT | RACES | CORE | DIGEST => {
+            TRACE | TIMELINE | REPORT | RACES | CORE | DIGEST => {
                 self.note_part(path, true);
                 Ok(MemoryOutput::new(alloc, self.room))
             }

@@ -23,3 +23,5 @@ mod race_lists;
 mod refusals;
 #[cfg(test)]
 mod replays;
+#[cfg(test)]
+mod timelines;

@@ -5,7 +5,7 @@ use Rattle.std.specs.Io.KnownBytes.{Appends, Keeps}
 use Rattle.std.proofs.lemmas.List.{append-nil, drop-append-le, drop-drop, drop_all, take-append-drop}
 use Rattle.std.proofs.lemmas.List.Concat.{flat_map-append}
 use Rattle.token.specs.declared.turn.Turn.{Turn}
-use Rattle.tracer.specs.Recording.{Holds, KeepsText, Tells, Traces, line_at}
+use Rattle.tracer.specs.Recording.{Holds, KeepsText, Traces, line_at}
 use Rattle.tracer.specs.TraceText.{line_of, text_of}
 use Rattle.tracer.specs.declared.trace_recorder.TraceRecorder.{TraceRecorder}
 

@@ -40,42 +40,37 @@ turn_text turn = decimal turn.phase ++ codes " " ++ decimal turn.thread ++ codes
 abbrev pub counts_text : (changed ran : ℕ) → List ℕ
 counts_text changed ran = codes " changed=" ++ decimal changed ++ codes " ran=" ++ decimal ran ++ codes "\n"
 
--- PHASE THREAD NAME ARG0 ARG1 ARG2 -> RESULT changed=CHANGED ran=RAN
-unfoldable pub call_line : Turn → (number : ℕ) → (arguments : List ℕ) → Reply → List ℕ
-call_line turn number arguments reply =
-    turn_text turn ++ name_text number
+-- NAME ARG0 ARG1 ARG2 -> RESULT
+unfoldable pub call_text : (number : ℕ) → (arguments : List ℕ) → Reply → List ℕ
+call_text number arguments reply =
+    name_text number
     ++ codes " " ++ word_text (slice_index arguments 0)
     ++ codes " " ++ word_text (slice_index arguments 1)
     ++ codes " " ++ word_text (slice_index arguments 2)
     ++ codes " -> " ++ result_text reply
-    ++ counts_text turn.changed turn.ran
 
--- PHASE THREAD trap CAUSE PC VALUE changed=CHANGED ran=RAN
-unfoldable pub trap_line : Turn → (pc : ℕ) → Trapped → List ℕ
-trap_line turn pc trap =
-    turn_text turn ++ codes "trap " ++ decimal (cause_number trap.cause)
+-- trap CAUSE PC VALUE
+unfoldable pub trap_text : (pc : ℕ) → Trapped → List ℕ
+trap_text pc trap =
+    codes "trap " ++ decimal (cause_number trap.cause)
     ++ codes " " ++ word_text pc
     ++ codes " " ++ word_text trap.value
-    ++ counts_text turn.changed turn.ran
 
--- PHASE THREAD wake MUTEX changed=0 ran=0
-unfoldable pub wake_line : Turn → (mutex : ℕ) → List ℕ
-wake_line turn mutex = turn_text turn ++ codes "wake " ++ decimal mutex ++ counts_text 0 0
+-- what a turn did
+abbrev pub stop_text : TurnStop → List ℕ
+stop_text (Call number arguments reply) = call_text number arguments reply
+stop_text (Trap pc trap) = trap_text pc trap
+stop_text (Wake mutex) = codes "wake " ++ decimal mutex
+stop_text (Quantum pc) = codes "quantum " ++ word_text pc
 
--- PHASE THREAD quantum PC changed=CHANGED ran=RAN
-unfoldable pub quantum_line : Turn → (pc : ℕ) → List ℕ
-quantum_line turn pc = turn_text turn ++ codes "quantum " ++ word_text pc ++ counts_text turn.changed turn.ran
-
--- the line of a turn that stopped so
-abbrev pub line_by : Turn → TurnStop → List ℕ
-line_by turn (Call number arguments reply) = call_line turn number arguments reply
-line_by turn (Trap pc trap) = trap_line turn pc trap
-line_by turn (Wake mutex) = wake_line turn mutex
-line_by turn (Quantum pc) = quantum_line turn pc
+-- the counts of a turn that stopped so: a wake changes nothing and executes nothing
+abbrev pub counts_by : Turn → TurnStop → List ℕ
+counts_by turn (Wake mutex) = counts_text 0 0
+counts_by turn stop = counts_text turn.changed turn.ran
 
 -- the line of a turn
 unfoldable pub line_of : Turn → List ℕ
-line_of turn = line_by turn turn.stop
+line_of turn = turn_text turn ++ stop_text turn.stop ++ counts_by turn turn.stop
 
 -- the lines of some turns, in their order
 unfoldable pub text_of : List Turn → List ℕ

@@ -9,8 +9,12 @@ use text_output::write_hexadecimal;
 
 /// Appends the name of the call with this number, or `call_` and the number's eight digits where no call
 /// has it.
+///
+/// # Errors
+///
+/// Only out of memory. The text may then have a part of the name.
 #[tactic(auto, unfolding(crate::specs::TraceText::name_text))]
-pub(crate) fn write_call_name(text: &mut String, number: u32) -> Result<(), AllocError>
+pub fn write_call_name(text: &mut String, number: u32) -> Result<(), AllocError>
     ensures { OnOk result (string_bytes text.new ≡ string_bytes text.old ++ name_text number) }
 {
     match CallKind::from_number(number) {

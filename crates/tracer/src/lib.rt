@@ -16,10 +16,11 @@
 //! hexadecimal digits; the cause, the mutex and the code of a completed call are decimal.
 //!
 //! - [`line`] is the line of a turn, with the newline that ends it, and [`write_line`] appends it to a text.
+//! - [`write_stop`] appends the middle part of a line, and [`write_call_name`] the name of a call.
 //! - [`trace_text`] is the lines of some turns.
 //! - [`TraceRecorder`] writes the lines of a run's turns to a writer as they are done.
 //!
-//! The first three fail only when memory runs out.
+//! All but the last fail only when memory runs out.
 #![tactic(auto)]
 
 mod call_name;
@@ -28,7 +29,8 @@ mod trace;
 mod trace_recorder;
 mod turn_line;
 
+pub use call_name::write_call_name;
 pub use token::Turn;
 pub use trace::trace_text;
 pub use trace_recorder::TraceRecorder;
-pub use turn_line::{line, write_line};
+pub use turn_line::{line, write_line, write_stop};

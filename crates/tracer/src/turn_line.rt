@@ -1,7 +1,7 @@
 //! The line of a turn.
 ghost use Rattle.std.specs.Prelude.{◌≡◌, ◌++◌, IfOk, OnOk, decimal};
 ghost use Rattle.std.specs.String.{string_bytes};
-ghost use Rattle.tracer.specs.TraceText.{word_text, turn_text, counts_text, call_line, trap_line, wake_line, quantum_line, line_by, line_of};
+ghost use Rattle.tracer.specs.TraceText.{turn_text, counts_text, call_text, trap_text, stop_text, line_of};
 
 use crate::call_name::write_call_name;
 use crate::reply::write_reply;
@@ -34,30 +34,50 @@ pub fn line(alloc: Global, turn: &Turn) -> Result<String, AllocError>
 pub fn write_line(text: &mut String, turn: &Turn) -> Result<(), AllocError>
     ensures { OnOk result (string_bytes text.new ≡ string_bytes text.old ++ line_of turn.now) }
 {
+    write_turn(text, turn)?;
+    write_stop(text, turn.stop)?;
     match turn.stop {
+        TurnStop::Wake { .. } => write_counts(text, 0, 0),
+        _ => write_counts(text, turn.changed, turn.ran),
+    }
+}
+
+/// Appends what a turn did: the part of its line between the thread and the counts.
+///
+/// # Errors
+///
+/// Only out of memory. The text may then have a part of it.
+pub fn write_stop(text: &mut String, stop: TurnStop) -> Result<(), AllocError>
+    ensures { OnOk result (string_bytes text.new ≡ string_bytes text.old ++ stop_text stop) }
+{
+    match stop {
         TurnStop::Call {
             number,
             arguments,
             reply,
-        } => write_call(text, turn, number, arguments, reply),
-        TurnStop::Trap { pc, trap } => write_trap(text, turn, pc, trap),
-        TurnStop::Wake { mutex } => write_wake(text, turn, mutex),
-        TurnStop::Quantum { pc } => write_quantum(text, turn, pc),
+        } => write_call(text, number, arguments, reply),
+        TurnStop::Trap { pc, trap } => write_trap(text, pc, trap),
+        TurnStop::Wake { mutex } => {
+            text.push_str("wake ")?;
+            text.push_str(Buffer::new().format(mutex))
+        }
+        TurnStop::Quantum { pc } => {
+            text.push_str("quantum ")?;
+            write_hexadecimal(text, 8, pc)
+        }
     }
 }
 
-/// Appends the line of a turn that ended with a call.
-#[tactic(auto, unfolding(crate::specs::TraceText::call_line))]
+/// Appends a call with its arguments, and what it came to.
+#[tactic(auto, unfolding(crate::specs::TraceText::call_text))]
 fn write_call(
     text: &mut String,
-    turn: &Turn,
     number: u32,
     arguments: [u32; 3],
     reply: Reply,
 ) -> Result<(), AllocError>
-    ensures { OnOk result (string_bytes text.new ≡ string_bytes text.old ++ call_line turn.now number arguments reply) }
+    ensures { OnOk result (string_bytes text.new ≡ string_bytes text.old ++ call_text number arguments reply) }
 {
-    write_turn(text, turn)?;
     write_call_name(text, number)?;
     text.push_str(" ")?;
     write_hexadecimal(text, 8, arguments[0])?;
@@ -66,45 +86,20 @@ fn write_call(
     text.push_str(" ")?;
     write_hexadecimal(text, 8, arguments[2])?;
     text.push_str(" -> ")?;
-    write_reply(text, reply)?;
-    write_counts(text, turn.changed, turn.ran)
+    write_reply(text, reply)
 }
 
-/// Appends the line of a turn that ended with a trap at this pc.
-#[tactic(auto, unfolding(crate::specs::TraceText::trap_line))]
-fn write_trap(text: &mut String, turn: &Turn, pc: u32, trap: Trap) -> Result<(), AllocError>
-    ensures { OnOk result (string_bytes text.new ≡ string_bytes text.old ++ trap_line turn.now pc trap) }
+/// Appends a trap at this pc.
+#[tactic(auto, unfolding(crate::specs::TraceText::trap_text))]
+fn write_trap(text: &mut String, pc: u32, trap: Trap) -> Result<(), AllocError>
+    ensures { OnOk result (string_bytes text.new ≡ string_bytes text.old ++ trap_text pc trap) }
 {
-    write_turn(text, turn)?;
     text.push_str("trap ")?;
     text.push_str(Buffer::new().format(trap.cause.number()))?;
     text.push_str(" ")?;
     write_hexadecimal(text, 8, pc)?;
     text.push_str(" ")?;
-    write_hexadecimal(text, 8, trap.value)?;
-    write_counts(text, turn.changed, turn.ran)
-}
-
-/// Appends the line of the turn of a woken thread, which took this mutex.
-#[tactic(auto, unfolding(crate::specs::TraceText::wake_line))]
-fn write_wake(text: &mut String, turn: &Turn, mutex: u32) -> Result<(), AllocError>
-    ensures { OnOk result (string_bytes text.new ≡ string_bytes text.old ++ wake_line turn.now mutex) }
-{
-    write_turn(text, turn)?;
-    text.push_str("wake ")?;
-    text.push_str(Buffer::new().format(mutex))?;
-    write_counts(text, 0, 0)
-}
-
-/// Appends the line of a turn that ended with its quantum, before the instruction at this pc.
-#[tactic(auto, unfolding(crate::specs::TraceText::quantum_line))]
-fn write_quantum(text: &mut String, turn: &Turn, pc: u32) -> Result<(), AllocError>
-    ensures { OnOk result (string_bytes text.new ≡ string_bytes text.old ++ quantum_line turn.now pc) }
-{
-    write_turn(text, turn)?;
-    text.push_str("quantum ")?;
-    write_hexadecimal(text, 8, pc)?;
-    write_counts(text, turn.changed, turn.ran)
+    write_hexadecimal(text, 8, trap.value)
 }
 
 /// Appends a turn's phase and thread, with which each line begins.

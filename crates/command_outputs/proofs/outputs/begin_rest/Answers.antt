@@ -3,4 +3,4 @@ use Rattle.command_outputs.proofs.outputs.begin_rest.Goals as goal
 
 pub returns-in-Ok-clause-kept : goal.returns-in-Ok-clause-kept
 returns-in-Ok-clause-kept g c =
-    λ path trace report races core digest. c.in-Ok.ensures.kept path trace report races core digest ∙ c.begin_output.ensures.kept path races
+    λ path trace timeline report races core digest. c.in-Ok.ensures.kept path trace timeline report races core digest ∙ c.begin_output.ensures.kept path races

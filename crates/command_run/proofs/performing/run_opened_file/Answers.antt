@@ -46,16 +46,16 @@ returns-in-Err-race_text-clause-answer g c =
     concludes_refused (AreTold g.F.Output.Write.contents) (Tells g.F.Output.Write.contents) c.args.records.now symbols (point_of c.args.opened.start).setup c.in-Ok.end
     c.run_start-result.result.recorders
     (record { files = g.F.Files.content c.args.files.now; output = g.W.Write.contents c.args.stdout.now.writer })
-    (record { files = g.F.Files.content c.abandon.new.files; output = g.W.Write.contents c.run_start-result.new.stdout.writer })
+    (record { files = g.F.Files.content c.abandon_all.new.files; output = g.W.Write.contents c.run_start-result.new.stdout.writer })
     c.in-Err-race_text.failure (rw c.in-Ok.is at c.run_start-result.ensures.ended) c.in-Err-race_text.ensures.failed (rw c.in-Ok.is at c.run_start-result.ensures.sent)
-    (but_parts_twice c.args.records.now (g.F.Files.content c.args.files.now) (g.F.Files.content c.begin.new.files) (g.F.Files.content c.abandon.new.files)
-    c.in_ok-trace.ensures.kept c.abandon.ensures.kept)
+    (but_parts_twice c.args.records.now (g.F.Files.content c.args.files.now) (g.F.Files.content c.begin.new.files) (g.F.Files.content c.abandon_all.new.files)
+    c.in_ok-trace.ensures.kept c.abandon_all.ensures.kept)
 
 pub returns-in-Err-clause-answer : goal.returns-in-Err-clause-answer
 returns-in-Err-clause-answer g c =
     λ symbols names.
     inl (
       inr (rw c.in-Err.is at c.run_start-result.ensures.stopped),
-      but_parts_twice c.args.records.now (g.F.Files.content c.args.files.now) (g.F.Files.content c.begin.new.files) (g.F.Files.content c.abandon-in-Err.new.files)
-          c.in_ok-trace.ensures.kept c.abandon-in-Err.ensures.kept,
+      but_parts_twice c.args.records.now (g.F.Files.content c.args.files.now) (g.F.Files.content c.begin.new.files) (g.F.Files.content c.abandon_all-in-Err.new.files)
+          c.in_ok-trace.ensures.kept c.abandon_all-in-Err.ensures.kept,
     )

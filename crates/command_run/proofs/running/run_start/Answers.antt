@@ -16,5 +16,13 @@ returns-clause-stopped g c = elim c.match-result.branch [
         (rw w.in-Ok.is at c.run_wanted-run.ensures.ended) (Appends-kept _ _ _ _ (rw w.in-Ok.is at c.run_wanted-run.ensures.sent) w.finish.ensures.bytes),
   )
   | in-Err w ↦ rw (w.result-is, w.stdout-is, w.failure_of_interruption.ensures)
-      (stopped_by c.args.trace (point_of c.args.start).setup w.in-Err.interruption _ _ (rw w.in-Err.is at c.run_wanted-run.ensures.sent))
+      (stopped_by c.args.records.now.trace c.args.records.now.timeline w.unwritten_destination-unwritten.result (point_of c.args.start).setup w.in-Err.interruption _ _ w.unwritten_destination-unwritten.ensures (rw w.in-Err.is at c.run_wanted-run.ensures.sent))
+]
+
+-- the last flush kept what was put out
+pub returns-clause-sent : goal.returns-clause-sent
+returns-clause-sent g c = elim c.match-result.branch [
+  | in-Ok+in-Ok-finish w ↦ rw (w.result-is, w.stdout-is) (Appends-kept _ _ _ _ (rw w.in-Ok.is at c.run_wanted-run.ensures.sent) w.finish.ensures.bytes)
+  | in-Ok+in-Err-finish w ↦ rw w.result-is tt
+  | in-Err w ↦ rw w.result-is tt
 ]

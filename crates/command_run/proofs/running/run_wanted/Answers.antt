@@ -7,4 +7,4 @@ use Rattle.command_run.proofs.running.run_wanted.Goals as goal
 pub returns-clause-ended : goal.returns-clause-ended
 returns-clause-ended g c =
     if_ended _ (AreTold g.O.Write.contents) (point_of c.args.start).setup c.run_opened-run.result.result c.run_opened-run.result.recorder _
-    (λ turns changes told. record { trace = told.0.1; sharing = told.1.0.1; digest = told.1.1.1 }) c.run_opened-run.ensures.end
+    (λ turns changes told. record { trace = told.0.1; timeline = told.1.0.1; sharing = told.1.1.0.1; digest = told.1.1.1.1 }) c.run_opened-run.ensures.end

@@ -1,7 +1,7 @@
-use Rattle.std.proofs.Common.{Some, refl, ap, ◌∙◌}
-use Rattle.tracer.specs.Recording.{KeepsText, Traces, unwritten}
+use Rattle.std.proofs.Common.{Some, ap, ◌∙◌}
+use Rattle.tracer.specs.Recording.{unwritten}
 use Rattle.tracer.specs.TraceText.{text_of}
-use Rattle.tracer.proofs.Writing.{Holds-kept, KeepsText-then, Traces-kept, all_taken}
+use Rattle.tracer.proofs.Writing.{Holds-kept, Traces-kept, all_taken}
 use Rattle.tracer.proofs.trace_recorder.TraceRecorder.finish.Goals as goal
 
 pub returns-in_err-make_line-clause-kept : goal.returns-in_err-make_line-clause-kept

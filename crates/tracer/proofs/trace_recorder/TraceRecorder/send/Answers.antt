@@ -1,4 +1,4 @@
-use Rattle.std.proofs.Common.{◌≤◌, List, ℕ, ◌++◌, ◌∙◌, ap, arith, length, rules}
+use Rattle.std.proofs.Common.{◌≤◌, List, ℕ, ◌++◌, ◌∙◌, ap, length, rules}
 use Rattle.std.specs.String.{string_bytes}
 use Rattle.std.proofs.lemmas.List.{take_rest}
 use Rattle.tracer.specs.Recording.{line_at}

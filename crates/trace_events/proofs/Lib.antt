@@ -1,0 +1,4 @@
+pub mod More
+pub mod Ok
+pub mod Rows
+pub mod Sending

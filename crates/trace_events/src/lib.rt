@@ -1,0 +1,28 @@
+//! Timelines of runs for trace viewers, in the Trace Event Format: one event a line.
+//!
+//! Time is in instructions, as the run would take them if each thread had a processor of its own. The segments of a
+//! phase begin together; the turns follow in token order, none before the end of its segment; the segment of a thread
+//! that kept the token begins at its turn.
+//!
+//! - [`TimelineRecorder`] writes the timeline of a run's turns to a writer as they are done. What it keeps grows with
+//!   the threads of the run, and not with its turns.
+#![tactic(auto)]
+
+mod ending;
+mod entry;
+mod event;
+mod events;
+mod outlet;
+mod pages;
+mod phase;
+mod progress;
+mod release;
+mod sum;
+mod thread_state;
+mod threads;
+mod timed_turn;
+mod timeline_recorder;
+mod wait;
+mod waiter;
+
+pub use timeline_recorder::TimelineRecorder;
