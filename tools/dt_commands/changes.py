@@ -1,9 +1,9 @@
 """The changes of tools/changes: each states one sentence of the guest machine wrongly, in a definition and in the code alike.
 
 A file tools/changes/NAME.change has lines `part:` and `sentence:`, a line `row:` with the test that must fail (`MODULE::TEST` of
-test_conformance, or `test_guest_runs::ROW`, one row of that program or all that begin with these words), mostly one `case:` with what the
-failed row's message says, and edits as those of must-fail have them: lines `file:`, `old:` and `new:`. The old text is once in the file.
-In a source it is an expression, whole statements, an arm of a match, or the head of an `if` or a `while`.
+test_parts or test_conformance, or `test_guest_runs::ROW`, one row of that program or all that begin with these words), mostly one `case:`
+with what the failed row's message says, and edits as those of must-fail have them: lines `file:`, `old:` and `new:`. The old text is once
+in the file. In a source it is an expression, whole statements, an arm of a match, or the head of an `if` or a `while`.
 """
 import os
 
@@ -11,7 +11,7 @@ from dt_commands.repository import TOP
 
 FOLDER = f"{TOP}/tools/changes"
 PARTS = ["Harts", "Traps", "Memory", "Bound and quantum", "Files", "Calls", "Phases and turns", "Texts"]
-ROWS = "test_conformance"
+ROWS = ["test_parts", "test_conformance"]
 PROGRAM = "test_guest_runs"
 
 
@@ -47,7 +47,8 @@ class Change:
     def test(self):
         """Returns the source file of the row's test, and the test's name."""
         module, test = self.row.rsplit("::", 1)
-        return f"crates/{ROWS}/src/{module.replace('::', '/')}.rt", test
+        files = [f"crates/{crate}/src/{module.replace('::', '/')}.rt" for crate in ROWS]
+        return next((it for it in files if os.path.exists(f"{TOP}/{it}")), files[-1]), test
 
     def apply(self, folder):
         """Makes the change in a copy of the repository."""

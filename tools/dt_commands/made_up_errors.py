@@ -27,15 +27,17 @@ HANDED_ON = {
     ("crates/command_disasm/src/listings.rt", "Err(_) => Err(Failure::OutOfMemory),"),
     ("crates/timeline/src/motion.rt", "Err(_) => Err(AllocError),"),
     ("crates/races/src/recorder.rt", "return Err(AllocError);"),
+    ("crates/trace_events/src/timeline_recorder.rt", "self.failure = Some(TurnFault::OutOfMemory);"),
 }
 
 # Lines that say so where no host could have the time: a run of 2^63 turns, of 2^62 turns and changed bytes, or of 2^62
-# events, and 2^64 library regions in one another.
+# events, 2^64 library regions in one another, and 2^64 instructions.
 BEYOND_ANY_HOST = {
     ("crates/token/src/serial.rt", "return Err(TurnFault::OutOfMemory);"),
     ("crates/sharing_report/src/sharing_recorder.rt", "return Err(TurnFault::OutOfMemory);"),
     ("crates/races/src/steps.rt", "return Err(AllocError);"),
     ("crates/races/src/depths.rt", "None => Err(AllocError),"),
+    ("crates/trace_events/src/sum.rt", "None => Err(TurnFault::OutOfMemory),"),
 }
 
 

@@ -1,6 +1,8 @@
-"""Measures guest programs: workers, samples in C, turns of the C library's operations, the debugger, and lists of races."""
+"""Measures guest programs: workers, samples in C, turns of the C library's operations, the debugger, lists of races, and other detectors
+of races beside them.
+"""
 
 PARTS = {
     "workers": "measure_workers", "c-samples": "measure_c_samples", "turns": "measure_turns", "debugger": "measure_debugger",
-    "races": "measure_races",
+    "races": "measure_races", "detectors": "measure_detectors",
 }

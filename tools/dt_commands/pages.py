@@ -15,7 +15,7 @@ from .repository import TOP
 
 
 # The pages that are read as a whole, and how many bytes each may have.
-LIMITS = {"README.md": 9_500, "docs/C.md": 7_168, "docs/DEBUGGING.md": 7_168}
+LIMITS = {"README.md": 9_500, "docs/C.md": 7_168, "docs/DEBUGGING.md": 7_168, "docs/TIMELINE.md": 5_120}
 
 
 def read(page):

@@ -1,7 +1,7 @@
 """Tries the changes of tools/changes.
 
-A change states one sentence of the guest machine wrongly, in definition and code alike, so proofs pass: a row of test_conformance or of
-test_guest_runs has to refuse it. All changes are built at once, into a copy without proofs. Its tests are run with each change of a test,
+A change states one sentence of the guest machine wrongly, in definition and code alike, so proofs pass: a row of test_parts,
+test_conformance or test_guest_runs has to refuse it. All changes are built at once, into a copy without proofs. Its tests are run with each change of a test,
 and its program once for each change of a row of the program, on these rows alone. Nothing is proved. It needs a C compiler.
 """
 import os
@@ -24,9 +24,9 @@ def rt_try(crate, words, seconds):
     return ran.stdout
 
 
-def attempt_tests(folder, seconds):
-    """Runs the tests of the copy, and returns of each how it ended and what it said, and all that was printed."""
-    said = rt_try(f"{folder}/crates/{ROWS}", ["--test"], seconds)
+def attempt_tests(crate, seconds):
+    """Runs the tests of a crate of the copy, and returns of each how it ended and what it said, and all that was printed."""
+    said = rt_try(crate, ["--test"], seconds)
     if "test result:" not in said:
         raise SystemExit(f"the copy was not built or not run:\n{said}")
     return {it[0]: it[1:] for it in re.findall(r"^test (\S+) \.\.\. (\S+)(.*?)(?=^test )", said, re.M | re.S)}, said
@@ -69,13 +69,22 @@ def attempt_rows(found, folder, seconds):
     return ended, said
 
 
+def crates_of(found):
+    """Returns the crates that have a test of these changes."""
+    files = [it.test()[0] for it in found if not it.program_row()]
+    return [crate for crate in ROWS if any(file.startswith(f"crates/{crate}/") for file in files)]
+
+
 def attempt(found, seconds):
     """Returns of each change, and of each test and row with none, how it ended and what it said."""
-    with tempfile.TemporaryDirectory(prefix="sweep-changes-") as folder, Progress("crates with rows", 2) as progress:
+    with tempfile.TemporaryDirectory(prefix="sweep-changes-") as folder, Progress("crates with rows", len(ROWS) + 1) as progress:
         copy(found, folder)
-        progress.at = ROWS
-        tests, said = attempt_tests(folder, seconds) if any(not it.program_row() for it in found) else ({}, "")
-        progress.done, progress.at = 1, PROGRAM
+        tests, said = {}, ""
+        for progress.done, progress.at in enumerate(crates_of(found)):
+            ended_there, said_there = attempt_tests(f"{folder}/crates/{progress.at}", seconds)
+            tests.update(ended_there)
+            said += said_there
+        progress.done, progress.at = len(ROWS), PROGRAM
         rows, said_too = attempt_rows(found, folder, seconds)
     ended = {number: rows[number] for number in rows}
     for number, change in enumerate(found, 1):

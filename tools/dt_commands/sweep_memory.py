@@ -30,7 +30,7 @@ GUESTS = [
     ("echo", b"ab", []),
     ("release-race", b"", []),
 ]
-RECORDS = ["trace", "report", "races", "core", "digest"]
+RECORDS = ["trace", "timeline", "report", "races", "core", "digest"]
 
 # The schedules of `race`, each with the numbers of workers that it is replayed with.
 SCHEDULES = [("one-worker", "14"), ("three-workers", "34"), ("early-turn", "24")]

@@ -31,7 +31,7 @@ from dt_mutants.progress import processor_seconds
 # What is tested besides the crates, each by its own part of this command.
 PARTS = {
     "c-samples": "c_samples", "guest": "guest_tests", "manual": "manual_examples", "c-page": "c_page", "programs": "debian_programs",
-    "gdb": "gdb_sessions", "hints": "hints", "core": "core_files", "races": "race_lists",
+    "gdb": "gdb_sessions", "hints": "hints", "core": "core_files", "races": "race_lists", "timeline": "timeline_files",
 }
 
 TEST = re.compile(r"^\s*#\[test\]", re.M)

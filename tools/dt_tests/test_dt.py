@@ -12,13 +12,13 @@ from dt_commands import self_test
 from dt_commands.repository import TOP
 
 PARTS = {
-    "check": ["sources", "layers", "pages", "samples", "c-samples", "c-functions"],
-    "test": ["c-samples", "guest", "manual", "c-page", "programs"],
+    "check": ["sources", "layers", "pages", "samples", "pictures", "c-samples", "c-functions"],
+    "test": ["c-samples", "guest", "manual", "c-page", "programs", "timeline"],
     "sweep": ["memory", "changes", "workers", "schedules"],
     "measure": ["workers", "c-samples", "turns", "debugger"],
-    "write": ["pages", "samples", "c-samples", "c-functions"],
+    "write": ["pages", "samples", "pictures", "c-samples", "c-functions"],
 }
-ALONE = ["mutants", "digest", "build", "release", "install", "self-test"]
+ALONE = ["mutants", "digest", "picture", "build", "release", "install", "self-test"]
 
 
 LOADER = importlib.machinery.SourceFileLoader("dt", f"{TOP}/tools/dt")

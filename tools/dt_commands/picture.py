@@ -1,0 +1,61 @@
+"""Draws a timeline as a page or as a picture.
+
+The page, one HTML file with nothing from elsewhere, goes to standard output: threads as rows, instructions as time, turns, waits, an arrow
+for each thing that one thread did for another, and the critical path, with its numbers in words. A run with more than 2,000 turns is drawn
+in columns, each of some phases; --phases draws a part of it turn by turn.
+"""
+import os
+import sys
+
+from dt_commands import picture_page, picture_run, picture_svg
+
+
+def arguments(parser):
+    parser.add_argument("timeline", metavar="TIMELINE", help="what `dthreads run --timeline` wrote")
+    parser.add_argument("--report", metavar="FILE", help="the run's report: also draws the pages that turns changed")
+    parser.add_argument("--races", metavar="FILE", help="the run's list of races: also marks these")
+    parser.add_argument("--phases", metavar="A-B", help="the phases from A to B alone, both included")
+    parser.add_argument("--name", metavar="NAME", help="the picture's name (default: that of the timeline's file)")
+    parser.add_argument("--svg", action="store_true", help="the picture alone, as SVG")
+
+
+def read(file):
+    try:
+        with open(file, encoding="utf-8") as it:
+            return it.read()
+    except OSError as why:
+        raise SystemExit(f"tools/dt picture: cannot read {file}: {why.strerror}") from None
+
+
+def told(file, what, of):
+    """Returns what a file tells; `of` takes its text."""
+    try:
+        return of(read(file))
+    except (ValueError, KeyError, TypeError, AttributeError):
+        raise SystemExit(f"tools/dt picture: {file} is no {what}") from None
+
+
+def run_of(options):
+    """Reads the timeline."""
+    run = told(options.timeline, "timeline", picture_run.Run)
+    if options.phases:
+        first, _, last = options.phases.partition("-")
+        if not (first.isdecimal() and (last or first).isdecimal()):
+            raise SystemExit(f"tools/dt picture: --phases takes two numbers, as in 10-20, and not {options.phases}")
+        run.within(int(first), int(last or first))
+    return run
+
+
+def drawn(options):
+    """Returns the text of the page, or of the picture alone."""
+    run, name = run_of(options), options.name or os.path.basename(options.timeline).rpartition(".")[0] or os.path.basename(options.timeline)
+    report = told(options.report, "report", picture_run.pages_of) if options.report else None
+    races, others = picture_run.races_of(read(options.races)) if options.races else (None, [])
+    if options.svg:
+        return picture_svg.Picture(run, name, report, races or ()).drawn()
+    return picture_page.page(run, name, report, races, others)
+
+
+def run(options):
+    sys.stdout.write(drawn(options))
+    return 0

@@ -1,0 +1,69 @@
+"""The guest programs of crates/test_guest_runs/data, read without the program of the tests: files, and what runs of them give."""
+import glob
+import os
+import re
+import struct
+from collections import namedtuple
+
+from dt_commands.repository import TOP
+from dt_commands.texts import contents
+
+DATA = f"{TOP}/crates/test_guest_runs/data"
+WORD = re.compile(r"([0-9a-f]{8}): ([0-9a-f]{8}) ")
+# A run: its program's name, the options that it needs, its input, and the addresses of the changed bytes, turn by turn, if they are given.
+Run = namedtuple("Run", "name words given changed")
+
+
+def names():
+    """Returns the names of all programs."""
+    return sorted(os.path.basename(it)[: -len(".guest")] for it in glob.glob(f"{DATA}/*.guest"))
+
+
+def text_of(name):
+    return contents(f"{DATA}/{name}.guest").decode()
+
+
+def listing(name):
+    """Returns the words of a program by their addresses, from its own listing or from the sample's beside it."""
+    head = re.split(r"^run ", text_of(name), maxsplit=1, flags=re.M)[0]
+    text = head if re.search(r"^listing$", head, re.M) else contents(f"{DATA}/{name}.listing").decode()
+    return {int(address, 16): int(word, 16) for address, word in WORD.findall(text)}
+
+
+def elf(name):
+    """Returns the file of a program: a segment of code, and its segments of zeros."""
+    words = listing(name)
+    start, code = min(words), b"".join(struct.pack("<I", words[it]) for it in sorted(words))
+    if len(code) != max(words) + 4 - start:
+        raise SystemExit(f"{name}: its listing has gaps")
+    zeros = [(int(at, 16), int(size)) for at, size in re.findall(r"^zeros ([0-9a-f]+) (\d+)$", text_of(name), re.M)]
+    count = 1 + len(zeros)
+    at = 52 + 32 * count
+    header = bytes.fromhex("7f454c46010101000000000000000000")
+    header += struct.pack("<HHIIIIIHHHHHH", 2, 243, 1, start, 52, 0, 0, 52, 32, count, 0, 0, 0)
+    rows = [struct.pack("<8I", 1, at, start, 0, len(code), len(code), 5, 0)]
+    rows += [struct.pack("<8I", 1, at, address, 0, 0, size, 6, 0) for address, size in zeros]
+    return header + b"".join(rows) + code
+
+
+def of_block(name, block):
+    """Returns the run of a block of a program's file."""
+    told = {key: value for key, value in re.findall(r"^(input|bound|quantum) (\S+)$", block, re.M)}
+    words = [word for key in ("bound", "quantum") if key in told for word in (f"--{key}", told[key])]
+    changed = re.search(r"^changed(.*)$", block, re.M)
+    addresses = [int(it, 16) for it in changed[1].split()] if changed else None
+    return Run(name, words, bytes.fromhex(told.get("input", "")), addresses)
+
+
+def runs(name):
+    """Returns the runs that a program's file has; some programs have none."""
+    return [of_block(name, it) for it in re.split(r"^run .*$", text_of(name), flags=re.M)[1:]]
+
+
+def pages(turns, changed):
+    """Returns how many pages each turn changed, by its number, from the addresses of the changed bytes, turn by turn."""
+    found, at = {}, 0
+    for turn in turns:
+        found[turn.number] = len({it // 4096 for it in changed[at : at + turn.changed]})
+        at += turn.changed
+    return found

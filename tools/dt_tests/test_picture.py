@@ -1,0 +1,185 @@
+"""Pictures of timelines: what is read of a run, and that each thing is drawn, once and within the picture."""
+import contextlib
+import io
+import os
+import re
+import tempfile
+import unittest
+from unittest import mock
+from xml.etree import ElementTree
+
+from dt_commands import picture, picture_legend, picture_marks, picture_run, picture_svg, sample_pictures, timelines
+from test_timelines import BARRIERS, CONDITIONS, ONE_TURN
+
+REPORT = "page=00020000 turns=2 bytes=3 threads=2 shared=1 clashes=1\npage=20000000 turns=1 bytes=1 threads=1 shared=0 clashes=0\n"
+RACES = """race address=00018210 bytes=4 store thread=1 turn=3 pc=000100a4 load thread=2 turn=5 pc=0001009c object=counter+0 in=add+12 in=add+4
+race address=00018210 bytes=4 store thread=1 turn=3 pc=000100a4 at=a b.c:13 store thread=2 turn=5 pc=000100a4 at=a b.c:13
+race address=00018000 bytes=1 load thread=0 turn=4 pc=000100a4 store thread=2 turn=5 pc=000100a4
+left out=7
+"""
+SVG = "{http://www.w3.org/2000/svg}"
+
+
+def run_of(trace, pages=None):
+    return picture_run.Run(timelines.timeline(trace, pages or {}))
+
+
+def drawn(trace, **how):
+    """Returns the picture of a trace, read as XML."""
+    return ElementTree.fromstring(picture_svg.Picture(run_of(trace), "name", **how).drawn())
+
+
+def titles(tree):
+    return [it.text.split("\n")[0] for it in tree.iter(f"{SVG}title")]
+
+
+class Reading(unittest.TestCase):
+    def test_the_critical_path_sums_up_to_its_length(self):
+        for trace, length in ((ONE_TURN, 3), (CONDITIONS, 137), (BARRIERS, 11)):
+            run = run_of(trace)
+            self.assertEqual((run.length, sum(it.ran for it in run.turns if it.number in run.critical)), (length, length))
+
+    def test_the_critical_path_of_conditions(self):
+        self.assertEqual(run_of(CONDITIONS).critical, {1, 2, 5, 6, 7, 8, 9, 10, 12, 13, 14})
+
+    def test_segments_of_keepers_are_told_apart(self):
+        found = {it.turn: it.kind for it in run_of("1 0 lock 0 0 0 -> 0 changed=0 ran=1\n1 0 unlock 0 0 0 -> 0 changed=0 ran=2\n").slices}
+        self.assertEqual(found, {1: "segment", 2: "keeper"})
+        self.assertEqual([it.turn for it in run_of(CONDITIONS).slices if it.kind == "keeper"], [9, 13])
+
+    def test_phases_have_their_counters(self):
+        self.assertEqual(run_of(CONDITIONS, {1: 1, 9: 1}).phases[4], picture_run.Phase(5, 23, 30, 2, 1))
+
+    def test_a_part_of_a_run(self):
+        run = run_of(CONDITIONS)
+        run.within(3, 5)
+        self.assertEqual((run.start, run.end, [it.number for it in run.turns]), (14, 30, [4, 5, 6, 7, 8, 9]))
+        self.assertTrue(all(14 <= it.start < it.end <= 30 for it in run.slices))
+        self.assertEqual(run.said(), "phases 3 to 5 of 14 turns in 7 phases by 3 threads")
+
+    def test_races_of_the_same_turns_are_one_mark(self):
+        races, others = picture_run.races_of(RACES)
+        self.assertEqual([(it.turns, it.count) for it in races], [((3, 5), 2), ((4, 5), 1)])
+        self.assertEqual(others, ["left out=7"])
+
+    def test_races_in_words(self):
+        races, _ = picture_run.races_of(RACES)
+        self.assertEqual([picture_legend.said(it) for it in races], [
+            "race at counter (00018210): turn 3 stores to it, turn 5 loads it, and nothing orders the two, and 1 more line of the same turns",
+            "race at 00018000: turn 4 loads it, turn 5 stores to it, and nothing orders the two",
+        ])
+
+
+class Drawing(unittest.TestCase):
+    def test_each_slice_and_each_turn_has_its_title(self):
+        found = titles(drawn(CONDITIONS))
+        for it in run_of(CONDITIONS).turns:
+            self.assertEqual(sum(one.startswith(f"turn {it.number}: thread {it.thread} at") for one in found), 1)
+        self.assertEqual(sum(it.startswith("turn ") and ", phase" in it for it in found), 11)
+        self.assertEqual([it for it in found if "waits" in it][0], "thread 1 waits for the token, before turn 3")
+
+    def test_each_flow_has_an_arrow(self):
+        self.assertEqual([it for it in titles(drawn(CONDITIONS)) if "leads to" in it], [
+            "create: thread 0 leads to turn 3 of thread 1", "create: thread 0 leads to turn 5 of thread 2",
+            "signal: thread 0 leads to turn 8 of thread 1", "signal: thread 0 leads to turn 12 of thread 2",
+        ])
+
+    def test_all_is_within_the_picture(self):
+        for trace in (ONE_TURN, CONDITIONS, BARRIERS):
+            tree = drawn(trace, report=picture_run.pages_of(REPORT), races=picture_run.races_of(RACES)[0])
+            width, height = (float(tree.get(it)) for it in ("width", "height"))
+            for it in tree.iter(f"{SVG}rect"):
+                self.assertLessEqual(float(it.get("x") or 0) + float(it.get("width")), width)
+                self.assertLessEqual(float(it.get("y") or 0) + float(it.get("height")), height)
+
+    def test_races_and_pages_are_drawn(self):
+        tree = drawn(CONDITIONS, report=picture_run.pages_of(REPORT), races=picture_run.races_of(RACES)[0])
+        self.assertEqual(sum(it.startswith("race of turns 3 and 5") for it in titles(tree)), 2)
+        self.assertIn("00020000: 3 bytes changed in 2 turns by 2 threads, shared in 1 phase, 1 byte changed by two threads at once", titles(tree))
+
+    def test_many_pages_are_a_map_of_few_rows(self):
+        report = "".join(f"page={it:08x} turns=1 bytes=1 threads=1 shared={it % 3} clashes=0\n" for it in range(0x20000000, 0x24000000, 0x10000))
+        tree = drawn(ONE_TURN, report=picture_run.pages_of(report))
+        self.assertEqual(sum(" bytes changed in " in it or " byte changed in " in it for it in titles(tree)), 1024)
+        self.assertLess(float(tree.get("height")), 700)
+
+    def test_a_long_run_is_drawn_in_columns(self):
+        with mock.patch.object(picture_svg, "TURNS", 5):
+            found = titles(drawn(CONDITIONS))
+        self.assertFalse([it for it in found if it.startswith("turn ")])
+        self.assertIn("phase 6, thread 1", found)
+        self.assertIn("phase 6: 3 threads were ready", found)
+
+    def test_a_picture_that_stands_alone_hides_nothing(self):
+        text = picture_svg.Picture(run_of(CONDITIONS), "name").drawn()
+        self.assertEqual((text.count("hidden"), text.count("<script"), re.findall(r"(?:href|src|url)=?\W+http", text)), (0, 0, []))
+
+    def test_names_are_escaped(self):
+        self.assertIn("a &lt;b&gt; &amp; c", picture_svg.Picture(run_of(ONE_TURN), "a <b> & c").drawn())
+
+
+class Marks(unittest.TestCase):
+    def test_marks_keep_their_distance_at_each_zoom(self):
+        places, marks = picture_marks.Places(), [it * it / 50 for it in range(200)]
+        zooms = [(x, places.zoom(0, x, 5)) for x in marks]
+        for zoom in picture_marks.ZOOMS:
+            seen = [x for x, it in zooms if it is not None and it <= zoom]
+            self.assertTrue(all((other - one) * zoom >= 5 for one, other in zip(seen, seen[1:])))
+        self.assertEqual(zooms[0], (0, 1))
+
+    def test_scales_have_round_steps(self):
+        self.assertEqual([picture_marks.step(it, 12) for it in (1, 20, 137, 2404242)], [1, 2, 20, 500000])
+
+    def test_numbers_for_readers(self):
+        self.assertEqual([picture_marks.shown(it) for it in (1.0, 0.126, 3, -2.5)], ["1", "0.13", "3", "-2.5"])
+        self.assertEqual((picture_marks.count(1, "turn"), picture_marks.count(2000, "turn")), ("1 turn", "2,000 turns"))
+
+
+class Command(unittest.TestCase):
+    def setUp(self):
+        room = tempfile.TemporaryDirectory()
+        self.addCleanup(room.cleanup)
+        self.room = room.name
+        self.write("run.timeline", timelines.timeline(CONDITIONS, {}))
+
+    def write(self, name, text):
+        with open(f"{self.room}/{name}", "w", encoding="utf-8") as it:
+            it.write(text)
+
+    def ran(self, *words):
+        options = {"timeline": f"{self.room}/run.timeline", "report": None, "races": None, "phases": None, "name": None, "svg": False}
+        options.update(dict(zip(words[::2], words[1::2])))
+        with contextlib.redirect_stdout(io.StringIO()) as out:
+            picture.run(type("Options", (), options))
+        return out.getvalue()
+
+    def test_a_page_has_the_four_numbers_in_words_and_nothing_from_elsewhere(self):
+        self.write("report", REPORT)
+        self.write("races", RACES)
+        page = self.ran("report", f"{self.room}/report", "races", f"{self.room}/races")
+        self.assertIn("takes the time of 137 instructions", page)
+        self.assertIn("execute 155. So the program could keep 1.13 processors at work. Its threads wait 98 instructions for the token, thread 1", page)
+        self.assertIn("left out=7", page)
+        self.assertFalse(re.search(r"(?:src|href)=|@import|url\((?!#)", page))
+
+    def test_the_picture_has_the_name_of_its_file(self):
+        self.assertIn(">run</text>", self.ran("svg", True))
+        self.assertIn(">other</text>", self.ran("svg", True, "name", "other"))
+
+    def test_what_cannot_be_drawn_is_told_in_a_line(self):
+        self.write("none", "[]")
+        wrong = [("timeline", f"{self.room}/none"), ("timeline", f"{self.room}/nowhere"), ("phases", "a"), ("phases", "8-9")]
+        for words in (*wrong, ("report", f"{self.room}/none")):
+            with self.subTest(words), self.assertRaises(SystemExit) as told:
+                self.ran(*words)
+            self.assertTrue(str(told.exception).startswith("tools/dt picture: "))
+
+
+class OfTheSample(unittest.TestCase):
+    def test_the_picture_in_the_pages_is_as_it_must_be(self):
+        self.assertEqual(sample_pictures.differing(), {})
+        self.assertLessEqual(os.path.getsize(sample_pictures.PICTURE), sample_pictures.LIMIT)
+
+
+if __name__ == "__main__":
+    unittest.main()
