@@ -109,7 +109,10 @@ impl<W: Write> TraceRecorder<W> {
 }
 
 impl<W: Write> Recorder for TraceRecorder<W> {
-    ghost use Rattle.tracer.specs.Recording.{Traces};
+    ghost use Rattle.std.specs.Prelude.{◌<◌, IfErr};
+    ghost use Rattle.tracer.specs.Recording.{Traces, unwritten};
+    ghost use Rattle.token.specs.Change.{Change};
+    ghost use Rattle.token.specs.declared.turn.Turn.{Turn as TurnRecord};
 
     ghost records = { λ recorder turns changes. Traces W.contents recorder turns };
 
@@ -117,8 +120,13 @@ impl<W: Write> Recorder for TraceRecorder<W> {
 
     ghost writes = { Unit {0} };
 
-    /// Writes out what is buffered where that is much.
-    fn prepare(&mut self, _patch: Option<&Patch>) -> Result<(), TurnFault> {
+    /// Writes out what is buffered where that is much. Then fewer than 8,192 bytes are kept.
+    fn prepare(&mut self, _patch: Option<&Patch>) -> Result<(), TurnFault>
+        ensures ready { OnOk result (self.new.last ≡ None) }
+        ensures kept { (turns : List TurnRecord) (changes : List Change) → Traces W.contents self.old turns → Traces W.contents self.new turns }
+        ensures fault { IfErr result (λ fault. fault ≡ TurnFault.WriteFailed → Unit {0}) }
+        ensures few { OnOk result (length (unwritten self.new) < 8192) }
+    {
         self.make_line()?;
         if self.lines.len() >= FULL {
             self.send()?;
