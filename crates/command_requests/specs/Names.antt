@@ -1,6 +1,6 @@
 -- The files that the arguments of a run name.
 use Rattle.std.specs.Borrow.{Bor}
-use Rattle.std.specs.Prelude.{◌≡◌, ◌≢◌, ◌⊎◌, ℕ, Bool, not, ◌&&◌, if◌then◌else◌, Option, Some, None, List, [], ◌∷◌, ◌++◌, All, Contains, nat_eq, codes}
+use Rattle.std.specs.Prelude.{◌≡◌, ◌≢◌, ◌⊎◌, ℕ, Bool, true, false, not, ◌&&◌, if◌then◌else◌, Option, Some, None, List, [], ◌∷◌, ◌++◌, All, Contains, nat_eq, codes, IfSome}
 use Rattle.std.specs.Cmp.Lexicographic.{pointwise}
 use Rattle.std.specs.List.{starts_with}
 use Rattle.output_files.specs.Names.{text_of}
@@ -25,16 +25,32 @@ abbrev pub names_of : Bor (List ℕ) → Records → List FileName
 names_of file records =
     (if counts file.now then At file ∷ [] else []) ++ (names_in records.trace ++ (names_in records.timeline ++ (names_in records.report ++ (names_in records.races ++ (names_in records.core ++ names_in records.digest)))))
 
--- a name is written unlike each of some others
-abbrev pub IsUnlike : FileName → List FileName → Type 0
-IsUnlike name others = All (λ other. text_of name ≢ text_of other) others
+-- whether names are of one file, as far as it is known of files at hand
+abbrev pub Sameness : Type 0
+Sameness = List ℕ → List ℕ → Option Bool
 
--- no two of some names are written alike
-abbrev pub AreUnlike : List FileName → Type 0
-AreUnlike [] = Unit {0}
-AreUnlike (name ∷ others) = IsUnlike name others × AreUnlike others
+-- two names are of one file, where that is known
+abbrev pub AreOne : Sameness → FileName → FileName → Type 0
+AreOne is_same one other = IfSome (is_same (text_of one) (text_of other)) (λ same. true ≡ same)
+
+-- two names are not written alike, nor are they of one file, where that is known
+abbrev pub AreApart : Sameness → FileName → FileName → Type 0
+AreApart is_same one other = (text_of one ≢ text_of other) × IfSome (is_same (text_of one) (text_of other)) (λ same. false ≡ same)
+
+-- a name is apart from each of some others
+abbrev pub IsUnlike : Sameness → FileName → List FileName → Type 0
+IsUnlike is_same name others = All (AreApart is_same name) others
+
+-- each two of some names are apart
+abbrev pub AreUnlike : Sameness → List FileName → Type 0
+AreUnlike is_same [] = Unit {0}
+AreUnlike is_same (name ∷ others) = IsUnlike is_same name others × AreUnlike is_same others
 
 -- of two names, the first stands before the second among some names
 abbrev pub Stand : FileName → FileName → List FileName → Type 0
 Stand one other [] = ⊥
 Stand one other (name ∷ others) = ((one ≡ name) × Contains others other) ⊎ Stand one other others
+
+-- two of some names are of one file, where that is known
+abbrev pub AreTwins : Sameness → FileName → FileName → List FileName → Type 0
+AreTwins is_same one other names = Stand one other names × AreOne is_same one other

@@ -1,7 +1,7 @@
 //! Whether two arguments of a run name one file.
 ghost use Rattle.std.specs.Prelude.{◌≡◌, ◌++◌, true, None, Contains, IfErr, IfOk, IfSome, OnOk};
 ghost use Rattle.output_files.specs.Names.{text_of};
-ghost use Rattle.command_requests.specs.Names.{counts, names_in, names_of, IsUnlike, AreUnlike, Stand};
+ghost use Rattle.command_requests.specs.Names.{counts, names_in, names_of, AreOne, AreTwins, IsUnlike, AreUnlike};
 
 use crate::destination::Destination;
 use crate::failure::Failure;
@@ -18,8 +18,8 @@ pub fn named_twice<'a, F: Files>(
     records: &Records<'a>,
     files: &F,
 ) -> Result<Option<(FileName<'a>, FileName<'a>)>, Failure<'a>>
-    ensures none { IfOk result (λ twins. twins ≡ None → AreUnlike (names_of file.entry records.now)) }
-    ensures some { IfOk result (λ twins. IfSome twins (λ two. Stand two.0 two.1 (names_of file.entry records.now))) }
+    ensures none { IfOk result (λ twins. twins ≡ None → AreUnlike (F.is_same files.now) (names_of file.entry records.now)) }
+    ensures some { IfOk result (λ twins. IfSome twins (λ two. AreTwins (F.is_same files.now) two.0 two.1 (names_of file.entry records.now))) }
     ensures err { IfErr result (λ failure. failure ≡ Failure.OutOfMemory) }
 {
     let names = names_of(alloc, file, records)?;
@@ -76,8 +76,8 @@ fn first_twins<'a, F: Files>(
     names: &[FileName<'a>],
     files: &F,
 ) -> Result<Option<(FileName<'a>, FileName<'a>)>, Failure<'a>>
-    ensures none { IfOk result (λ twins. twins ≡ None → AreUnlike names.now) }
-    ensures some { IfOk result (λ twins. IfSome twins (λ two. Stand two.0 two.1 names.now)) }
+    ensures none { IfOk result (λ twins. twins ≡ None → AreUnlike (F.is_same files.now) names.now) }
+    ensures some { IfOk result (λ twins. IfSome twins (λ two. AreTwins (F.is_same files.now) two.0 two.1 names.now)) }
     ensures err { IfErr result (λ failure. failure ≡ Failure.OutOfMemory) }
 {
     let [name, others @ ..] = names else {
@@ -96,8 +96,9 @@ fn twin_of<'a, F: Files>(
     others: &[FileName<'a>],
     files: &F,
 ) -> Result<Option<FileName<'a>>, Failure<'a>>
-    ensures none { IfOk result (λ twin. twin ≡ None → IsUnlike name.entry others.now) }
+    ensures none { IfOk result (λ twin. twin ≡ None → IsUnlike (F.is_same files.now) name.entry others.now) }
     ensures some { IfOk result (λ twin. IfSome twin (λ other. Contains others.now other)) }
+    ensures one { IfOk result (λ twin. IfSome twin (λ other. AreOne (F.is_same files.now) name.entry other)) }
     ensures err { IfErr result (λ failure. failure ≡ Failure.OutOfMemory) }
 {
     for other in others {
@@ -116,6 +117,7 @@ fn is_one_file<'a, F: Files>(
     files: &F,
 ) -> Result<bool, Failure<'a>>
     ensures alike { text_of name.entry ≡ text_of other.entry → IfOk result (λ is_one. is_one ≡ true) }
+    ensures known { IfOk result (λ is_one. IfSome (F.is_same files.now (text_of name.entry) (text_of other.entry)) (λ same. is_one ≡ same)) }
     ensures failed { IfErr result (λ failure. failure ≡ Failure.OutOfMemory) }
 {
     match files.is_one_file(alloc, name, other) {

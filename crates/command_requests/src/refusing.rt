@@ -18,6 +18,7 @@ const WRONG_ARGUMENTS: u8 = 2;
 pub(crate) fn refuse<W: Write, E: Write>(error: &Error, stdout: &mut W, stderr: &mut E) -> u8
     ensures memory { kind_of error.now ≡ ErrorKind.OutOfMemory → result ≡ 125 }
     ensures help { (kind_of error.now ≡ ErrorKind.DisplayHelp) → (result ≡ 0) ⊎ (result ≡ 124) }
+    ensures version { (kind_of error.now ≡ ErrorKind.DisplayVersion) → (result ≡ 0) ⊎ (result ≡ 124) }
     ensures wrong { kind_of error.now ≢ ErrorKind.OutOfMemory → kind_of error.now ≢ ErrorKind.DisplayHelp
         → kind_of error.now ≢ ErrorKind.DisplayVersion → result ≡ WRONG_ARGUMENTS }
     ensures status { IsUnaskedStatus result }

@@ -1,5 +1,5 @@
 //! The trait of the files of a command line: what is read, and outputs that take a file's place.
-ghost use Rattle.std.specs.Prelude.{◌≡◌, ℕ, ◌+◌, ◌^◌, ◌<◌, ◌≤◌, true, List, [], Option, None, IfErr, IfOk, IfSome, OnOk, take, vec_len};
+ghost use Rattle.std.specs.Prelude.{◌≡◌, ℕ, ◌+◌, ◌^◌, ◌<◌, ◌≤◌, Bool, true, List, [], Option, None, IfErr, IfOk, IfSome, OnOk, take, vec_len};
 ghost use Rattle.std.specs.Io.KnownBytes.{Appends};
 ghost use Rattle.output_files.specs.Content.{Has, Holds, KeepsButPart, KeepsOthers};
 ghost use Rattle.output_files.specs.Names.{text_of};
@@ -19,6 +19,9 @@ pub trait Files {
     // The bytes of the file at a path, where they are known.
     ghost content: { Self → List ℕ → Option (List ℕ) } = { λ _ _. None };
 
+    // Whether two names, as they are written, are of one file, where that is known.
+    ghost is_same: { Self → List ℕ → List ℕ → Option Bool } = { λ _ _ _. None };
+
     /// A text that is not whole yet.
     type Output: Write + Drop;
 
@@ -37,6 +40,7 @@ pub trait Files {
         other: FileName<'_>,
     ) -> Result<bool, WriteFault>
         ensures alike { text_of one.entry ≡ text_of other.entry → IfOk result (λ is_one. is_one ≡ true) }
+        ensures known { IfOk result (λ is_one. IfSome (is_same self.now (text_of one.entry) (text_of other.entry)) (λ same. is_one ≡ same)) }
         ensures failed { IfErr result (λ fault. fault ≡ WriteFault.OutOfMemory) };
 
     /// Begins the output for the file at a path, and fails where that file can't be written. It is put into the

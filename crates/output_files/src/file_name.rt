@@ -18,8 +18,12 @@ pub enum FileName<'a> {
 }
 
 impl<'a> FileName<'a> {
+    ghost use Rattle.output_files.specs.Names.{path_of};
+
     /// The path of the file, or of the one whose part it is.
-    pub fn path(self) -> &'a str {
+    pub fn path(self) -> &'a str
+        ensures { result.now ≡ path_of self.entry }
+    {
         match self {
             FileName::At(path) | FileName::PartOf(path) => path,
         }
