@@ -1,5 +1,5 @@
 -- What a recorder of sharing has recorded.
-use Rattle.std.specs.Prelude.{◌≡◌, ℕ, ◌+◌, ◌-◌, ◌^◌, ◌<◌, ◌≤◌, List, All, length}
+use Rattle.std.specs.Prelude.{◌≡◌, ◌⊎◌, ℕ, ◌+◌, ◌-◌, ◌^◌, ◌<◌, ◌≤◌, List, All, length}
 use Rattle.std.specs.List.{AllPairs}
 use Rattle.token.specs.Change.{Change}
 use Rattle.sharing_report.specs.ByteChanges.{bytes_of}
@@ -23,3 +23,11 @@ pub record IsPrepared (recorder : SharingRecorder) (addresses : List ℕ) : Type
   pub at_hand : recorder.addresses.items ≡ addresses
   pub pages : HasPages recorder.pages addresses
   pub room : recorder.counted + length addresses + 1 < 2 ^ 64 - 1
+
+-- how much is counted at most: turns and changed bytes together, or the bytes that one turn changes
+abbrev pub most_counted : ℕ
+most_counted = 2 ^ 62
+
+-- nothing more is recorded: so much was counted, or the turn at hand changed so much
+abbrev pub IsFull : SharingRecorder → Type 0
+IsFull recorder = (most_counted ≤ recorder.counted) ⊎ (most_counted ≤ length recorder.addresses.items)

@@ -1,5 +1,5 @@
 //! A recorder that keeps the rows up to date as turns are done.
-ghost use Rattle.std.specs.Prelude.{◌≡◌, ℕ, List, [], IfOk};
+ghost use Rattle.std.specs.Prelude.{◌≡◌, ◌↔◌, ℕ, IsTrue, List, [], IfOk};
 
 use crate::page_row::PageRow;
 use crate::page_states::{PageStates, add_pages, note_turn};
@@ -28,7 +28,7 @@ pub struct SharingRecorder {
 }
 
 impl SharingRecorder {
-    ghost use Rattle.sharing_report.specs.Recording.{AreInOrder, Shares};
+    ghost use Rattle.sharing_report.specs.Recording.{AreInOrder, IsFull, Shares};
     ghost use Rattle.sharing_report.specs.Sharing.{IsSharing};
     ghost use Rattle.token.specs.Change.{Change};
 
@@ -43,6 +43,13 @@ impl SharingRecorder {
             counted: 0,
             addresses: Vec::new(alloc),
         }
+    }
+
+    /// Whether it records nothing more: so much was counted, or the turn that it is prepared for changed so much.
+    fn is_full(&self) -> bool
+        ensures { IsTrue result ↔ IsFull self.now }
+    {
+        self.counted >= MOST_COUNTED || self.addresses.len() as u64 >= MOST_COUNTED
     }
 
     /// The sharing report of the turns that it has recorded: a row for each page with a byte that a turn changed,
@@ -78,7 +85,7 @@ impl Recorder for SharingRecorder {
             Some(patch) => changed_addresses(self.alloc, patch)?,
             None => Vec::new(self.alloc),
         };
-        if self.counted >= MOST_COUNTED || self.addresses.len() as u64 >= MOST_COUNTED {
+        if self.is_full() {
             return Err(TurnFault::OutOfMemory);
         }
         add_pages(self.alloc, &mut self.pages, &self.addresses)?;
