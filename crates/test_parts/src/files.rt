@@ -12,7 +12,7 @@ const READ_EXECUTE: Perm = Perm {
 };
 
 /// One word of the file changed: its offset, the word, and the refusal's number, or 0 where it is read.
-static ONE_CHANGE: [(usize, u32, u8); 75] = [
+static ONE_CHANGE: [(usize, u32, u8); 77] = [
     // The identification: magic number, class, data encoding, version.
     (0, 0x464C_457E, 3),
     (0, 0x464C_447F, 3),
@@ -25,6 +25,9 @@ static ONE_CHANGE: [(usize, u32, u8); 75] = [
     (4, 0x0000_0101, 6),
     (4, 0x0002_0101, 6),
     (4, 0xFF01_0101, 0),
+    // Nothing after the version is looked at.
+    (8, 0xFFFF_FFFF, 0),
+    (12, 0xFFFF_FFFF, 0),
     (20, 0, 6),
     (20, 2, 6),
     (20, 257, 6),
