@@ -1,6 +1,6 @@
 //! What the program answers to its command line, without a run.
 
-use crate::fakes::{FailingReader, FailingWriter, MemoryFiles, REFUSED};
+use crate::fakes::{FailingReader, FailingWriter, FaultyWriter, MemoryFiles, REFUSED};
 use crate::performed::Performed;
 use command_line::{Failure, Target, conclude, perform};
 use elf32_reader::ElfFault;
@@ -164,8 +164,45 @@ fn the_version_is_printed(rt: HostRuntime) {
     }
 }
 
+#[test]
+fn help_and_version_that_are_lost_by_their_flush_are_failures(rt: HostRuntime) {
+    let alloc = rt.alloc();
+    let rows: [&[&str]; 3] = [
+        &["dthreads", "--help"],
+        &["dthreads", "run", "--help"],
+        &["dthreads", "--version"],
+    ];
+    for arguments in rows {
+        let mut stdout = WriteSink::new(FaultyWriter::losing(alloc));
+        let mut stderr = Vec::new(alloc);
+        let status = perform(
+            &rt,
+            alloc,
+            arguments,
+            &mut MemoryFiles::new(alloc, &[]),
+            &mut io::empty(),
+            &mut stdout,
+            &mut stderr,
+        );
+        assert_eq!(rt; status, 124, "at {arguments:?}");
+        assert!(rt;
+            stderr.as_slice() == b"cannot write standard output\n".as_slice(),
+            "at {arguments:?}"
+        );
+    }
+}
+
 /// Arguments of a run of which two name one file, and how the two are written.
-static TWICE_NAMED: [(&[&str], &str); 17] = [
+static TWICE_NAMED: [(&[&str], &str); 20] = [
+    (
+        &["a", "--trace", "trace", "--core", "twin"],
+        "trace and twin",
+    ),
+    (
+        &["a", "--trace", "twin", "--digest", "trace"],
+        "twin and trace",
+    ),
+    (&["twin", "--races", "trace"], "twin and trace"),
     (&["a.elf", "--trace", "a.elf"], "a.elf and a.elf"),
     (&["a.elf", "--report", "a.elf"], "a.elf and a.elf"),
     (&["a.elf", "--digest", "a.elf"], "a.elf and a.elf"),

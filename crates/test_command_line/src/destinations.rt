@@ -185,3 +185,40 @@ fn a_write_that_fails_in_the_middle_leaves_the_old_files(rt: HostRuntime) -> Res
     performed.assert_is(&rt, 124, b"", "cannot write standard output\n");
     Ok(())
 }
+
+/// The options of a run that name a file for a text, and the file for it.
+static OPTIONS: [(&str, &str); 6] = [
+    ("--trace", "trace"),
+    ("--timeline", "timeline"),
+    ("--report", "report"),
+    ("--races", "races"),
+    ("--core", "core"),
+    ("--digest", "digest"),
+];
+
+#[test]
+fn an_output_that_cannot_be_begun_leaves_no_part(rt: HostRuntime) -> Result<(), Fail> {
+    let letter = LETTER.file(rt.alloc())?;
+    for (path, status, line) in [
+        ("unbegun", 125, "out of memory\n"),
+        ("no/file", 124, "cannot write no/file\n"),
+    ] {
+        for place in 0..OPTIONS.len() {
+            let mut arguments = Vec::from_slice(rt.alloc(), &["dthreads", "run", "a.elf"])?;
+            for (number, (option, file)) in OPTIONS.iter().enumerate() {
+                let file = if number == place { path } else { *file };
+                arguments.extend_from_slice(&[*option, file])?;
+            }
+            let program = letter.as_slice();
+            check_line(
+                &rt,
+                arguments.as_slice(),
+                program,
+                &mut io::empty(),
+                status,
+                line,
+            )?;
+        }
+    }
+    Ok(())
+}

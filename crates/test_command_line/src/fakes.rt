@@ -5,6 +5,9 @@ use std::alloc::{AllocError, Global};
 use std::io;
 use std::io::{ErrorKind, Read, Write};
 use std::process::Abort;
+use std::rt::Clock;
+use std::thread::sleep;
+use std::time::Duration;
 
 /// The path of the program of `MemoryFiles`.
 pub const PROGRAM: &str = "a.elf";
@@ -32,6 +35,12 @@ pub const DIGEST: &str = "digest";
 
 /// A path of `MemoryFiles` that can't be compared with another one, since memory is refused for that.
 pub const REFUSED: &str = "refused";
+
+/// A second name of the file of `MemoryFiles` for a trace.
+pub const TWIN: &str = "twin";
+
+/// A path of `MemoryFiles` for which no output is begun, since memory is refused for that.
+pub const UNBEGUN: &str = "unbegun";
 
 /// A program, a schedule, and files in memory for a trace, a timeline, a report, races, a core file and a digest. No other
 /// path has a file, and none can be written.
@@ -180,11 +189,15 @@ impl Files for MemoryFiles<'_> {
         if one.path() == REFUSED || other.path() == REFUSED {
             return Err(WriteFault::OutOfMemory);
         }
-        Ok(one.text(alloc)? == other.text(alloc)?)
+        if one.text(alloc)? == other.text(alloc)? {
+            return Ok(true);
+        }
+        Ok(first_name(one).text(alloc)? == first_name(other).text(alloc)?)
     }
 
     fn begin(&mut self, alloc: Global, path: &str) -> Result<MemoryOutput, WriteFault> {
         match path {
+            UNBEGUN => Err(WriteFault::OutOfMemory),
             TRACE | TIMELINE | REPORT | RACES | CORE | DIGEST => {
                 self.note_part(path, true);
                 Ok(MemoryOutput::new(alloc, self.room))
@@ -219,11 +232,21 @@ impl Files for MemoryFiles<'_> {
     }
 }
 
-/// A text in memory, which takes so many more bytes before its writes fail.
+/// The first name of a file that may be given by its second one.
+fn first_name(name: FileName<'_>) -> FileName<'_> {
+    match name {
+        FileName::At(TWIN) => FileName::At(TRACE),
+        FileName::PartOf(TWIN) => FileName::PartOf(TRACE),
+        name => name,
+    }
+}
+
+/// A text in memory, which takes so many more bytes before its writes fail. Each second write is interrupted first.
 #[derive(Drop)]
 pub struct MemoryOutput {
     text: Vec<u8>,
     room: usize,
+    is_next_interrupted: bool,
 }
 
 impl MemoryOutput {
@@ -231,12 +254,17 @@ impl MemoryOutput {
         MemoryOutput {
             text: Vec::new(alloc),
             room,
+            is_next_interrupted: true,
         }
     }
 }
 
 impl Write for MemoryOutput {
     fn write(&mut self, buf: &[u8]) -> io::Result<usize> {
+        self.is_next_interrupted = !self.is_next_interrupted;
+        if !self.is_next_interrupted {
+            return Err(io::Error::from(ErrorKind::Interrupted));
+        }
         let count = buf.len().min(self.room);
         if count < buf.len() && count == 0 {
             return Err(io::Error::from(ErrorKind::StorageFull));
@@ -314,6 +342,30 @@ impl Read for FailingReader {
     }
 }
 
+/// A reader that gives a byte at a time, is interrupted before each, and sleeps before the last ones.
+#[derive(Clone, Copy)]
+pub struct SlowReader<'a, C> {
+    pub clock: &'a C,
+    pub bytes: &'a [u8],
+    /// How many bytes are the last ones.
+    pub last: usize,
+    pub is_next_interrupted: bool,
+}
+
+impl<C: Clock> Read for SlowReader<'_, C> {
+    fn read(&mut self, buf: &mut [u8]) -> io::Result<usize> {
+        self.is_next_interrupted = !self.is_next_interrupted;
+        if !self.is_next_interrupted {
+            return Err(io::Error::from(ErrorKind::Interrupted));
+        }
+        if self.bytes.len() == self.last {
+            sleep(self.clock, Duration::from_millis(200));
+        }
+        let room = buf.len().min(1);
+        self.bytes.read(&mut buf[..room])
+    }
+}
+
 /// A writer that takes nothing.
 #[derive(Clone, Copy)]
 pub struct FailingWriter;
@@ -338,6 +390,19 @@ pub struct FaultyWriter {
     pub good_writes: u32,
     pub good_flushes: u32,
     pub is_next_interrupted: bool,
+}
+
+impl FaultyWriter {
+    /// A writer that takes all and loses it: each flush fails.
+    pub fn losing(alloc: Global) -> Self {
+        FaultyWriter {
+            taken: Vec::new(alloc),
+            most: usize::MAX,
+            good_writes: u32::MAX,
+            good_flushes: 0,
+            is_next_interrupted: true,
+        }
+    }
 }
 
 impl Write for FaultyWriter {

@@ -8,11 +8,17 @@ mod command_lines;
 #[cfg(test)]
 mod core_files;
 #[cfg(test)]
+mod debugs;
+#[cfg(test)]
 mod destinations;
+#[cfg(test)]
+mod digests;
 #[cfg(test)]
 mod failing_writes;
 #[cfg(test)]
 mod fakes;
+#[cfg(test)]
+mod given_inputs;
 #[cfg(test)]
 mod listings;
 #[cfg(test)]

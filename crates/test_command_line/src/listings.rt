@@ -1,12 +1,16 @@
 //! What the command disasm prints.
 
-use crate::fakes::{EndlessFiles, EndlessReader, FailingWriter, MemoryFiles};
+use crate::fakes::{EndlessFiles, EndlessReader, FailingWriter, FaultyWriter, MemoryFiles};
 use crate::performed::Performed;
 use command_line::perform;
 use data_guest_programs::SEVEN;
 use runtime::WriteSink;
 use std::io;
+use std::io::Write;
+use std::process::Abort;
+use std::sync::Wait;
 use std::test::Fail;
+use std::thread::Threads;
 
 const DISASM: [&str; 3] = ["dthreads", "disasm", "a.elf"];
 
@@ -49,22 +53,31 @@ fn a_file_without_a_listing_is_refused(rt: HostRuntime) -> Result<(), Fail> {
     Ok(())
 }
 
-#[test]
-fn a_listing_that_is_not_written_is_a_failure(rt: HostRuntime) -> Result<(), Fail> {
+/// Checks that a listing which can't be written to this writer is a failure.
+fn check_unwritten<H: Abort + AllocGlobal + Threads + Wait + Sync, W: Write + Drop>(
+    rt: &H,
+    writer: W,
+) -> Result<(), Fail> {
     let alloc = rt.alloc();
     let file = SEVEN.file(alloc)?;
     let mut files = MemoryFiles::new(alloc, file.as_slice());
     let mut stderr = Vec::new(alloc);
     let status = perform(
-        &rt,
+        rt,
         alloc,
         &DISASM,
         &mut files,
         &mut io::empty(),
-        &mut WriteSink::new(FailingWriter),
+        &mut WriteSink::new(writer),
         &mut stderr,
     );
     assert_eq!(rt; status, 124);
     assert!(rt; stderr.as_slice() == b"cannot write standard output\n".as_slice());
     Ok(())
+}
+
+#[test]
+fn a_listing_that_is_not_written_is_a_failure(rt: HostRuntime) -> Result<(), Fail> {
+    check_unwritten(&rt, FailingWriter)?;
+    check_unwritten(&rt, FaultyWriter::losing(rt.alloc()))
 }

@@ -1,12 +1,15 @@
 //! What the command replay looks at before the events, and a trace that cannot be printed.
 
-use crate::fakes::{EndlessFiles, EndlessReader, FailingReader, FailingWriter, MemoryFiles};
+use crate::fakes::{
+    EndlessFiles, EndlessReader, FailingReader, FailingWriter, FaultyWriter, MemoryFiles,
+};
 use crate::performed::Performed;
 use command_line::perform;
 use data_guest_programs::{RACE, SEVEN};
 use runtime::WriteSink;
+use std::alloc::{AllocError, Global};
 use std::io;
-use std::io::Read;
+use std::io::{Read, Write};
 use std::process::Abort;
 use std::sync::Wait;
 use std::test::Fail;
@@ -60,10 +63,11 @@ fn what_cannot_be_read_is_named(rt: HostRuntime) {
 }
 
 /// Checks the answer to a replay whose trace can't be printed.
-fn check_unprinted<H: Abort + AllocGlobal + Threads + Wait + Sync>(
+fn check_unprinted<H: Abort + AllocGlobal + Threads + Wait + Sync, W: Write + Drop>(
     rt: &H,
     program: &[u8],
     schedule: &str,
+    writer: W,
 ) {
     let alloc = rt.alloc();
     let mut files = MemoryFiles::with_schedule(alloc, program, schedule.as_bytes());
@@ -74,7 +78,7 @@ fn check_unprinted<H: Abort + AllocGlobal + Threads + Wait + Sync>(
         &REPLAY,
         &mut files,
         &mut io::empty(),
-        &mut WriteSink::new(FailingWriter),
+        &mut WriteSink::new(writer),
         &mut stderr,
     );
     assert_eq!(rt; status, 124);
@@ -85,7 +89,38 @@ fn check_unprinted<H: Abort + AllocGlobal + Threads + Wait + Sync>(
 fn a_trace_that_cannot_be_printed_is_a_failure(rt: HostRuntime) -> Result<(), Fail> {
     let race = RACE.file(rt.alloc())?;
     for schedule in ["draw 0\nstep 0\nstep 0\nstep 0\npost 0\nturn\n", "turn\n"] {
-        check_unprinted(&rt, race.as_slice(), schedule);
+        check_unprinted(&rt, race.as_slice(), schedule, FailingWriter);
+        let losing = FaultyWriter::losing(rt.alloc());
+        check_unprinted(&rt, race.as_slice(), schedule, losing);
     }
+    Ok(())
+}
+
+/// How many bytes a schedule has at most.
+const LIMIT: usize = 16_777_216;
+
+/// A schedule of as many bytes as one may have, of which the second event is refused.
+fn longest_schedule(alloc: Global) -> Result<Vec<u8>, AllocError> {
+    let mut text = Vec::with_capacity(alloc, LIMIT)?;
+    for _ in 0..3 {
+        text.extend_from_slice(b"draw 0\n")?;
+    }
+    for _ in 0..3_355_439u32 {
+        text.extend_from_slice(b"turn\n")?;
+    }
+    Ok(text)
+}
+
+#[test]
+fn a_schedule_has_its_limit(rt: HostRuntime) -> Result<(), Fail> {
+    let seven = SEVEN.file(rt.alloc())?;
+    let mut text = longest_schedule(rt.alloc())?;
+    assert_eq!(rt; text.len(), LIMIT);
+    let files = (seven.as_slice(), text.as_slice());
+    let line = "schedule line 2: refused 2 NotEnabled\n";
+    check_line(&rt, files, &mut io::empty(), 124, line);
+    text.push(b'\n')?;
+    let files = (seven.as_slice(), text.as_slice());
+    check_line(&rt, files, &mut io::empty(), 124, "cannot read schedule\n");
     Ok(())
 }
