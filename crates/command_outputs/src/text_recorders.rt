@@ -1,4 +1,6 @@
 //! The recorders of a run's texts, each there only if it is wanted.
+ghost use Rattle.std.specs.Prelude.{◌≡◌, option_map};
+
 use command_requests::Records;
 use run_digest::DigestRecorder;
 use sharing_report::SharingRecorder;
@@ -21,7 +23,7 @@ pub struct TextRecorders<O> {
 }
 
 impl<O: Write> TextRecorders<O> {
-    ghost use Rattle.std.specs.Prelude.{[]};
+    ghost use Rattle.std.specs.Prelude.{◌≡◌, [], option_map};
     ghost use Rattle.command_requests.specs.Destination.{Carries};
     ghost use Rattle.command_outputs.specs.Recorders.{AreFor, AreTold};
 
@@ -54,7 +56,10 @@ impl<O: Write> TextRecorders<O> {
     }
 
     /// The outputs that trace and timeline go to, where there are. What wasn't written is dropped.
-    pub fn into_outputs(self) -> (Option<O>, Option<O>) {
+    pub fn into_outputs(self) -> (Option<O>, Option<O>)
+        ensures trace { result.0 ≡ option_map (λ trace. trace.writer) self.trace }
+        ensures timeline { result.1 ≡ option_map (λ timeline. timeline.outlet.writer) self.timeline }
+    {
         let TextRecorders {
             trace,
             timeline,
@@ -69,7 +74,9 @@ impl<O: Write> TextRecorders<O> {
 }
 
 /// The output that a timeline goes to, where there is one. Events that weren't written are dropped.
-pub(crate) fn timeline_output<O: Write>(timeline: Option<TimelineRecorder<O>>) -> Option<O> {
+pub(crate) fn timeline_output<O: Write>(timeline: Option<TimelineRecorder<O>>) -> Option<O>
+    ensures { result ≡ option_map (λ timeline. timeline.outlet.writer) timeline }
+{
     match timeline {
         Some(timeline) => Some(timeline.into_writer()),
         None => None,
