@@ -1,5 +1,5 @@
 -- The events of a schedule's text, and why there are none.
-use Rattle.std.specs.Prelude.{◌≡◌, ◌⊎◌, ℕ, Option, List}
+use Rattle.std.specs.Prelude.{◌≡◌, ◌⊎◌, ℕ, ◌≤◌, Option, List, length}
 use Rattle.schedule.specs.declared.event.Event.{Event}
 use Rattle.schedule_text.specs.Text.{IsFirstBadLine, IsText}
 use Rattle.command_requests.specs.Reading.{AreRead, IsUnreadAt}
@@ -15,6 +15,7 @@ schedule_limit = 16_777_216
 pub record AreScheduled (content : Option (List ℕ)) (events : List Event) : Type 0 where
   pub text : List ℕ
   pub text_read : AreRead schedule_limit content text
+  pub within : length text ≤ schedule_limit
   pub lines : IsText text events
 
 -- why it wasn't: it can't be read or has more bytes, or memory was refused, or a line is no event
