@@ -449,10 +449,11 @@ latest_kept steps access old new kept knows = record { sound = sound; complete =
         ))
         (access_cases steps (Touch access) index one is)
 
--- an access that is made again stands for itself
-pub latest_repeated : (steps : List Step) (access : Access) (latest : List Latest) (made : ℕ) → at steps made ≡ Touch access → ((place later : ℕ) → place < 4 → made < later → Renews (at steps later) access.word place → ⊥)
+-- what stands for an access stands for it when it is made again
+pub latest_repeated : (steps : List Step) (access : Access) (latest : List Latest) (made : ℕ) (first : Access) → at steps made ≡ Touch first → IsSameAuthor first.site access.site → ((place : ℕ) → has access.bytes place ≡ true → IsOf first access.word place)
+    → ((place later : ℕ) → has access.bytes place ≡ true → made < later → Renews (at steps later) access.word place → ⊥)
     → ((place : Place) → Reaches steps made place → Thread access.site.thread ≡ place) → KnowsLatest steps access.word latest → KnowsLatest (steps ++ Touch access ∷ []) access.word latest
-latest_repeated steps access latest made made_is alive_since only knows = record { sound = sound; complete = complete }
+latest_repeated steps access latest made first made_is author first_of alive_since only knows = record { sound = sound; complete = complete }
   where
     more : List Step
     more = steps ++ Touch access ∷ []
@@ -467,12 +468,12 @@ latest_repeated steps access latest made made_is alive_since only knows = record
         (λ last.
         let same : access ≡ one = cc (last.1) in
         let of_it : IsOf access access.word place = subst (λ (other : Access). IsOf other access.word place) (sym same) of in
-        let was = knows.complete made access place made_is of_it (λ later after. alive_since place later (small_place access.bytes place of_it.has_it) after) in
+        let was = knows.complete made first place made_is (first_of place of_it.has_it) (λ later after. alive_since place later of_it.has_it after) in
         let kept = knows.sound was.0 was.1 in
         let inside = access_inside steps was.0.step kept.access kept.is in (
           was.0,
           was.1,
-          subst (λ (other : Access). IsSameAuthor was.0.site other.site) same was.2,
+          subst (λ (other : Access). IsSameAuthor was.0.site other.site) same (author_trans was.0.site first.site access.site was.2 author),
           was.3,
           λ at_place reaches.
               let released : Thread access.site.thread ≡ at_place = ⊎_elim (λ before. only at_place (was.4 at_place before)) (λ has. has.0) (reaches_cases steps (Touch access) was.0.step at_place inside reaches) in

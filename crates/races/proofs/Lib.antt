@@ -9,6 +9,5 @@ pub mod Order
 pub mod Paged
 pub mod Racing
 pub mod Repeated
-pub mod Same
 pub mod Telling
 pub mod Times

@@ -1,6 +1,6 @@
 -- What a recorder of races has recorded.
 use Rattle.std.specs.Prelude.{◌≡◌, ℕ, List, [], ◌∷◌, length, slice_index_or}
-use Rattle.races.specs.Repeats.{KnowsRepeats}
+use Rattle.races.specs.Repeats.{KnowsPassed}
 use Rattle.races.specs.Steps.{Step, depth_after, steps_in}
 use Rattle.races.specs.Words.{KnowsWords, Times}
 use Rattle.races.specs.declared.depths.Depths.{Depths}
@@ -24,7 +24,7 @@ depths_in history = depths_from (λ thread. 0) history
 pub record KnowsSteps (kept : Steps) (steps : List Step) : Type 0 where
   pub count : kept.count ≡ length steps
   pub times : Times steps kept.clocks
-  pub repeats : KnowsRepeats steps kept.clocks kept.repeats
+  pub passed : KnowsPassed kept.clocks kept.passed
   pub words : KnowsWords steps kept.words.pages.pages.items kept.words.races.words
 
 -- A recorder was told a history.

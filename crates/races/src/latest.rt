@@ -1,6 +1,7 @@
 //! An access of a word that is kept.
 ghost use Rattle.std.specs.Prelude.{◌↔◌, IsTrue};
 ghost use Rattle.races.specs.Clocks.{time_of};
+ghost use Rattle.races.specs.Repeats.{IsAgain};
 ghost use Rattle.races.specs.Words.{IsAuthor, IsCleaned, IsHit, IsReplaced};
 
 use crate::byte_set::ByteSet;
@@ -64,5 +65,18 @@ impl Latest {
         own.site.thread == self.site.thread
             && own.site.is_same(self.site)
             && own.bytes == self.bytes
+    }
+
+    /// Whether it is an access of this step or a later one, and a later one is of the same bytes by the same instruction of
+    /// the thread in the same turn.
+    #[inline(always)]
+    pub(crate) fn is_made_again(&self, access: &Access, since: u64) -> bool
+        ensures { IsTrue result → IsAgain since access.now self.now }
+    {
+        access.site.thread == self.site.thread
+            && access.site.is_same(self.site)
+            && access.site.turn == self.site.turn
+            && access.bytes == self.bytes
+            && since <= self.step
     }
 }

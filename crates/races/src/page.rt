@@ -1,11 +1,13 @@
 //! What is kept of the words of a page.
 ghost use Rattle.std.specs.Prelude.{◌≡◌, ℕ, ◌+◌, ◌-◌, ◌<◌, ◌≤◌, ◌^◌, [], IsFalse, IsTrue, MatchOption, OnOk, Some, vec_len};
 ghost use Rattle.std.specs.Option.{option_to_list};
+ghost use Rattle.races.specs.Repeats.{HasAgain};
 ghost use Rattle.races.specs.Words.{IsKept, IsRenewed, first_on, latest_of, latest_on, others_on};
 
 use crate::fresh::Fresh;
 use crate::latest::Latest;
-use crate::word::{Word, left, takes_first};
+use crate::site::Access;
+use crate::word::{Word, is_again, left, takes_first};
 use std::alloc::{AllocError, Global};
 
 /// A page has so many words, which follow each other.
@@ -28,6 +30,25 @@ impl Page {
         Page {
             firsts: Vec::new(alloc),
             words: Vec::new(alloc),
+        }
+    }
+
+    /// Whether an access of the word at a place that is kept, of this step or a later one, is made again.
+    #[inline(always)]
+    pub(crate) fn has_again(&self, place: usize, access: &Access, since: u64) -> bool
+        ensures { IsTrue result → HasAgain since access.now (latest_on (Some self.now) place) }
+    {
+        let first = self.first(place);
+        is_again(&first, access, since) || self.has_later(place, access, since)
+    }
+
+    /// Whether it is among the later ones.
+    fn has_later(&self, place: usize, access: &Access, since: u64) -> bool
+        ensures { IsTrue result → HasAgain since access.now (others_on (Some self.now) place) }
+    {
+        match self.word(place) {
+            Some(word) => word.has_again(access, since),
+            None => false,
         }
     }
 

@@ -1,11 +1,13 @@
 //! What is kept of the words of all pages.
-ghost use Rattle.std.specs.Prelude.{◌≡◌, ℕ, ◌+◌, ◌/◌, ◌%◌, ◌<◌, ◌^◌, [], MatchOption, OnOk, vec_len};
+ghost use Rattle.std.specs.Prelude.{◌≡◌, ℕ, ◌+◌, ◌/◌, ◌%◌, ◌<◌, ◌^◌, [], IsTrue, MatchOption, OnOk, vec_len};
 ghost use Rattle.std.specs.Option.{option_to_list};
+ghost use Rattle.races.specs.Repeats.{HasAgain};
 ghost use Rattle.races.specs.Words.{IsKept, IsRenewed, first_at, latest_at, latest_of, others_at};
 
 use crate::fresh::Fresh;
 use crate::latest::Latest;
 use crate::page::{PAGE_WORDS, Page};
+use crate::site::Access;
 use crate::word::Word;
 use std::alloc::{AllocError, Global};
 
@@ -24,6 +26,17 @@ impl Pages {
         Pages {
             alloc,
             pages: Vec::new(alloc),
+        }
+    }
+
+    /// Whether an access that is kept, of this step or a later one, is made again.
+    #[inline(always)]
+    pub(crate) fn has_again(&self, access: &Access, since: u64) -> bool
+        ensures { IsTrue result → HasAgain since access.now (latest_at self.now.pages.items access.now.word) }
+    {
+        match self.pages.get(page_of(access.word)) {
+            Some(page) => page.has_again(place_of(access.word), access, since),
+            None => false,
         }
     }
 

@@ -9,8 +9,8 @@ ghost use Rattle.races.specs.Words.{told_of};
 
 use crate::clocks::Clocks;
 use crate::fresh::Fresh;
+use crate::passed::Passed;
 use crate::place::Place;
-use crate::repeats::Repeats;
 use crate::site::Access;
 use crate::told::Told;
 use crate::words::Words;
@@ -26,8 +26,8 @@ pub(crate) struct Steps {
     count: u64,
     /// What the past of each place has.
     clocks: Clocks,
-    /// The accesses that were made lately.
-    repeats: Repeats,
+    /// When the past of each thread was last taken over.
+    passed: Passed,
     /// What is kept of each word.
     words: Words,
 }
@@ -40,7 +40,7 @@ impl Steps {
         Ok(Steps {
             count: 0,
             clocks: Clocks::new(alloc)?,
-            repeats: Repeats::new(alloc)?,
+            passed: Passed::new(alloc)?,
             words: Words::new(alloc),
         })
     }
@@ -50,12 +50,12 @@ impl Steps {
         ensures { OnOk result ((steps : List Step) → KnowsSteps self.old steps → KnowsSteps self.new (steps ++ Touch access.now ∷ [])) }
     {
         let more = self.more()?;
-        if self.repeats.is_repeat(access) {
+        let since = self.passed.of(access.site.thread);
+        if self.words.has_again(access, since) {
             self.count = more;
             return Ok(());
         }
         self.words.touch(access, self.count, &self.clocks)?;
-        self.repeats.note(access, self.count);
         self.count = more;
         Ok(())
     }
@@ -66,7 +66,7 @@ impl Steps {
     {
         let more = self.more()?;
         self.clocks.order(self.count, acquired, released)?;
-        self.repeats.pass(acquired, self.count);
+        self.passed.pass(acquired, self.count);
         self.count = more;
         Ok(())
     }
@@ -76,9 +76,7 @@ impl Steps {
         ensures { OnOk result ((steps : List Step) → KnowsSteps self.old steps → KnowsSteps self.new (steps ++ Renew address length ∷ [])) }
     {
         let more = self.more()?;
-        let fresh = Fresh { address, length };
-        self.words.renew(fresh);
-        self.repeats.renew(fresh, self.count);
+        self.words.renew(Fresh { address, length });
         self.count = more;
         Ok(())
     }

@@ -1,12 +1,13 @@
 //! What is kept of a word: the latest accesses of its bytes, but for its first one.
 ghost use Rattle.std.specs.Prelude.{◌≡◌, ℕ, ◌<◌, [], IfSome, IsFalse, IsTrue, MatchOption, OnOk, length, slice_index_or};
 ghost use Rattle.std.specs.Option.{option_to_list};
+ghost use Rattle.races.specs.Repeats.{HasAgain};
 ghost use Rattle.races.specs.Words.{IsCleaned, IsErased, IsKept, IsReplaced, latest_of};
 ghost use Rattle.races.specs.declared.latest.Latest.{Latest as Past};
 
 use crate::byte_set::ByteSet;
 use crate::latest::Latest;
-use crate::site::Site;
+use crate::site::{Access, Site};
 use std::alloc::{AllocError, Global};
 
 /// Accesses of a word's bytes since they were fresh, in their order.
@@ -27,6 +28,14 @@ impl Word {
             first: None,
             others: Vec::new(alloc),
         }
+    }
+
+    /// Whether an access that is kept, of this step or a later one, is made again.
+    #[inline(always)]
+    pub(crate) fn has_again(&self, access: &Access, since: u64) -> bool
+        ensures { IsTrue result → HasAgain since access.now (latest_of self.now) }
+    {
+        is_again(&self.first, access, since) || is_any_again(&self.others, access, since)
     }
 
     /// Puts an access in the place of the one that it is again, if there is one.
@@ -79,6 +88,30 @@ pub(crate) fn takes_first(first: &Option<Latest>, is_alone: bool, own: &Latest) 
         Some(was) => was.is_again(own),
         None => is_alone,
     }
+}
+
+/// Whether an access, of this step or a later one, is made again, if there is one.
+#[inline(always)]
+pub(crate) fn is_again(past: &Option<Latest>, access: &Access, since: u64) -> bool
+    ensures { IsTrue result → HasAgain since access.now (option_to_list past.now) }
+{
+    match past {
+        Some(past) => past.is_made_again(access, since),
+        None => false,
+    }
+}
+
+/// Whether one of some accesses, of this step or a later one, is made again.
+#[inline(always)]
+fn is_any_again(latest: &[Latest], access: &Access, since: u64) -> bool
+    ensures { IsTrue result → HasAgain since access.now latest.now }
+{
+    for past in latest {
+        if past.is_made_again(access, since) {
+            return true;
+        }
+    }
+    false
 }
 
 /// Takes these bytes from an access, if there is one of this instruction. It goes with its last byte.

@@ -1,10 +1,11 @@
 //! What is kept of all words: the accesses and the races.
-ghost use Rattle.std.specs.Prelude.{◌≡◌, ℕ, List, [], ◌∷◌, ◌++◌, Contains, IfOk, OnOk, length};
+ghost use Rattle.std.specs.Prelude.{◌≡◌, ℕ, List, [], ◌∷◌, ◌++◌, Contains, IfOk, IsTrue, OnOk, length};
 ghost use Rattle.std.specs.Ordering.{nat_cmp};
 ghost use Rattle.std.specs.BTreeMap.{IsOrdered};
+ghost use Rattle.races.specs.Repeats.{HasAgain};
 ghost use Rattle.races.specs.Steps.{Step};
 ghost use Rattle.races.specs.Steps.Step.{Touch, Renew};
-ghost use Rattle.races.specs.Words.{IsFinding, KnowsFound, KnowsLatest, KnowsWords, Times, found_at, others_at, told_of};
+ghost use Rattle.races.specs.Words.{IsFinding, KnowsFound, KnowsLatest, KnowsWords, Times, found_at, latest_at, others_at, told_of};
 ghost use Rattle.races.specs.declared.latest.Latest.{Latest as Past};
 
 use crate::clocks::Clocks;
@@ -33,6 +34,14 @@ impl Words {
             pages: Pages::new(alloc),
             races: RaceMap::new(alloc),
         }
+    }
+
+    /// Whether an access that is kept, of this step or a later one, is made again.
+    #[inline(always)]
+    pub(crate) fn has_again(&self, access: &Access, since: u64) -> bool
+        ensures { IsTrue result → HasAgain since access.now (latest_at self.now.pages.pages.items access.now.word) }
+    {
+        self.pages.has_again(access, since)
     }
 
     /// An access, the step of this index.

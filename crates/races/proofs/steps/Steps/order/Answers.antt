@@ -5,7 +5,7 @@ use Rattle.races.specs.Steps.{Step}
 use Rattle.races.specs.Steps.Step.{Order}
 use Rattle.races.proofs.Follow.{after_order}
 use Rattle.races.proofs.Mapped.{words_ordered}
-use Rattle.races.proofs.Repeated.{repeats_passed}
+use Rattle.races.proofs.Repeated.{passed_ordered}
 use Rattle.races.proofs.steps.Steps.order.Goals as goal
 
 pub returns : goal.returns
@@ -19,7 +19,7 @@ returns c steps knows =
     record {
       count = omega (arith, length_push steps step);
       times = after_order steps (time_kept clocks) knows.times (time_kept c.order.new.self) c.args.acquired.now c.args.released.now after;
-      repeats = repeats_passed steps clocks c.order.new.self c.args.self.now.repeats c.pass.new.self c.args.acquired.now c.args.released.now knows.times after (λ thread among. c.pass.ensures.taken thread among ∙ count)
-          (λ thread. ⊎_elim (λ now. inl (now ∙ count)) (λ same. inr same) (c.pass.ensures.others thread)) c.pass.ensures.made c.pass.ensures.renewed knows.repeats;
+      passed = passed_ordered steps clocks c.order.new.self c.args.self.now.passed c.pass.new.self c.args.acquired.now c.args.released.now knows.times after (λ thread among. c.pass.ensures.taken thread among ∙ count)
+          (λ thread. ⊎_elim (λ now. inl (now ∙ count)) (λ same. inr same) (c.pass.ensures.others thread)) knows.passed;
       words = words_ordered steps step c.args.self.now.words.pages.pages.items c.args.self.now.words.races.words (λ access is. cc is) (λ word place renews. renews) knows.words;
     }

@@ -1,10 +1,9 @@
-use Rattle.std.proofs.Common.{arith, inl, inr, ⊎_elim}
+use Rattle.std.proofs.Common.{arith}
 use Rattle.std.proofs.lemmas.List.{length_push}
 use Rattle.races.specs.Clocks.{time_kept}
 use Rattle.races.specs.Steps.{Step}
 use Rattle.races.specs.Steps.Step.{Renew}
 use Rattle.races.proofs.Follow.{after_renew}
-use Rattle.races.proofs.Repeated.{repeats_renewed}
 use Rattle.races.proofs.steps.Steps.renew.Goals as goal
 
 pub returns : goal.returns
@@ -15,8 +14,6 @@ returns c steps knows =
     record {
       count = omega (arith, length_push steps step);
       times = after_renew steps (time_kept c.args.self.now.clocks) knows.times c.args.address c.args.length;
-      repeats = repeats_renewed steps c.args.self.now.clocks c.args.self.now.repeats c.renew-2.new.self c.args.address c.args.length c.renew-2.ensures.made c.renew-2.ensures.passed
-          (λ word place small renews. let now = c.renew-2.ensures.renewed word place small renews in omega arith)
-          (λ word. ⊎_elim (λ now. inl (omega arith)) (λ same. inr same) (c.renew-2.ensures.others word)) knows.repeats;
+      passed = knows.passed;
       words = c.renew.ensures steps knows.words;
     }

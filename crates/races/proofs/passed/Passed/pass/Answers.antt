@@ -4,7 +4,7 @@ use Rattle.std.proofs.lemmas.List.{take_more, take_all}
 use Rattle.std.proofs.lemmas.List.Elements.{Contains-push_cases}
 use Rattle.races.specs.declared.place.Place.{Place}
 use Rattle.races.specs.declared.place.Place.TheVariants.{Thread}
-use Rattle.races.proofs.repeats.Repeats.pass.Goals as goal
+use Rattle.races.proofs.passed.Passed.pass.Goals as goal
 
 pub loop-place-preserved : goal.loop-place-preserved
 loop-place-preserved c =
@@ -23,8 +23,6 @@ loop-place-preserved c =
           (λ same. inl same)
           (λ stays. ⊎_elim (λ before. inl (stays ∙ before)) (λ first. inr (stays ∙ first)) (was.others thread))
           (now.others thread);
-      made = now.made ∙ was.made;
-      renewed = now.renewed ∙ was.renewed;
     }
 
 pub returns-clause-taken : goal.returns-clause-taken
