@@ -11,7 +11,7 @@ use Rattle.races.specs.Clocks.{Reaches}
 use Rattle.races.specs.Races.{IsOf, Renews}
 use Rattle.races.specs.Steps.{Step}
 use Rattle.races.specs.Steps.Step.{Touch, Renew}
-use Rattle.races.specs.Words.{IsCleaned, IsCovered, IsErased, IsKept, IsLatest, IsRenewed, IsReplaced, IsSameAuthor, IsTaken, KnowsLatest}
+use Rattle.races.specs.Words.{IsAuthor, IsCleaned, IsCovered, IsErased, IsKept, IsLatest, IsRenewed, IsReplaced, IsSameAuthor, IsTaken, KnowsLatest}
 use Rattle.races.specs.declared.byte_set.ByteSet.{ByteSet}
 use Rattle.races.specs.declared.place.Place.{Place}
 use Rattle.races.specs.declared.place.Place.TheVariants.{Thread}
@@ -111,6 +111,13 @@ erased of bytes old part new long cleaned is = record {
         (clean.site, clean.step),
         still,
       );
+}
+
+-- where no access is of the instruction, none has to be cleaned
+pub erased_none : (of : Option Site) (bytes : ByteSet) (latest : List Latest) → ((past : Latest) → Contains latest past → IsAuthor of past.site → ⊥) → IsErased of bytes latest latest
+erased_none of bytes latest none = record {
+  less = λ now among. (now, among, (refl, refl), λ place has_it. (has_it, λ taken. none now among taken.0));
+  rest = λ was place among has_it kept. (was, among, (refl, refl), has_it);
 }
 
 -- ---- one step more

@@ -48,7 +48,7 @@ impl Latest {
     }
 
     /// Whether it is of this instruction of a thread. With `None` any is.
-    fn is_by(self, of: Option<Site>) -> bool
+    pub(crate) fn is_by(self, of: Option<Site>) -> bool
         ensures { IsTrue result ↔ IsAuthor of self.site }
     {
         match of {

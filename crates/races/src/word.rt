@@ -1,8 +1,8 @@
 //! What is kept of a word: the latest accesses of its bytes, but for its first one.
-ghost use Rattle.std.specs.Prelude.{◌≡◌, ℕ, ◌<◌, [], IfSome, IsFalse, IsTrue, MatchOption, OnOk, length, slice_index_or};
+ghost use Rattle.std.specs.Prelude.{◌≡◌, ℕ, ◌<◌, [], Contains, IfSome, IsFalse, IsTrue, MatchOption, OnOk, length, slice_index_or};
 ghost use Rattle.std.specs.Option.{option_to_list};
 ghost use Rattle.races.specs.Repeats.{HasAgain};
-ghost use Rattle.races.specs.Words.{IsCleaned, IsErased, IsKept, IsReplaced, latest_of};
+ghost use Rattle.races.specs.Words.{IsAuthor, IsCleaned, IsErased, IsKept, IsReplaced, latest_of};
 ghost use Rattle.races.specs.declared.latest.Latest.{Latest as Past};
 
 use crate::byte_set::ByteSet;
@@ -74,8 +74,18 @@ impl Word {
     fn take(&mut self, of: Option<Site>, bytes: ByteSet)
         ensures { IsErased of bytes (latest_of self.old) (latest_of self.new) }
     {
+        if !self.has(of) {
+            return;
+        }
         self.first = left(self.first, of, bytes);
         erase(&mut self.others, of, bytes);
+    }
+
+    /// Whether one is of this instruction. With `None` any is.
+    fn has(&self, of: Option<Site>) -> bool
+        ensures { IsFalse result → (past : Past) → Contains (latest_of self.now) past → IsAuthor of past.site → ⊥ }
+    {
+        has_first(&self.first, of) || has_any(&self.others, of)
     }
 }
 
@@ -108,6 +118,28 @@ fn is_any_again(latest: &[Latest], access: &Access, since: u64) -> bool
 {
     for past in latest {
         if past.is_made_again(access, since) {
+            return true;
+        }
+    }
+    false
+}
+
+/// Whether there is an access, of this instruction. With `None` any is.
+fn has_first(first: &Option<Latest>, of: Option<Site>) -> bool
+    ensures { IsFalse result → (past : Past) → Contains (option_to_list first.now) past → IsAuthor of past.site → ⊥ }
+{
+    match first {
+        Some(past) => past.is_by(of),
+        None => false,
+    }
+}
+
+/// Whether one of some accesses is of this instruction. With `None` any is.
+fn has_any(latest: &[Latest], of: Option<Site>) -> bool
+    ensures { IsFalse result → (past : Past) → Contains latest.now past → IsAuthor of past.site → ⊥ }
+{
+    for past in latest {
+        if past.is_by(of) {
             return true;
         }
     }
