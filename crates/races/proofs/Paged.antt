@@ -53,8 +53,8 @@ module _ {X : Type 0} (kept : X → List Latest) where
   )
 
   pub renewed_all : (address long base : ℕ) (old new : List X) (from end count : ℕ) → end ≤ count
-      → ((place : ℕ) → place < length old → place < 1024 → (place < from) ⊎ (end ≤ place) → (byte : ℕ) → byte < 4 → Renews (Renew address long) (base + place) byte → ⊥)
-      → ArePartRenewed address long base old new from count → (place : ℕ) → place < 1024 → IsRenewed address long (base + place) (kept_by kept (slice_get old place)) (kept_by kept (slice_get new place))
+      → ((place : ℕ) → place < length old → place < 4096 → (place < from) ⊎ (end ≤ place) → (byte : ℕ) → byte < 4 → Renews (Renew address long) (base + place) byte → ⊥)
+      → ArePartRenewed address long base old new from count → (place : ℕ) → place < 4096 → IsRenewed address long (base + place) (kept_by kept (slice_get old place)) (kept_by kept (slice_get new place))
   renewed_all address long base old new from end count all outside done place small = ⊎_elim
       (λ before. stays (inl before))
       (λ after. ⊎_elim (λ inside. done.0 place after inside) (λ past. stays (inr past)) (cases_lt place count))
@@ -140,61 +140,61 @@ module _ (pages : List Page) (number : ℕ) (was now : Page) (inside : number < 
   page_other other place apart = ap (λ (page : Option Page). latest_on page place) (get_set_apart pages number other now apart)
 
 -- an access is kept of a word
-pub page_kept_own : (pages : List Page) (word : ℕ) (was now : Page) (own : Latest) → word / 1024 < length pages → was ≡ get_or pages (word / 1024) was
-    → IsKept own (latest_on (Some was) (word % 1024)) (latest_on (Some now) (word % 1024)) → IsKept own (latest_at pages word) (latest_at (set pages (word / 1024) now) word)
+pub page_kept_own : (pages : List Page) (word : ℕ) (was now : Page) (own : Latest) → word / 4096 < length pages → was ≡ get_or pages (word / 4096) was
+    → IsKept own (latest_on (Some was) (word % 4096)) (latest_on (Some now) (word % 4096)) → IsKept own (latest_at pages word) (latest_at (set pages (word / 4096) now) word)
 page_kept_own pages word was now own inside is put =
-    subst (λ (old : List Latest). IsKept own old (latest_at (set pages (word / 1024) now) word)) (sym (page_was pages (word / 1024) was now inside is (word % 1024)))
-    (subst (λ (new : List Latest). IsKept own (latest_on (Some was) (word % 1024)) new) (sym (page_is pages (word / 1024) was now inside is (word % 1024))) put)
+    subst (λ (old : List Latest). IsKept own old (latest_at (set pages (word / 4096) now) word)) (sym (page_was pages (word / 4096) was now inside is (word % 4096)))
+    (subst (λ (new : List Latest). IsKept own (latest_on (Some was) (word % 4096)) new) (sym (page_is pages (word / 4096) was now inside is (word % 4096))) put)
 
-pub page_kept : (pages : List Page) (word number place : ℕ) (was now : Page) → number ≡ word / 1024 → place ≡ word % 1024 → number < length pages → was ≡ get_or pages number was
+pub page_kept : (pages : List Page) (word number place : ℕ) (was now : Page) → number ≡ word / 4096 → place ≡ word % 4096 → number < length pages → was ≡ get_or pages number was
     → ((other : ℕ) → (place ≡ other → ⊥) → latest_on (Some now) other ≡ latest_on (Some was) other) → (other : ℕ) → (word ≡ other → ⊥) → latest_at (set pages number now) other ≡ latest_at pages other
 page_kept pages word number place was now number_is place_is inside is same other apart = ⊎_elim
     (λ here.
-    subst (λ (n : ℕ). latest_on (slice_get (set pages number now) n) (other % 1024) ≡ latest_on (slice_get pages n) (other % 1024)) here
-    (page_is pages number was now inside is (other % 1024) ∙ same (other % 1024) (λ at_place. apart (omega arith)) ∙ sym (page_was pages number was now inside is (other % 1024))))
-    (λ there. page_other pages number was now inside is (other / 1024) (other % 1024) there)
-    (cases_eq number (other / 1024))
+    subst (λ (n : ℕ). latest_on (slice_get (set pages number now) n) (other % 4096) ≡ latest_on (slice_get pages n) (other % 4096)) here
+    (page_is pages number was now inside is (other % 4096) ∙ same (other % 4096) (λ at_place. apart (omega arith)) ∙ sym (page_was pages number was now inside is (other % 4096))))
+    (λ there. page_other pages number was now inside is (other / 4096) (other % 4096) there)
+    (cases_eq number (other / 4096))
 
 -- Words of the pages below one are renewed, and the others are as they were.
 abbrev pub ArePagesRenewed : (address long : ℕ) (old new : List Page) (from count : ℕ) → Type 0
 ArePagesRenewed address long old new from count =
-    ((word : ℕ) → from ≤ word / 1024 → word / 1024 < count → IsRenewed address long word (latest_at old word) (latest_at new word))
-    × ((word : ℕ) → (word / 1024 < from) ⊎ (count ≤ word / 1024) → latest_at new word ≡ latest_at old word)
+    ((word : ℕ) → from ≤ word / 4096 → word / 4096 < count → IsRenewed address long word (latest_at old word) (latest_at new word))
+    × ((word : ℕ) → (word / 4096 < from) ⊎ (count ≤ word / 4096) → latest_at new word ≡ latest_at old word)
 
-pub pages_more : (address long : ℕ) (old part : List Page) (from count base : ℕ) (was now : Page) → from ≤ count → count < length part → was ≡ get_or part count was → base ≡ count * 1024
-    → ((place : ℕ) → place < 1024 → IsRenewed address long (base + place) (latest_on (Some was) place) (latest_on (Some now) place)) → ArePagesRenewed address long old part from count
+pub pages_more : (address long : ℕ) (old part : List Page) (from count base : ℕ) (was now : Page) → from ≤ count → count < length part → was ≡ get_or part count was → base ≡ count * 4096
+    → ((place : ℕ) → place < 4096 → IsRenewed address long (base + place) (latest_on (Some was) place) (latest_on (Some now) place)) → ArePagesRenewed address long old part from count
     → ArePagesRenewed address long old (set part count now) from (count + 1)
 pages_more address long old part from count base was now late inside is base_is own done = (
   λ word after before. ⊎_elim
       (λ same. here word same)
       (λ apart. renewed_same address long word (latest_at old word) (latest_at part word) (latest_at old word) (latest_at (set part count now) word) refl
-      (sym (page_other part count was now inside is (word / 1024) (word % 1024) apart)) (done.0 word after (omega arith)))
-      (cases_eq count (word / 1024)),
-  λ word where_it. page_other part count was now inside is (word / 1024) (word % 1024) (λ same. ⊎_elim (λ less. absurd (omega arith)) (λ past. absurd (omega arith)) where_it)
+      (sym (page_other part count was now inside is (word / 4096) (word % 4096) apart)) (done.0 word after (omega arith)))
+      (cases_eq count (word / 4096)),
+  λ word where_it. page_other part count was now inside is (word / 4096) (word % 4096) (λ same. ⊎_elim (λ less. absurd (omega arith)) (λ past. absurd (omega arith)) where_it)
       ∙ done.1 word (⊎_elim (λ less. inl less) (λ past. inr (omega arith)) where_it),
 )
   where
-    here : (word : ℕ) → count ≡ word / 1024 → IsRenewed address long word (latest_at old word) (latest_at (set part count now) word)
+    here : (word : ℕ) → count ≡ word / 4096 → IsRenewed address long word (latest_at old word) (latest_at (set part count now) word)
     here word same =
-        let number : base + word % 1024 ≡ word = omega arith in
-        let small : word % 1024 < 1024 = omega arith in
-        let renewed = subst (λ (n : ℕ). IsRenewed address long n (latest_on (Some was) (word % 1024)) (latest_on (Some now) (word % 1024))) number (own (word % 1024) small) in
-        let old_is : latest_at part word ≡ latest_on (Some was) (word % 1024) =
-        subst (λ (n : ℕ). latest_on (slice_get part n) (word % 1024) ≡ latest_on (Some was) (word % 1024)) same (page_was part count was now inside is (word % 1024)) in
-        let new_is : latest_at (set part count now) word ≡ latest_on (Some now) (word % 1024) =
-        subst (λ (n : ℕ). latest_on (slice_get (set part count now) n) (word % 1024) ≡ latest_on (Some now) (word % 1024)) same (page_is part count was now inside is (word % 1024)) in
-        renewed_same address long word (latest_on (Some was) (word % 1024)) (latest_on (Some now) (word % 1024)) (latest_at old word) (latest_at (set part count now) word)
+        let number : base + word % 4096 ≡ word = omega arith in
+        let small : word % 4096 < 4096 = omega arith in
+        let renewed = subst (λ (n : ℕ). IsRenewed address long n (latest_on (Some was) (word % 4096)) (latest_on (Some now) (word % 4096))) number (own (word % 4096) small) in
+        let old_is : latest_at part word ≡ latest_on (Some was) (word % 4096) =
+        subst (λ (n : ℕ). latest_on (slice_get part n) (word % 4096) ≡ latest_on (Some was) (word % 4096)) same (page_was part count was now inside is (word % 4096)) in
+        let new_is : latest_at (set part count now) word ≡ latest_on (Some now) (word % 4096) =
+        subst (λ (n : ℕ). latest_on (slice_get (set part count now) n) (word % 4096) ≡ latest_on (Some now) (word % 4096)) same (page_is part count was now inside is (word % 4096)) in
+        renewed_same address long word (latest_on (Some was) (word % 4096)) (latest_on (Some now) (word % 4096)) (latest_at old word) (latest_at (set part count now) word)
         (sym old_is ∙ done.1 word (inr (omega arith))) (sym new_is) renewed
 
-pub pages_all : (address long : ℕ) (old new : List Page) (from end count : ℕ) → end ≤ count → from ≡ address / 4 / 1024
-    → ((word : ℕ) → word / 1024 < length old → end ≤ word / 1024 → (byte : ℕ) → byte < 4 → Renews (Renew address long) word byte → ⊥) → ArePagesRenewed address long old new from count
+pub pages_all : (address long : ℕ) (old new : List Page) (from end count : ℕ) → end ≤ count → from ≡ address / 4 / 4096
+    → ((word : ℕ) → word / 4096 < length old → end ≤ word / 4096 → (byte : ℕ) → byte < 4 → Renews (Renew address long) word byte → ⊥) → ArePagesRenewed address long old new from count
     → (word : ℕ) → IsRenewed address long word (latest_at old word) (latest_at new word)
 pages_all address long old new from end count all from_is outside done word = ⊎_elim
     (λ before. stays (inl before))
-    (λ after. ⊎_elim (λ inside. done.0 word after inside) (λ past. stays (inr past)) (cases_lt (word / 1024) count))
-    (cases_lt (word / 1024) from)
+    (λ after. ⊎_elim (λ inside. done.0 word after inside) (λ past. stays (inr past)) (cases_lt (word / 4096) count))
+    (cases_lt (word / 4096) from)
   where
-    stays : (word / 1024 < from) ⊎ (count ≤ word / 1024) → IsRenewed address long word (latest_at old word) (latest_at new word)
+    stays : (word / 4096 < from) ⊎ (count ≤ word / 4096) → IsRenewed address long word (latest_at old word) (latest_at new word)
     stays where_it =
         let same = done.1 word where_it in
         ⊎_elim
@@ -202,6 +202,6 @@ pages_all address long old new from end count all from_is outside done word = �
         (renewed_outside address long word (latest_at old word)
         (⊎_elim (λ less byte small renews. let r = renews.0 in absurd (omega arith)) (λ past. outside word there (omega arith)) where_it)))
         (λ past.
-        let none = ap (λ (page : Option Page). latest_on page (word % 1024)) (slice_get_past old (word / 1024) past) in
+        let none = ap (λ (page : Option Page). latest_on page (word % 4096)) (slice_get_past old (word / 4096) past) in
         renewed_same address long word [] [] (latest_at old word) (latest_at new word) (sym none) (sym (same ∙ none)) (renewed_none address long word))
-        (cases_lt (word / 1024) (length old))
+        (cases_lt (word / 4096) (length old))

@@ -158,15 +158,15 @@ others_on (Some page) place = kept_by latest_of (slice_get page.words.items plac
 abbrev pub latest_on : Option Page → (place : ℕ) → List Latest
 latest_on page place = first_on page place ++ others_on page place
 
--- a page has 1,024 words that follow each other
+-- a page has 4,096 words that follow each other
 abbrev pub latest_at : List Page → (word : ℕ) → List Latest
-latest_at pages word = latest_on (slice_get pages (word / 1024)) (word % 1024)
+latest_at pages word = latest_on (slice_get pages (word / 4096)) (word % 4096)
 
 abbrev pub first_at : List Page → (word : ℕ) → List Latest
-first_at pages word = first_on (slice_get pages (word / 1024)) (word % 1024)
+first_at pages word = first_on (slice_get pages (word / 4096)) (word % 4096)
 
 abbrev pub others_at : List Page → (word : ℕ) → List Latest
-others_at pages word = others_on (slice_get pages (word / 1024)) (word % 1024)
+others_at pages word = others_on (slice_get pages (word / 4096)) (word % 4096)
 
 -- the races that were found at a word
 abbrev pub found_by : Option WordRaces → List Found

@@ -11,7 +11,7 @@ use crate::word::{Word, is_again, left, takes_first};
 use std::alloc::{AllocError, Global};
 
 /// A page has so many words, which follow each other.
-pub(crate) const PAGE_WORDS: usize = 1024;
+pub(crate) const PAGE_WORDS: usize = 4096;
 
 /// What is kept of the words of a page: nothing until the first access of one.
 #[derive(Drop)]
@@ -76,7 +76,7 @@ impl Page {
         place: usize,
         own: Latest,
     ) -> Result<(), AllocError>
-        requires { place < 1024 }
+        requires { place < 4096 }
         ensures own { OnOk result (IsKept own (latest_on (Some self.old) place) (latest_on (Some self.new) place)) }
         ensures others { OnOk result ((other : ℕ) → (place ≡ other → ⊥) → latest_on (Some self.new) other ≡ latest_on (Some self.old) other) }
     {
@@ -109,7 +109,7 @@ impl Page {
     #[inline(never)]
     fn keep_after(&mut self, alloc: Global, place: usize, own: Latest) -> Result<(), AllocError>
         requires inside { place < vec_len self.old.firsts }
-        requires small { place < 1024 }
+        requires small { place < 4096 }
         ensures own { OnOk result (IsKept own (latest_on (Some self.old) place) (latest_on (Some self.new) place)) }
         ensures others { OnOk result ((other : ℕ) → (place ≡ other → ⊥) → latest_on (Some self.new) other ≡ latest_on (Some self.old) other) }
     {
@@ -120,7 +120,7 @@ impl Page {
 
     /// There is a place for the first access of a word.
     fn reach(&mut self, place: usize) -> Result<(), AllocError>
-        requires { place < 1024 }
+        requires { place < 4096 }
         ensures inside { OnOk result (place < vec_len self.new.firsts) }
         ensures same { OnOk result ((other : ℕ) → first_on (Some self.new) other ≡ first_on (Some self.old) other) }
         ensures words { self.new.words ≡ self.old.words }
@@ -138,7 +138,7 @@ impl Page {
 
     /// There is a word at a place.
     fn reach_word(&mut self, alloc: Global, place: usize) -> Result<(), AllocError>
-        requires { place < 1024 }
+        requires { place < 4096 }
         ensures inside { OnOk result (place < vec_len self.new.words) }
         ensures same { OnOk result ((other : ℕ) → others_on (Some self.new) other ≡ others_on (Some self.old) other) }
         ensures firsts { self.new.firsts ≡ self.old.firsts }
@@ -156,8 +156,8 @@ impl Page {
 
     /// Bytes begin a new life. The page's first word has this number.
     pub(crate) fn renew(&mut self, base: u32, fresh: Fresh)
-        requires { base + 1024 ≤ 2 ^ 32 }
-        ensures { (place : ℕ) → place < 1024 → IsRenewed fresh.address fresh.length (base + place) (latest_on (Some self.old) place) (latest_on (Some self.new) place) }
+        requires { base + 4096 ≤ 2 ^ 32 }
+        ensures { (place : ℕ) → place < 4096 → IsRenewed fresh.address fresh.length (base + place) (latest_on (Some self.old) place) (latest_on (Some self.new) place) }
     {
         self.renew_firsts(base, fresh);
         self.renew_words(base, fresh);
@@ -165,8 +165,8 @@ impl Page {
 
     /// Bytes of the first accesses begin a new life.
     fn renew_firsts(&mut self, base: u32, fresh: Fresh)
-        requires { base + 1024 ≤ 2 ^ 32 }
-        ensures renewed { (place : ℕ) → place < 1024 → IsRenewed fresh.address fresh.length (base + place) (first_on (Some self.old) place) (first_on (Some self.new) place) }
+        requires { base + 4096 ≤ 2 ^ 32 }
+        ensures renewed { (place : ℕ) → place < 4096 → IsRenewed fresh.address fresh.length (base + place) (first_on (Some self.old) place) (first_on (Some self.new) place) }
         ensures words { self.new.words ≡ self.old.words }
     {
         let count = self.firsts.len().min(PAGE_WORDS);
@@ -180,8 +180,8 @@ impl Page {
 
     /// Bytes of the later accesses begin a new life.
     fn renew_words(&mut self, base: u32, fresh: Fresh)
-        requires { base + 1024 ≤ 2 ^ 32 }
-        ensures renewed { (place : ℕ) → place < 1024 → IsRenewed fresh.address fresh.length (base + place) (others_on (Some self.old) place) (others_on (Some self.new) place) }
+        requires { base + 4096 ≤ 2 ^ 32 }
+        ensures renewed { (place : ℕ) → place < 4096 → IsRenewed fresh.address fresh.length (base + place) (others_on (Some self.old) place) (others_on (Some self.new) place) }
         ensures firsts { self.new.firsts ≡ self.old.firsts }
     {
         let count = self.words.len().min(PAGE_WORDS);

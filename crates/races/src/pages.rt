@@ -100,21 +100,21 @@ impl Pages {
 
 /// The number of a word's page.
 fn page_of(word: u32) -> usize
-    ensures { result ≡ word / 1024 }
+    ensures { result ≡ word / 4096 }
 {
     word as usize / PAGE_WORDS
 }
 
 /// The place of a word on its page.
 fn place_of(word: u32) -> usize
-    ensures { result ≡ word % 1024 }
+    ensures { result ≡ word % 4096 }
 {
     word as usize % PAGE_WORDS
 }
 
 /// The number of the first page of which a word and those after it have no word.
 fn end_page(word: u32) -> usize
-    ensures { result ≡ (word + 1023) / 1024 }
+    ensures { result ≡ (word + 4095) / 4096 }
 {
     (word as usize + PAGE_WORDS - 1) / PAGE_WORDS
 }

@@ -15,7 +15,7 @@ returns-in-Some c = λ again.
     let place = c.place_of.result in
     let lookup = c.in-Some.ensures.lookup in
     let there : slice_get pages number ≡ Some c.in-Some.page.now = slice_get_read pages (length pages) number c.in-Some.page.now refl lookup.3.0 lookup.1 in
-    subst (λ (all : List Page). HasAgain c.args.since c.args.access.now (latest_on (slice_get all (word / 1024)) (word % 1024))) c.deref.ensures.value
-    (subst (λ (n : ℕ). HasAgain c.args.since c.args.access.now (latest_on (slice_get pages n) (word % 1024))) c.page_of.ensures
+    subst (λ (all : List Page). HasAgain c.args.since c.args.access.now (latest_on (slice_get all (word / 4096)) (word % 4096))) c.deref.ensures.value
+    (subst (λ (n : ℕ). HasAgain c.args.since c.args.access.now (latest_on (slice_get pages n) (word % 4096))) c.page_of.ensures
     (subst (λ (n : ℕ). HasAgain c.args.since c.args.access.now (latest_on (slice_get pages number) n)) c.place_of.ensures
     (subst (λ (page : Option Page). HasAgain c.args.since c.args.access.now (latest_on page place)) (sym there) (c.has_again.ensures again))))

@@ -12,7 +12,7 @@ loop-page-preserved c =
     let now : Page = c.renew.new.self in
     let long = part.ok.0 in
     let inside : page < length part.items = omega arith in (
-      pages_more fresh.address fresh.length c.args.self.now.pages.items part.items c.page_of-from.result page (page * 1024) was now c.loop-page.auto.page inside c.index_mut.ensures.value refl
+      pages_more fresh.address fresh.length c.args.self.now.pages.items part.items c.page_of-from.result page (page * 4096) was now c.loop-page.auto.page inside c.index_mut.ensures.value refl
           c.renew.ensures c.loop-page.invariant.0,
       c.loop-page.invariant.1,
     )
