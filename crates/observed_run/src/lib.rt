@@ -5,6 +5,7 @@ mod actor;
 mod before;
 mod call_events;
 mod instruction_event;
+mod lengths;
 mod observing;
 mod ranges;
 mod register_set;
