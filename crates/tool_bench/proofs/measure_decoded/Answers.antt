@@ -10,4 +10,4 @@ measure_on-requires g c =
 
 pub measure_on-requires-2 : goal.measure_on-requires-2
 measure_on-requires-2 g c =
-    subst (λ (memory : Memory). HasCode c.code-code.result.start c.code-code.result.entries.now memory) (sym (ap memory_of_pages (c.open-view.ensures.pages ∙ c.in_ok-try_clone.ensures))) c.code-code.ensures
+    subst (λ (memory : Memory). HasCode c.code-code.result.start c.code-code.result.entries.now memory) (sym (ap memory_of_pages (c.open-view.ensures.pages ∙ c.in_ok-try_clone.ensures.pages))) c.code-code.ensures

@@ -12,7 +12,7 @@ use Rattle.commit.proofs.Viewed.{with_changes-snapshot}
 use Rattle.commit.proofs.merging.apply_beside.Goals as goal
 
 pub loop-page-init : goal.loop-page-init
-loop-page-init c = ap memory_of_pages c.in_ok-merged.ensures ∙ sym (with_bytes-none (cells_of c.args.snapshot.now))
+loop-page-init c = ap memory_of_pages c.in_ok-merged.ensures.pages ∙ sym (with_bytes-none (cells_of c.args.snapshot.now))
 
 pub loop-page-preserved : goal.loop-page-preserved
 loop-page-preserved c =

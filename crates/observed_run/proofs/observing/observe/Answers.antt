@@ -19,8 +19,8 @@ unfolding events_upto
 loop-view-init c =
     let opened = c.open-view.ensures in
     let segment = c.args.segment in
-    let cells : views.cells_of c.open-view.result ≡ cells_of c.args.base.now = ap memory_of_pages (opened.pages ∙ c.in_ok-try_clone.ensures) in
-    let below : cells_of (views.base_of c.open-view.result) ≡ cells_of c.args.base.now = ap cells_of opened.base ∙ ap memory_of_pages c.in_ok-try_clone.ensures in
+    let cells : views.cells_of c.open-view.result ≡ cells_of c.args.base.now = ap memory_of_pages (opened.pages ∙ c.in_ok-try_clone.ensures.pages) in
+    let below : cells_of (views.base_of c.open-view.result) ≡ cells_of c.args.base.now = ap cells_of opened.base ∙ ap memory_of_pages c.in_ok-try_clone.ensures.pages in
     record {
       runs = subst (λ (memory : Memory). Runs c.args.segment.hart (cells_of c.args.base.now) c.args.segment.left c.args.segment.quantum 0 c.args.segment.hart memory) (sym cells) (begun _ _ _ _);
       bound = omega arith;

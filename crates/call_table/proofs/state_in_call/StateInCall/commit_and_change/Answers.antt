@@ -42,7 +42,7 @@ pub returns-in-Err-clause-kept : goal.returns-in-Err-clause-kept
 unfolding state_in
 returns-in-Err-clause-kept c =
     let state : State = state_in c.args.self.now in
-    let memory : cells_of c.in_ok-memory.memory ≡ state.memory = ap memory_of_pages c.in_ok-memory.ensures in
+    let memory : cells_of c.in_ok-memory.memory ≡ state.memory = ap memory_of_pages c.in_ok-memory.ensures.pages in
     let after : state_in c.call.new.self ≡ committed_bytes state c.args.thread c.args.patch.now c.args.hart c.args.executed = c.in-Err.ensures.kept ∙ c.in_ok-commit.ensures.committed in
     c.restore.ensures.restored
     ∙ ap (λ (now : State). record now { memory = cells_of c.in_ok-memory.memory; threads = slice_set now.threads c.args.thread c.get-row.result.now }) after

@@ -40,5 +40,5 @@ returns-clause-seat c =
       running = c.begin.ensures.running;
       job = omega arith;
       work = c.begin.ensures.work ∙ c.work_of-work.ensures ∙ ap (λ (list : List ℕ). work_of (start_in c.args.self.now) (slice_index list c.args.self.now.drawn)) list;
-      memory = c.begin.ensures.memory ∙ ap memory_of_pages c.in_ok-base.ensures ∙ c.base.ensures;
+      memory = c.begin.ensures.memory ∙ ap memory_of_pages c.in_ok-base.ensures.pages ∙ c.base.ensures;
     }

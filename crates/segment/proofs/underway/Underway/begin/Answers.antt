@@ -10,7 +10,7 @@ use Rattle.segment.proofs.underway.Underway.begin.Goals as goal
 
 pub run_coded_slice-requires-clause-code : goal.run_coded_slice-requires-clause-code
 run_coded_slice-requires-clause-code c =
-    subst (λ (memory : Memory). HasCode c.code-code.result.start c.code-code.result.entries.now memory) (sym (ap memory_of_pages (c.open-view.ensures.pages ∙ c.in_ok-try_clone.ensures))) c.code-code.ensures
+    subst (λ (memory : Memory). HasCode c.code-code.result.start c.code-code.result.entries.now memory) (sym (ap memory_of_pages (c.open-view.ensures.pages ∙ c.in_ok-try_clone.ensures.pages))) c.code-code.ensures
 
 pub progress-requires-clause-there : goal.progress-requires-clause-there
 progress-requires-clause-there c =

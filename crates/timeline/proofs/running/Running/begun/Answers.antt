@@ -14,7 +14,7 @@ returns-clause-stands c =
     let view = c.args.self.now.view in
     let kept : cells_of c.apply.new.snapshot ≡ views.cells_of view =
     c.in_ok-apply.ensures.merged
-    ∙ ap (λ (memory : Memory). with_changes c.in_ok-patch.patch memory) (ap memory_of_pages c.in_ok-memory.ensures ∙ c.requires.under)
+    ∙ ap (λ (memory : Memory). with_changes c.in_ok-patch.patch memory) (ap memory_of_pages c.in_ok-memory.ensures.pages ∙ c.requires.under)
     ∙ ap (λ (patch : ByteMap). with_changes patch (cells_of (views.base_of view))) c.in_ok-patch.ensures ∙ merged view in
     let self = c.args.self.now in
     subst (λ (memory : Memory). Stands (task_of self) self.done self.trap self.hart memory) (sym kept) c.requires.stands

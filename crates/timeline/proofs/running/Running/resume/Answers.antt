@@ -10,9 +10,9 @@ pub returns-clause-running : goal.returns-clause-running
 returns-clause-running c =
     let begun = c.args.begun.now in
     let opened = c.open-view.ensures in
-    let seen : views.cells_of c.open-view.result ≡ cells_of begun.memory = ap memory_of_pages (opened.pages ∙ c.in_ok-try_clone.ensures) in
+    let seen : views.cells_of c.open-view.result ≡ cells_of begun.memory = ap memory_of_pages (opened.pages ∙ c.in_ok-try_clone.ensures.pages) in
     let under : cells_of c.in_ok-under.under ≡ cells_of (views.base_of c.open-view.result) =
-    ap memory_of_pages (c.in_ok-under.ensures ∙ sym c.in_ok-try_clone.ensures) ∙ sym (ap cells_of opened.base) in
+    ap memory_of_pages (c.in_ok-under.ensures.pages ∙ sym c.in_ok-try_clone.ensures.pages) ∙ sym (ap cells_of opened.base) in
     record {
       stands = subst (λ (memory : Memory). Stands (task_of c.args.self.now) begun.done begun.trap begun.hart memory) (sym seen) c.requires;
       under = under;

@@ -13,7 +13,7 @@ unfolding point_of first_state
 invariant_of-result c =
     let setup : Setup = record { entry = c.entry-entry.result; memory = cells_of c.in_ok-first.first; input = input_of c.new-shared.result; bound = c.args.bound; quantum = c.args.quantum } in
     let state : state_of c.new-shared.result ≡ first_state setup =
-    start_state (state_of c.new-shared.result) setup _ _ c.new-shared.ensures.state (ap memory_of_pages c.in_ok-try_clone.ensures) (sym c.new-shared.ensures.input) in
+    start_state (state_of c.new-shared.result) setup _ _ c.new-shared.ensures.state (ap memory_of_pages c.in_ok-try_clone.ensures.pages) (sym c.new-shared.ensures.input) in
     stands_at_start _ (record {
       phase = refl;
       first = refl;
