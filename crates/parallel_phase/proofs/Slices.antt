@@ -18,9 +18,9 @@ use Rattle.parallel_phase.proofs.Works.{works}
 pub slice_more : (jobs : List Segment) (memory : Memory) (number done : ℕ) (old mid new : SeatState) (slice : Option Progress) → Looks old mid → IsSlice jobs memory number done mid new slice
     → IsSlice jobs memory number 0 old new slice
 slice_more jobs memory number done old mid new None first is = (looks_again old mid new first is.0, is.1)
-slice_more jobs memory number done old mid new (Some (GoesOn job)) first is = (looks_again old mid new first is.0, is.1, omega (arith, is.2))
+slice_more jobs memory number done old mid new (Some (GoesOn job)) first is = (looks_again old mid new first is.0, is.1, omega (arith, is.2), is.3)
 slice_more jobs memory number done old mid new (Some (Over end)) first is =
-    record { looked = is.looked; looks = looks_again old mid is.looked first is.looks; noted = is.noted; is = is.is }
+    record { looked = is.looked; looks = looks_again old mid is.looked first is.looks; wanted = is.wanted; noted = is.noted; is = is.is }
 
 -- a seat drew a job, and ran or skipped it
 pub works_over : (jobs : List Segment) (memory : Memory) (old mid new : SeatState) (drawn : Drawn) → mid ≡ record old { log = with_drawn old.log drawn.number }

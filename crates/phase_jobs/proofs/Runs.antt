@@ -1,8 +1,10 @@
 -- Looks of a seat, one after another.
-use Rattle.std.proofs.Common.{◌≡◌, ◌∙◌, ◌<◌, ℕ, Some, zero, suc, List, [], ◌∷◌, length, get_or, refl, sym, ap, arith}
+use Rattle.std.proofs.Common.{◌≡◌, ◌∙◌, ◌+◌, ◌<◌, ◌≤◌, ℕ, Some, zero, suc, List, [], ◌∷◌, length, get_or, refl, sym, ap, subst, arith, ⊎_elim}
+use Rattle.std.proofs.lemmas.Bool.{cases_lt}
+use Rattle.std.proofs.lemmas.Bool.Decides.{nat_tests}
 use Rattle.std.specs.Prelude.{slice_get}
 use Rattle.claim_table.specs.Logs.{times, with_seen}
-use Rattle.claim_table.proofs.Totals.{times_push, drawn_here}
+use Rattle.claim_table.proofs.Totals.{times_empty, times_push, drawn_here}
 use Rattle.claim_table.specs.Seat.{SeatState}
 use Rattle.segment.specs.declared.segment.Segment.{Segment}
 use Rattle.phase_jobs.specs.SharedJobs.{Looks, SawBelow}
@@ -35,6 +37,26 @@ looks_at old new least is = record {
 
 pub saw_below : (old new : SeatState) (least number : ℕ) → new ≡ record old { log = with_seen old.log least } → least < number → SawBelow new.log number
 saw_below old new least number is below = (least, below, let e = ap (λ (s : SeatState). times least s.log.seen) is in let here = drawn_here least old.log.seen in omega arith)
+
+-- a look at the least of the numbers that were noted or seen saw none below one that is no greater
+pub saw_none_below : (old new : SeatState) (least number : ℕ) → new ≡ record old { log = with_seen old.log least }
+    → ((other : ℕ) → 0 < times other old.log.noted + times other old.log.seen → least ≤ other) → number ≤ least → ¬ SawBelow new.log number
+saw_none_below old new least number is lowest above saw =
+    let e = ap (λ (s : SeatState). times saw.0 s.log.seen) is in
+    let more = times_push saw.0 least old.log.seen in
+    let below = saw.1 in
+    let here = saw.2 in
+    ⊎_elim
+    (λ (few : times saw.0 old.log.seen < 1). grind (arith, nat_tests))
+    (λ (some : 1 ≤ times saw.0 old.log.seen). let low = lowest saw.0 (omega arith) in omega arith)
+    (cases_lt (times saw.0 old.log.seen) 1)
+
+-- where nothing was seen, no lower number was
+pub saw_nothing : (seen : List ℕ) (number : ℕ) → seen ≡ [] → ¬ ((least : ℕ) × (least < number) × (0 < times least seen))
+saw_nothing seen number none saw =
+    let here : 0 < times saw.0 [] = subst (λ (list : List ℕ). 0 < times saw.0 list) none saw.2 in
+    let empty = times_empty saw.0 in
+    omega arith
 
 pub job_at : (jobs : List Segment) (number : ℕ) (job : Segment) → number < length jobs → job ≡ get_or jobs number job → slice_get jobs number ≡ Some job
 job_at [] number job inside is = absurd (omega arith)

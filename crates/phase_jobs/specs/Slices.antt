@@ -24,17 +24,18 @@ pub record IsEndOfJob (jobs : List Segment) (memory : Memory) (number : ℕ) (en
   pub job_is : slice_get jobs number ≡ Some job
   pub is : IsEndOf memory job end
 
--- a seat looked, its job ended so, and it noted the job if the run ends by it
+-- a seat looked and saw no lower number, its job ended so, and it noted the job if the run ends by it
 pub record IsOverAt (jobs : List Segment) (memory : Memory) (number : ℕ) (old new : SeatState) (end : SegmentEnd) : Type 0 where
   pub looked : SeatState
   pub looks : Looks old looked
+  pub wanted : ¬ SawBelow looked.log number
   pub noted : new ≡ record looked { log = noted_if (ends_run end.hart end.stop) looked.log number }
   pub is : IsEndOfJob jobs memory number end
 
--- After a slice of a job of which so much was done it is further on, or over. There was no slice if a lower number was seen.
+-- After a slice of a job of which so much was done it is further on, or over. There was no slice if a lower number was seen just before.
 abbrev pub IsSlice : List Segment → Memory → ℕ → ℕ → SeatState → SeatState → Option Progress → Type 0
 IsSlice jobs memory number done old new None = Looks old new × SawBelow new.log number
-IsSlice jobs memory number done old new (Some (GoesOn job)) = Looks old new × IsGoing jobs memory number job × (done < job.done)
+IsSlice jobs memory number done old new (Some (GoesOn job)) = Looks old new × IsGoing jobs memory number job × (done < job.done) × ¬ SawBelow new.log number
 IsSlice jobs memory number done old new (Some (Over end)) = IsOverAt jobs memory number old new end
 
 -- where a job's slice has led

@@ -1,6 +1,6 @@
 //! A phase's jobs and its memory, shared by reference: each job drawn once, and run slice by slice by who drew it.
 
-ghost use Rattle.std.specs.Prelude.{◌≡◌, ◌<◌, ◌≤◌, length, true, IfOk, IfSome, OnErr, OnSome, map};
+ghost use Rattle.std.specs.Prelude.{◌≡◌, ◌<◌, ◌≤◌, length, true, false, IfOk, IfSome, OnErr, OnSome, map};
 ghost use Rattle.std.specs.List.{range_with_len};
 ghost use Rattle.paged_memory.specs.Snapshot.{cells_of};
 ghost use Rattle.claim_table.specs.Logs.{most_jobs, most_seats, new_log, times};
@@ -91,6 +91,7 @@ impl SharedJobs {
         requires { seat.old.row ≡ self.now.row }
         ensures looks { Looks seat.old seat.new }
         ensures below { result ≡ true → SawBelow seat.new.log number }
+        ensures none { result ≡ false → ¬ SawBelow seat.new.log number }
     {
         match self.draws.least(seat) {
             Some(least) => least < number,
