@@ -1,5 +1,5 @@
 -- The calls of the call table, by number and name.
-use Rattle.std.specs.Prelude.{ℕ, ◌==◌, Option, List, [], ◌∷◌, codes, find}
+use Rattle.std.specs.Prelude.{ℕ, Bool, ◌==◌, Option, List, [], ◌∷◌, codes, find}
 use Rattle.abi.specs.declared.call_kind.CallKind.{CallKind}
 use Rattle.abi.specs.declared.call_kind.CallKind.TheVariants.{Exit, ThreadExit, Create, Join, Lock, Unlock, Wait, Signal, Broadcast, Barrier, Write, Read, Memory, Sync, Release}
 
@@ -42,3 +42,7 @@ kinds =
 -- the call with a number, none where no call has it
 unfoldable pub kind_of : ℕ → Option CallKind
 kind_of number = find (λ kind. number_of kind == number) kinds
+
+-- whether the call with a number ends the run
+abbrev pub ends_run : ℕ → Bool
+ends_run number = number == number_of Exit

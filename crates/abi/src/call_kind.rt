@@ -1,6 +1,7 @@
 //! The kinds of calls: the number and the name of each, and the kind of a number. Takes no memory.
 ghost use Rattle.std.specs.Prelude.{◌≡◌, Some};
 ghost use Rattle.abi.specs.Calls.{number_of, name_of, kind_of};
+ghost use Rattle.abi.specs.Calls as spec;
 
 /// Which call of the call table a call is, without its arguments.
 #[derive(Clone, Copy, Debug, PartialEq, Eq)]
@@ -88,6 +89,13 @@ impl CallKind {
             CallKind::Sync => 14,
             CallKind::Release => 15,
         }
+    }
+
+    /// Whether the call with a number ends the run: exit alone does.
+    pub fn ends_run(number: u32) -> bool
+        ensures { result ≡ spec.ends_run number }
+    {
+        number == CallKind::Exit.number()
     }
 
     /// Its name in a trace.

@@ -1,10 +1,8 @@
 -- What a segment comes to after some of its instructions.
 use Rattle.std.specs.Prelude.{ℕ, Bool, true, false, if◌then◌else◌, Option, Some, None}
 use Rattle.guest_memory.specs.Memory.{Memory}
-use Rattle.abi.specs.declared.call.Call.{Call}
-use Rattle.abi.specs.declared.call.Call.TheVariants.{Exit}
-use Rattle.ecalls.specs.Request.{call_of}
-use Rattle.hart.specs.HartState.{HartState}
+use Rattle.abi.specs.Calls as call
+use Rattle.hart.specs.HartState.{HartState, register}
 use Rattle.hart.specs.Next.{next}
 use Rattle.hart.specs.Segment.{after, stop_at}
 use Rattle.hart.specs.declared.stop.Stop.{Stop}
@@ -16,15 +14,10 @@ pub data Verdict : Type 0 where
   Stops : Verdict
   EndsRun : Verdict
 
--- whether a call is exit
-abbrev pub is_exit : Call → Bool
-is_exit (Exit status) = true
-is_exit _ = false
-
--- whether a stop ends the run: a trap does, and the call exit
+-- whether a stop ends the run: a trap does, and the call exit, whose number is in x17
 unfoldable pub ends_run : HartState → Stop → Bool
 ends_run hart (Trap trap) = true
-ends_run hart Ecall = is_exit (call_of hart)
+ends_run hart Ecall = call.ends_run (register hart 17)
 ends_run hart Quantum = false
 
 -- what a stop comes to, or none

@@ -2,8 +2,7 @@
 ghost use Rattle.std.specs.Prelude.{◌≡◌};
 ghost use Rattle.schedule.specs.Verdict as spec;
 
-use abi::Call;
-use ecalls::call_of;
+use abi::CallKind;
 use hart::{Hart, Stop};
 
 /// Whether a segment that stopped so, with this hart, ends the run: by a trap, or by the call exit.
@@ -13,7 +12,7 @@ pub fn ends_run(hart: &Hart, stop: Stop) -> bool
 {
     match stop {
         Stop::Trap(_) => true,
-        Stop::Ecall => matches!(call_of(hart), Call::Exit { .. }),
+        Stop::Ecall => CallKind::ends_run(hart.reg(17)),
         Stop::Quantum => false,
     }
 }

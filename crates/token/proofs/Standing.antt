@@ -10,7 +10,7 @@ use Rattle.thread_table.specs.declared.status.Status.TheVariants.{Ready, Woken, 
 use Rattle.thread_table.specs.declared.thread.Thread.{Thread}
 use Rattle.token.specs.History.{History, first_version, heads, is_quiet, keeper_of, keeps, last_outcome, list_of, outcome, phase_of, present, same_threads, thread_of, version}
 use Rattle.token.specs.Legal.{Follows, IsLegal}
-use Rattle.token.specs.Outcome.{quiet_outcome}
+use Rattle.token.specs.Outcome.{outcome_of_stop, quiet_outcome}
 use Rattle.token.specs.Point.{Point, after_step, counted, due_at, due_by, due_next, keeper_after, moved, next_phase, passed_on}
 use Rattle.token.specs.Serial.{Invariants, StandsAfter}
 use Rattle.token.specs.Setup.{Setup}
@@ -74,7 +74,7 @@ within_behind : (given : ℕ) (list : List ℕ) (keeper : Option ℕ) → given 
 within_behind given list (Some keeper) within listed = within
 within_behind given list None within listed = let below = listed refl in omega arith
 
-keeper_made : (history : History) (step : Step) → keeper_of (step ∷ history) ≡ keeper_after step.after step.turn.thread step.turn.stop
+keeper_made : (history : History) (step : Step) → keeper_of (step ∷ history) ≡ keeper_after step.after step.turn.thread (outcome_of_stop step.turn.thread step.turn.stop)
 unfolding keeps last_outcome thread_of keeper_after
 keeper_made history step = refl
 

@@ -1,8 +1,7 @@
 -- How a run ends: by its last turn, or because nobody has a turn.
-use Rattle.std.specs.Prelude.{ℕ, Bool, true, false, ◌==◌, if◌then◌else◌, Option, Some, None, slice_index}
+use Rattle.std.specs.Prelude.{ℕ, Bool, true, false, if◌then◌else◌, Option, Some, None, slice_index}
 use Rattle.std.specs.List.{list_all}
-use Rattle.abi.specs.Calls.{number_of}
-use Rattle.abi.specs.declared.call_kind.CallKind.TheVariants as call
+use Rattle.abi.specs.Calls.{ends_run}
 use Rattle.thread_table.specs.declared.status.Status.{Status}
 use Rattle.thread_table.specs.declared.status.Status.TheVariants.{Done}
 use Rattle.thread_table.specs.declared.thread.Thread.{Thread}
@@ -15,7 +14,7 @@ use Rattle.token.specs.declared.turn.TurnStop.TheVariants.{Call, Trap, Quantum, 
 -- the outcome of a turn that ends the run by itself: a trap, or the call exit
 abbrev pub outcome_of_stop : ℕ → TurnStop → Option RunOutcome
 outcome_of_stop thread (Trap pc trap) = Some (Trapped thread pc trap)
-outcome_of_stop thread (Call number arguments reply) = if number == number_of call.Exit then Some (Exit (slice_index arguments 0)) else None
+outcome_of_stop thread (Call number arguments reply) = if ends_run number then Some (Exit (slice_index arguments 0)) else None
 outcome_of_stop thread (Quantum pc) = None
 outcome_of_stop thread (Wake mutex) = None
 

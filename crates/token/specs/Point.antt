@@ -25,7 +25,6 @@ use Rattle.token.specs.declared.outcome.RunOutcome.{RunOutcome}
 use Rattle.segment.specs.Ends.{IsEndOf}
 use Rattle.segment.specs.declared.segment_end.SegmentEnd.{SegmentEnd}
 use Rattle.token.specs.declared.turn.Turn.{Turn}
-use Rattle.token.specs.declared.turn.TurnStop.{TurnStop}
 
 -- What stands between two turns: what the run was given, the phase of the next turn, the number of the phase's first version with its
 -- memory and threads, the phase's list and how many of it were given the token, who keeps the token, how the run ended, the
@@ -130,17 +129,17 @@ step_by point who (Some end) = ran_step point who end
 abbrev pub step_at : Point → Option SegmentEnd → Step
 step_at point end = step_by point (due_at point) end
 
--- who keeps the token after a turn of a thread
-unfoldable pub keeper_after : State → ℕ → TurnStop → Option ℕ
-keeper_after state thread stop =
-    if not (is_some (outcome_of_stop thread stop)) && (is_ready (row_of state thread).status && holds state.objects thread) then Some thread else None
+-- who keeps the token after a turn of a thread with this outcome, if it ends the run
+unfoldable pub keeper_after : State → ℕ → Option RunOutcome → Option ℕ
+keeper_after state thread outcome =
+    if not (is_some outcome) && (is_ready (row_of state thread).status && holds state.objects thread) then Some thread else None
 
 -- where a turn is counted, once the state is the one after it
 unfoldable pub counted : Point → Turn → ℕ → Point
 counted point turn fresh_from =
     record point {
       given = if is_some point.keeper then point.given else point.given + 1;
-      keeper = keeper_after point.state turn.thread turn.stop;
+      keeper = keeper_after point.state turn.thread (outcome_of_stop turn.thread turn.stop);
       ended = outcome_of_stop turn.thread turn.stop;
       done = point.done + 1;
       fresh_from = fresh_from;

@@ -247,8 +247,8 @@ impl RunInTurn {
         if self.keeper.is_none() {
             self.phase.given += 1;
         }
-        self.keeper = keeper_after(&self.shared, turn.thread, &turn.stop);
         self.outcome = outcome_of_stop(turn.thread, &turn.stop);
+        self.keeper = keeper_after(&self.shared, turn.thread, self.outcome);
         self.fresh_from = fresh_from;
         self.done += 1;
     }

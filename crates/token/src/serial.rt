@@ -1,7 +1,7 @@
 //! The serial state: a run whose turns are a legal history. Memory is taken before anything changes.
 #![tactic(auto, unfolding(crate::specs::RunInTurn::point_of))]
 
-ghost use Rattle.std.specs.Prelude.{◌≡◌, ◌<◌, [], None, Some, OnOk, OnErr, IfOk, IfErr, option_map};
+ghost use Rattle.std.specs.Prelude.{◌≡◌, ◌^◌, ◌<◌, ◌≤◌, ◌↔◌, [], None, Some, IsTrue, OnOk, OnErr, IfOk, IfErr, option_map};
 ghost use Rattle.token.specs.Point as point;
 
 use crate::kept::Kept;
@@ -177,6 +177,13 @@ impl<R: Recorder> Serial<R> {
         self.run.quantum
     }
 
+    /// Whether as many turns were done as a run may have.
+    fn is_full(&self) -> bool
+        ensures { IsTrue result ↔ (2 ^ 63 ≤ (point_of self.now).done) }
+    {
+        self.run.done >= MOST_TURNS
+    }
+
     /// Does the next turn, with the end of the segment that it needs, or with none at a wake, and answers it. Where
     /// memory is refused or the recorder fails, the state is as it was and nothing is recorded.
     pub fn turn(&mut self, end: Option<&SegmentEnd>) -> Result<Turn, TurnFault>
@@ -187,7 +194,7 @@ impl<R: Recorder> Serial<R> {
         ensures kept { OnErr result (point_of self.new ≡ point_of self.old) }
         ensures fault { IfErr result (λ fault. fault ≡ WriteFailed → R.writes) }
     {
-        if self.run.done >= MOST_TURNS {
+        if self.is_full() {
             return Err(TurnFault::OutOfMemory);
         }
         self.recorder.prepare(patch_of(end))?;

@@ -22,20 +22,23 @@ pub(crate) fn outcome_of_stop(thread: u32, stop: &TurnStop) -> Option<RunOutcome
             number,
             arguments,
             ..
-        } if number == CallKind::Exit.number() => Some(RunOutcome::Exit(arguments[0])),
+        } if CallKind::ends_run(number) => Some(RunOutcome::Exit(arguments[0])),
         TurnStop::Call { .. } | TurnStop::Quantum { .. } | TurnStop::Wake { .. } => None,
     }
 }
 
-/// The thread of a turn, where it keeps the token: the run goes on, and the thread is ready and holds a mutex.
+/// The thread of a turn with this outcome, if it keeps the token: the run goes on, and the thread is ready and holds a mutex.
 #[tactic(auto, unfolding(crate::specs::Point::keeper_after))]
-pub(crate) fn keeper_after(shared: &SharedState, thread: u32, stop: &TurnStop) -> Option<u32>
+pub(crate) fn keeper_after(
+    shared: &SharedState,
+    thread: u32,
+    outcome: Option<RunOutcome>,
+) -> Option<u32>
     requires { thread < length (state_of shared.now).threads }
-    ensures { result ≡ point.keeper_after (state_of shared.now) thread stop.now }
+    ensures { result ≡ point.keeper_after (state_of shared.now) thread outcome }
 {
-    let ends = outcome_of_stop(thread, stop).is_some();
     let ready = shared.threads().get(thread).status.is_ready();
-    if !ends && ready && shared.holds(thread) {
+    if outcome.is_none() && ready && shared.holds(thread) {
         Some(thread)
     } else {
         None
