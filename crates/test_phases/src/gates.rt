@@ -139,3 +139,30 @@ impl<'a, R: Clock> Gate for Holding<'a, R> {
         }
     }
 }
+
+/// A gate that raises a flag at a pass, counted from 1.
+#[derive(Drop)]
+pub struct Counting {
+    at: u32,
+    passes: AtomicU32,
+    pub reached: Flag,
+}
+
+impl Counting {
+    pub fn new(at: u32) -> Self {
+        Counting {
+            at,
+            passes: AtomicU32::new(0),
+            reached: Flag::new(),
+        }
+    }
+}
+
+impl Gate for Counting {
+    fn pass(&self, _worker: u32, _job: u32) {
+        let before = self.passes.fetch_add(1, Ordering::SeqCst);
+        if Some(before) == self.at.checked_sub(1) {
+            self.reached.raise();
+        }
+    }
+}

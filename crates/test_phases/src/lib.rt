@@ -10,6 +10,8 @@ mod fixtures;
 #[cfg(test)]
 mod gates;
 #[cfg(test)]
+mod in_order;
+#[cfg(test)]
 mod many_hands;
 #[cfg(test)]
 mod one_thread;
@@ -21,3 +23,5 @@ mod overlapping;
 mod patience;
 #[cfg(test)]
 mod stops;
+#[cfg(test)]
+mod taking;

@@ -96,18 +96,19 @@ fn kept(list: &[AtomicU64], place: usize) -> u64 {
         .map_or(0, |kept| kept.load(Ordering::SeqCst))
 }
 
-/// Asserts what a gate is told of the run of a program by one worker.
+/// Asserts what a gate is told of the run of a program by so many workers.
 fn assert_told(
     rt: &(impl Abort + Threads + Wait + Sync),
     alloc: Global,
     program: &Program,
     passes: &[Pass],
     turns: &[u64],
+    workers: u32,
 ) -> Result<(), Fail> {
     let config = Config {
         bound: MAX_BOUND,
         quantum: None,
-        workers: 1,
+        workers,
     };
     let gate = Listening::new();
     run(rt, alloc, &program.file(alloc)?, &[], &config, &gate)?;
@@ -121,7 +122,7 @@ fn assert_told(
         "{}",
         program.name
     );
-    assert_passes(rt, &gate, passes, program.name);
+    assert_passes(rt, &gate, passes, workers, program.name);
     for (place, thread) in turns.iter().enumerate() {
         assert_eq!(rt;
             kept(&gate.threads, place),
@@ -133,18 +134,43 @@ fn assert_told(
     Ok(())
 }
 
-/// Asserts what a gate was told at each pass.
-fn assert_passes(rt: &impl Abort, gate: &Listening, passes: &[Pass], name: &str) {
-    for (place, (job, least, most)) in passes.iter().enumerate() {
-        let told = (kept(&gate.workers, place), kept(&gate.jobs, place));
-        assert_eq!(rt; told, (0, *job), "{name} {place}");
-        let turns = kept(&gate.turns_at, place);
-        assert!(rt; *least <= turns && turns <= *most, "{name} {place}");
+/// Asserts that a gate was told of each of these passes, by one of so many workers. One worker makes them in this order.
+fn assert_passes(rt: &impl Abort, gate: &Listening, passes: &[Pass], workers: u32, name: &str) {
+    for (place, pass) in passes.iter().enumerate() {
+        let is_told = if workers == 1 {
+            is_pass(gate, place, pass, workers)
+        } else {
+            is_among(gate, passes.len(), pass, workers)
+        };
+        assert!(rt; is_told, "{name} {place}");
     }
+}
+
+/// Whether one of the first passes of a gate is this one.
+fn is_among(gate: &Listening, count: usize, pass: &Pass, workers: u32) -> bool {
+    for place in 0..count {
+        if is_pass(gate, place, pass, workers) {
+            return true;
+        }
+    }
+    false
+}
+
+/// Whether the pass at a place is this one, by one of so many workers.
+fn is_pass(gate: &Listening, place: usize, (job, least, most): &Pass, workers: u32) -> bool {
+    let turns = kept(&gate.turns_at, place);
+    kept(&gate.workers, place) < u64::from(workers)
+        && kept(&gate.jobs, place) == *job
+        && *least <= turns
+        && turns <= *most
 }
 
 #[test]
 fn a_gate_is_told_of_each_job_and_turn(rt: HostRuntime) -> Result<(), Fail> {
-    assert_told(&rt, rt.alloc(), &RACE, &RACE_PASSES, &RACE_TURNS)?;
-    assert_told(&rt, rt.alloc(), &SIGNAL, &SIGNAL_PASSES, &SIGNAL_TURNS)
+    for workers in [1, 2, 3] {
+        let alloc = rt.alloc();
+        assert_told(&rt, alloc, &RACE, &RACE_PASSES, &RACE_TURNS, workers)?;
+        assert_told(&rt, alloc, &SIGNAL, &SIGNAL_PASSES, &SIGNAL_TURNS, workers)?;
+    }
+    Ok(())
 }

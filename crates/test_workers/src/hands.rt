@@ -2,7 +2,9 @@
 //! by side, turns are taken beside running jobs, and a run ends beside an endless one, which is some slices old by then.
 
 use crate::seen::{BEFORE, Seen, is_reached, linger, reach};
-use data_guest_programs::{KEEPER_EXIT, KEEPER_EXIT_TRACE, LATE_WORK, Program, RACE, RACE_TRACE};
+use data_guest_programs::{
+    KEEPER_EXIT, KEEPER_EXIT_TRACE, LATE_WORK, Program, RACE, RACE_TRACE, SIGNAL,
+};
 use runtime::{Config, Gate, MAX_BOUND, Report, RunOutcome, run};
 use std::alloc::Global;
 use std::process::Abort;
@@ -22,22 +24,24 @@ const CALLER: u32 = 0;
 /// executes the beginning of a long job alone.
 const BEFORE_LATE: u64 = 45;
 
-/// What host threads do once phase 1 is over, before each job that they have drawn.
+/// What host threads do once some turns are done, before each job that they have drawn.
 trait Holding {
     fn hold<R: Clock>(&self, seen: &Seen<'_, R>, worker: u32, job: u32);
 }
 
-/// A gate that counts turns, and holds host threads once phase 1 is over.
+/// A gate that counts turns, and holds host threads once so many are done.
 #[derive(Drop)]
 struct Held<'a, R, H> {
     seen: Seen<'a, R>,
+    after: u64,
     holding: &'a H,
 }
 
 impl<'a, R: Clock, H> Held<'a, R, H> {
-    fn by(rt: &'a R, holding: &'a H) -> Result<Self, Fail> {
+    fn by(rt: &'a R, after: u64, holding: &'a H) -> Result<Self, Fail> {
         Ok(Held {
             seen: Seen::nothing(rt)?,
+            after,
             holding,
         })
     }
@@ -45,7 +49,7 @@ impl<'a, R: Clock, H> Held<'a, R, H> {
 
 impl<'a, R: Clock, H: Holding> Gate for Held<'a, R, H> {
     fn pass(&self, worker: u32, job: u32) {
-        if self.seen.has_done(BEFORE) {
+        if self.seen.has_done(self.after) {
             self.holding.hold(&self.seen, worker, job);
         }
     }
@@ -55,7 +59,7 @@ impl<'a, R: Clock, H: Holding> Gate for Held<'a, R, H> {
     }
 }
 
-/// Jobs 0 and 1 of phase 2 wait for each other.
+/// Jobs 0 and 1 of a phase wait for each other.
 #[derive(Drop)]
 struct Meeting;
 
@@ -183,7 +187,7 @@ fn assert_runs<H: Holding + Sync>(
     holding: &H,
 ) -> Result<(), Fail> {
     for _ in 0..TIMES {
-        let gate = Held::by(rt, holding)?;
+        let gate = Held::by(rt, BEFORE, holding)?;
         let report = report_of(rt, alloc, program, workers, &gate)?;
         assert_eq!(rt; report.outcome, RunOutcome::Exit(status));
         assert_eq!(rt; trace_text(alloc, &report.trace)?.as_str(), trace);
@@ -195,6 +199,18 @@ fn assert_runs<H: Holding + Sync>(
 #[test]
 fn jobs_run_side_by_side(rt: HostRuntime) -> Result<(), Fail> {
     assert_runs(&rt, rt.alloc(), (&RACE, RACE_TRACE, 2), 2, &Meeting)
+}
+
+/// Phase 2 of `signal` is the first one with two jobs. One turn comes before it.
+#[test]
+fn the_two_threads_of_a_program_run_side_by_side(rt: HostRuntime) -> Result<(), Fail> {
+    for _ in 0..TIMES {
+        let gate = Held::by(&rt, 1, &Meeting)?;
+        let report = report_of(&rt, rt.alloc(), &SIGNAL, 2, &gate)?;
+        assert_eq!(rt; report.outcome, RunOutcome::Exit(0));
+        assert!(rt; is_reached(&gate.seen.second) && !is_reached(&gate.seen.missed));
+    }
+    Ok(())
 }
 
 #[test]
@@ -227,7 +243,7 @@ fn a_phase_whose_first_job_the_caller_began_alone_is_shared_out(
 ) -> Result<(), Fail> {
     let mut is_shared = false;
     for _ in 0..TIMES {
-        let gate = Held::by(&rt, &LateWork)?;
+        let gate = Held::by(&rt, BEFORE, &LateWork)?;
         let report = report_of(&rt, rt.alloc(), &LATE_WORK, 2, &gate)?;
         assert_eq!(rt; report.outcome, RunOutcome::Exit(0));
         if is_reached(&gate.seen.first) {
