@@ -109,6 +109,15 @@ def body(random):
     return words + call(THREAD_EXIT, random.randrange(256))
 
 
+def file_of(main, first, words):
+    """The file of a program whose code begins with these words, and goes on with others after so many."""
+    assert len(main) <= first
+    code = b"".join(struct.pack("<I", word & 0xFFFFFFFF) for word in main + [0] * (first - len(main)) + words)
+    header = bytes.fromhex("7f454c46010101000000000000000000") + struct.pack("<HHIIIIIHHHHHH", 2, 243, 1, CODE, 52, 0, 0, 52, 32, 2, 0, 0, 0)
+    rows = struct.pack("<8I", 1, 116, CODE, CODE, len(code), len(code), 5, 0) + struct.pack("<8I", 1, 116, DATA, DATA, 0, ROOM, 6, 0)
+    return header + rows + code
+
+
 def guest(random):
     """The file of a program."""
     threads = random.choice([1, 2, 3, 4, 4, 5, 8, random.randrange(1, 40)])
@@ -127,8 +136,4 @@ def guest(random):
     for thread in random.sample(range(threads), threads):
         main += call(JOIN, thread + 1)
     main += [imm(A0, S0, 0, 4, 0x03), imm(A7, ZERO, EXIT, 0), 0x00000073]
-    assert len(main) <= first
-    code = b"".join(struct.pack("<I", word & 0xFFFFFFFF) for word in main + [0] * (first - len(main)) + words)
-    header = bytes.fromhex("7f454c46010101000000000000000000") + struct.pack("<HHIIIIIHHHHHH", 2, 243, 1, CODE, 52, 0, 0, 52, 32, 2, 0, 0, 0)
-    rows = struct.pack("<8I", 1, 116, CODE, CODE, len(code), len(code), 5, 0) + struct.pack("<8I", 1, 116, DATA, DATA, 0, ROOM, 6, 0)
-    return header + rows + code
+    return file_of(main, first, words)

@@ -6,19 +6,28 @@ else. `dthreads` runs, lists and records small guests, replays schedules, and de
 then standard output has a prefix of the true output, and no file was written after the first that lacks. `phase_failures` runs phases of
 these guests: each of its lines is the true one or says out of memory, and its draws take no memory.
 
-It needs a C compiler. DTHREADS names a built program to run the guests with, or else it is built.
+A run that doesn't end within SECONDS hangs. `--gate` sweeps the runs of two guests by several workers alone, as .ci/run does: of one of them
+the ready threads have gaps in their numbers.
+
+It needs a C compiler; without one `--gate` says so and passes. DTHREADS names a built program to run the guests with, or else it is built.
 """
 import itertools
 import os
+import shutil
 import subprocess
 import sys
 import tempfile
 
+from dt_commands import fixed_guests
 from dt_commands.progress import Progress
 from dt_commands.repository import TOP
 from dt_commands.texts import contents
 
 OUT_OF_MEMORY = (125, b"out of memory\n")
+# How much of a wrong answer is shown.
+SHOWN = 2000
+# For how many seconds a run may go on, and one of the gate's, which take milliseconds.
+SECONDS, GATE_SECONDS = 600, 60
 
 # The guests with their input and what else their runs are given.
 GUESTS = [
@@ -82,16 +91,17 @@ class Answer:
 
     def is_out_of_memory(self, wanted):
         status, output, complaint, files = self.said
-        whole = next((place for place, it in enumerate(files) if not it), len(files))
-        are_first = files == wanted.said[3][:whole] + [b""] * (len(files) - whole)
+        true = wanted.said[3]
+        whole = next((place for place, it in enumerate(files) if it != true[place]), len(files))
+        are_first = not any(files[whole:])
         return (status, complaint) == OUT_OF_MEMORY and wanted.said[1].startswith(output) and are_first
 
 
 class Sweep:
     """A command whose requests are refused in turn."""
 
-    def __init__(self, room, words, given=b"", records=()):
-        self.room, self.words, self.given = room, words, given
+    def __init__(self, room, words, given=b"", records=(), seconds=SECONDS):
+        self.room, self.words, self.given, self.seconds = room, words, given, seconds
         self.records = [f"{room}/{it}" for it in records]
 
     def run(self, **settings):
@@ -100,7 +110,10 @@ class Sweep:
                 os.remove(file)
         env = {**os.environ, "LD_PRELOAD": f"{self.room}/refuse.so", "REQUESTS": f"{self.room}/requests"}
         env.update({name: str(number) for name, number in settings.items()})
-        ran = subprocess.run(self.words, input=self.given, capture_output=True, env=env, cwd=self.room, timeout=600)
+        try:
+            ran = subprocess.run(self.words, input=self.given, capture_output=True, env=env, cwd=self.room, timeout=self.seconds)
+        except subprocess.TimeoutExpired:
+            sys.exit(f"{self.words} with {settings}: it didn't end within {self.seconds} seconds")
         if ran.returncode < 0:
             sys.exit(f"{self.words} with {settings}: a crash, signal {-ran.returncode}")
         with open(f"{self.room}/requests", encoding="ascii") as it:
@@ -124,7 +137,7 @@ class Sweep:
             ends = answer.is_out_of_memory(wanted)
             ended += ends
             if not ends and not answer.is_true(wanted):
-                sys.exit(f"{name}: another answer with request {refusals} refused: {answer.said}")
+                sys.exit(f"{name}: another answer with request {refusals} refused: {str(answer.said)[:SHOWN]}")
         if refusals < wanted.requests - self.spread():
             sys.exit(f"{name}: {refusals} requests were refused, and an undisturbed run makes {wanted.requests}")
         print(f"{name}: {refusals} requests refused in turn, {ended} times out of memory", flush=True)
@@ -202,6 +215,22 @@ def runs(room, program):
             yield f"run {guest}, {workers} workers, recorded", Sweep(room, recorded, given, RECORDS)
 
 
+def gaps(room):
+    """Writes the guest whose ready threads have gaps in their numbers, and returns its path."""
+    file = f"{room}/gaps.elf"
+    with open(file, "wb") as it:
+        it.write(fixed_guests.gaps())
+    return file
+
+
+def by_workers(room, program):
+    """Yields the sweeps of the gate, each with its name: two guests by two and by four workers."""
+    for guest, file in (("race", f"{TOP}/samples/race.elf"), ("gaps", gaps(room))):
+        for workers in "24":
+            words = [program, "run", file, "--workers", workers]
+            yield f"run {guest}, {workers} workers", Sweep(room, words, seconds=GATE_SECONDS)
+
+
 def replays(room, program):
     """Yields the sweeps of the whole program on each schedule, each with its name."""
     for schedule, numbers in SCHEDULES:
@@ -244,12 +273,27 @@ def dthreads():
     return f"{TOP}/crates/command/out/command"
 
 
+def sweep_gate():
+    """Sweeps runs by several workers."""
+    if not shutil.which("cc"):
+        print("not swept: there is no C compiler")
+        return 0
+    with tempfile.TemporaryDirectory(prefix="sweep-memory-") as room:
+        library(room)
+        for name, one in by_workers(room, dthreads()):
+            one.each(name)
+    return 0
+
+
 def arguments(parser):
     parser.add_argument("word", nargs="?", default="", metavar="WORD", help="the lines whose names have this word (default: all)")
+    parser.add_argument("--gate", action="store_true", help="the gate's part alone: runs by several workers")
 
 
 def sweep(options):
     """Refuses each request for memory of some programs, one after another, and looks at what they answer."""
+    if options.gate:
+        return sweep_gate()
     with tempfile.TemporaryDirectory(prefix="sweep-memory-") as room, Progress("lines") as progress:
         library(room)
         for name, does in (("test_alloc_failures", calls), ("test_phase_failures", phases)):
@@ -257,7 +301,8 @@ def sweep(options):
                 progress.at = name
                 does(room, built(name))
         program = dthreads()
-        chosen = [it for it in [*runs(room, program), *replays(room, program), *debugs(room, program)] if options.word in it[0]]
+        every = [*runs(room, program), *list(by_workers(room, program))[2:], *replays(room, program), *debugs(room, program)]
+        chosen = [it for it in every if options.word in it[0]]
         progress.total = len(chosen)
         for name, one in progress.each(chosen, lambda it: it[0]):
             one.each(name)

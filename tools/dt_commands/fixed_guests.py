@@ -1,0 +1,36 @@
+"""Guest programs for tests of host threads."""
+from dt_commands.random_guests import A0, A7, CODE, CREATE, DATA, EXIT, JOIN, LOCK, S0, SYNC, THREAD_EXIT, UNLOCK, ZERO, call, file_of, imm, load_number, store
+
+# After so many words come those of the threads.
+FIRST = 1000
+TO_ITSELF = [0x0000006F]
+
+
+def created(starts):
+    """Makes threads that begin at these words, all in one phase."""
+    words = call(LOCK, 0)
+    for place in starts:
+        words += call(CREATE, CODE + 4 * (FIRST + place), 0, 0)
+    return words + call(UNLOCK, 0)
+
+
+def endless(threads):
+    """Thread 0 and so many others loop without end, in one phase."""
+    return file_of(created([0] * threads) + call(SYNC) + TO_ITSELF, FIRST, TO_ITSELF)
+
+
+def waiting():
+    """Thread 0 waits for thread 1, which loops without end."""
+    return file_of(created([0]) + call(JOIN, 1), FIRST, TO_ITSELF)
+
+
+def gaps():
+    """Threads 0, 2 and 4 store and sync some times after threads 1 and 3 have ended."""
+    works = load_number(S0, DATA)
+    for offset in range(3):
+        works += [store(S0, S0, 4 * offset, 2), *call(SYNC)]
+    works += call(THREAD_EXIT, 0)
+    main = created([len(works), 0, len(works), 0]) + call(SYNC) + call(SYNC)
+    for thread in range(1, 5):
+        main += call(JOIN, thread)
+    return file_of([*main, imm(A0, ZERO, 7, 0), imm(A7, ZERO, EXIT, 0), 0x00000073], FIRST, works + call(THREAD_EXIT, 1))

@@ -1,0 +1,88 @@
+"""Host threads of runs: how many there are, and that those without work take no processor time.
+
+DTHREADS names the program to run the guests with, or else ./dthreads.
+"""
+import os
+import re
+import resource
+import subprocess
+import tempfile
+import time
+
+from dt_commands import fixed_guests, guest_runs
+
+# Workers, threads of the guest that have work in one phase, and how many host threads there are then.
+ROWS = [(1, 5, 1), (2, 2, 2), (2, 5, 2), (3, 5, 3), (4, 3, 3), (64, 1, 1), (64, 2, 2), (64, 5, 5)]
+# For how many seconds a run is waited for until it has its host threads, and how often it is looked at.
+PATIENCE, LOOKS = 20, 200
+# How many instructions a thread executes while others wait, and how many seconds of processor time are no wait's.
+BOUND, SPARE = "300000000", 0.3
+# With how many workers these runs are made.
+WAITING = [2, 64]
+
+
+def host_threads(process):
+    """Returns how many host threads a process has."""
+    with open(f"/proc/{process.pid}/status", encoding="ascii") as it:
+        return int(re.search(r"^Threads:\s+(\d+)$", it.read(), re.M)[1])
+
+
+def started(file, workers, wanted):
+    """Returns how many host threads a run without end has, once it has as many as it should or the time is up."""
+    process = subprocess.Popen([guest_runs.program(), "run", file, "--workers", str(workers)], stdin=subprocess.DEVNULL)
+    try:
+        for _ in range(LOOKS):
+            time.sleep(PATIENCE / LOOKS)
+            if host_threads(process) >= wanted:
+                break
+        time.sleep(PATIENCE / LOOKS)
+        return host_threads(process)
+    finally:
+        process.kill()
+        process.wait()
+
+
+def count_fails(room):
+    """Counts host threads of endless runs. Returns how many runs had others than they should."""
+    failed = 0
+    for workers, busy, wanted in ROWS:
+        file = f"{room}/endless-{busy}.elf"
+        with open(file, "wb") as it:
+            it.write(fixed_guests.endless(busy - 1))
+        found = started(file, workers, wanted)
+        failed += found != wanted
+        print(f"{workers} workers, {busy} threads with work: {found} host threads{'' if found == wanted else f', not {wanted}'}", flush=True)
+    return failed
+
+
+def processor_seconds():
+    spent = resource.getrusage(resource.RUSAGE_CHILDREN)
+    return spent.ru_utime + spent.ru_stime
+
+
+def wait_fails(room):
+    """Looks at the processor time of runs in which all but one thread wait. Returns how many took more than their time."""
+    file, failed = f"{room}/waiting.elf", 0
+    with open(file, "wb") as it:
+        it.write(fixed_guests.waiting())
+    for workers in WAITING:
+        before, begun = processor_seconds(), time.monotonic()
+        words = [guest_runs.program(), "run", file, "--workers", str(workers), "--bound", BOUND]
+        subprocess.run(words, stdin=subprocess.DEVNULL, stdout=subprocess.DEVNULL, stderr=subprocess.DEVNULL)
+        passed, spent = time.monotonic() - begun, processor_seconds() - before
+        is_idle = spent <= passed + SPARE
+        failed += not is_idle
+        print(f"{workers} workers, one thread with work: {spent:.2f} s of processor time in {passed:.2f} s{'' if is_idle else ': somebody waits busily'}", flush=True)
+    return failed
+
+
+def arguments(parser):
+    pass
+
+
+def test(options):
+    """Tests host threads of runs of the program."""
+    with tempfile.TemporaryDirectory(prefix="host-threads-") as room:
+        failed = count_fails(room) + wait_fails(room)
+    print(f"{len(ROWS) + len(WAITING)} runs, {failed} failed")
+    return 1 if failed else 0
