@@ -50,6 +50,7 @@ pub fn debug_file<'a, H: Threads + Wait + Sync, F: Files, R: Read + Send, W: Wri
     match serve_beside(rt, alloc, stdin, sender, session, incoming, stdout) {
         Ok(()) => Ok(()),
         Err(ServeFault::OutOfMemory) => Err(Failure::OutOfMemory),
+        Err(ServeFault::ReadFailed) => Err(Failure::CannotRead(Target::StandardInput)),
         Err(ServeFault::WriteFailed) => Err(Failure::CannotWrite(Target::StandardOutput)),
     }
 }

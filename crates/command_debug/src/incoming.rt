@@ -1,6 +1,7 @@
 //! The bytes of gdb, as a host thread of their own reads them.
 use crossbeam_channel::{Receiver, Sender, TryRecvError};
-use std::alloc::{AllocError, Global};
+use output_files::ReadFault;
+use std::alloc::Global;
 use std::io::{ErrorKind, Read};
 use std::sync::Wait;
 
@@ -12,8 +13,8 @@ const PIECE: usize = 4096;
 pub(crate) enum Piece {
     /// These bytes.
     Bytes(Vec<u8>),
-    /// Bytes for which memory was refused. Nothing is read after them.
-    Refused(AllocError),
+    /// A read that failed, or bytes for which there was no memory. Nothing is read after them.
+    Lost(ReadFault),
 }
 
 /// The bytes of gdb that were read, in their order.
@@ -24,8 +25,8 @@ pub(crate) struct Incoming {
     piece: Vec<u8>,
     /// How many of its bytes were taken.
     taken: usize,
-    /// The request for memory that was refused, if the input ends for it.
-    refused: Option<AllocError>,
+    /// Why the input ends, if it isn't at its end.
+    lost: Option<ReadFault>,
 }
 
 /// What comes next, as far as it is known without waiting.
@@ -46,14 +47,14 @@ impl Incoming {
             pieces,
             piece: Vec::new(alloc),
             taken: 0,
-            refused: None,
+            lost: None,
         }
     }
 
-    /// What its end comes to: memory may have been refused.
-    pub fn end(&self) -> Result<(), AllocError> {
-        match self.refused {
-            Some(refused) => Err(refused),
+    /// What its end comes to: a read may have failed, or memory run out.
+    pub fn end(&self) -> Result<(), ReadFault> {
+        match self.lost {
+            Some(fault) => Err(fault),
             None => Ok(()),
         }
     }
@@ -67,8 +68,8 @@ impl Incoming {
             }
             match self.pieces.recv(rt) {
                 Ok(Piece::Bytes(piece)) => self.begin(piece),
-                Ok(Piece::Refused(refused)) => {
-                    self.refused = Some(refused);
+                Ok(Piece::Lost(fault)) => {
+                    self.lost = Some(fault);
                     return None;
                 }
                 Err(_) => return None,
@@ -90,8 +91,8 @@ impl Incoming {
                     None => Coming::Nothing,
                 }
             }
-            Ok(Piece::Refused(refused)) => {
-                self.refused = Some(refused);
+            Ok(Piece::Lost(fault)) => {
+                self.lost = Some(fault);
                 Coming::End
             }
             Err(TryRecvError::Empty) => Coming::Nothing,
@@ -120,17 +121,15 @@ pub(crate) fn read_all<H: Wait, R: Read>(
 ) {
     let mut room = [0u8; PIECE];
     for _ in rt.forever() {
-        match input.read(&mut room) {
+        let piece = match input.read(&mut room) {
             Ok(0) => return,
-            Ok(count) => {
-                let piece = piece_of(alloc, &room[..count]);
-                let is_last = matches!(piece, Piece::Refused(_));
-                if pieces.send(rt, piece).is_err() || is_last {
-                    return;
-                }
-            }
-            Err(error) if error.kind() == ErrorKind::Interrupted => {}
-            Err(_) => return,
+            Ok(count) => piece_of(alloc, &room[..count]),
+            Err(error) if error.kind() == ErrorKind::Interrupted => continue,
+            Err(_) => Piece::Lost(ReadFault::ReadFailed),
+        };
+        let is_last = matches!(piece, Piece::Lost(_));
+        if pieces.send(rt, piece).is_err() || is_last {
+            return;
         }
     }
 }
@@ -139,6 +138,6 @@ pub(crate) fn read_all<H: Wait, R: Read>(
 fn piece_of(alloc: Global, bytes: &[u8]) -> Piece {
     match Vec::from_slice(alloc, bytes) {
         Ok(bytes) => Piece::Bytes(bytes),
-        Err(refused) => Piece::Refused(refused),
+        Err(refused) => Piece::Lost(ReadFault::from(refused)),
     }
 }

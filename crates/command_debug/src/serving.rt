@@ -1,6 +1,7 @@
 //! A session that is served: its bytes come in and go out, and the run goes on between.
 use crate::incoming::{Coming, Incoming};
 use gdb_protocol::Session;
+use output_files::ReadFault;
 use std::alloc::AllocError;
 use std::io::Write;
 use std::sync::Wait;
@@ -15,6 +16,9 @@ pub(crate) enum ServeFault {
     /// Memory was refused.
     #[error("out of memory")]
     OutOfMemory,
+    /// What gdb says can't be read.
+    #[error("cannot read")]
+    ReadFailed,
     /// The answers can't be written.
     #[error("cannot write")]
     WriteFailed,
@@ -23,6 +27,15 @@ pub(crate) enum ServeFault {
 impl From<AllocError> for ServeFault {
     fn from(_error: AllocError) -> Self {
         ServeFault::OutOfMemory
+    }
+}
+
+impl From<ReadFault> for ServeFault {
+    fn from(fault: ReadFault) -> Self {
+        match fault {
+            ReadFault::ReadFailed => ServeFault::ReadFailed,
+            ReadFault::OutOfMemory => ServeFault::OutOfMemory,
+        }
     }
 }
 

@@ -1,6 +1,8 @@
 //! What the command debug answers to gdb, and how it ends.
 
-use crate::fakes::{EndlessFiles, FailingWriter, FaultyWriter, MemoryFiles, SCHEDULE, SlowReader};
+use crate::fakes::{
+    CutReader, EndlessFiles, FailingWriter, FaultyWriter, MemoryFiles, SCHEDULE, SlowReader,
+};
 use crate::performed::Performed;
 use command_line::perform;
 use data_guest_programs::{ECHO, LATE_WORK, Program, SEVEN, file_of};
@@ -123,6 +125,18 @@ fn a_run_without_an_end_ends_with_the_input(rt: HostRuntime) -> Result<(), Fail>
     let mut stdin = b"$vCont;c#a8".as_slice();
     let performed = Performed::new(&rt, &DEBUG, &mut files, &mut stdin);
     performed.assert_is(&rt, 0, b"+", "");
+    Ok(())
+}
+
+/// What was read before is answered.
+#[test]
+fn a_read_that_fails_is_a_failure(rt: HostRuntime) -> Result<(), Fail> {
+    let program = SEVEN.file(rt.alloc())?;
+    for (bytes, answer) in [(b"".as_slice(), b"".as_slice()), (b"$D#44", b"+$OK#9a")] {
+        let mut files = MemoryFiles::new(rt.alloc(), program.as_slice());
+        let performed = Performed::new(&rt, &DEBUG, &mut files, &mut CutReader(bytes));
+        performed.assert_is(&rt, 124, answer, "cannot read standard input\n");
+    }
     Ok(())
 }
 

@@ -342,6 +342,19 @@ impl Read for FailingReader {
     }
 }
 
+/// A reader that gives some bytes, and then fails.
+#[derive(Clone, Copy)]
+pub struct CutReader<'a>(pub &'a [u8]);
+
+impl Read for CutReader<'_> {
+    fn read(&mut self, buf: &mut [u8]) -> io::Result<usize> {
+        match self.0.read(buf) {
+            Ok(0) => Err(io::Error::from(ErrorKind::Other)),
+            read => read,
+        }
+    }
+}
+
 /// A reader that gives a byte at a time, is interrupted before each, and sleeps before the last ones.
 #[derive(Clone, Copy)]
 pub struct SlowReader<'a, C> {
