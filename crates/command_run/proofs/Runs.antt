@@ -263,7 +263,7 @@ pub runs_unbegun : (tells : Type 0) (request : RunRequest) (before after : Host)
 runs_unbegun tells request before after failure answer unrun files output given = inr (record {
   why =
       handed_on
-      (λ (given : Result RunOutcome Failure). IsErrAnd given (λ failure. AreOneFile failure ⊎ IsUnrun request.path (before.files request.path) request.input request.config failure))
+      (λ (given : Result RunOutcome Failure). IsErrAnd given (λ failure. AreOneFile request failure ⊎ IsUnrun request.path (before.files request.path) request.input request.config failure))
       failure answer (inr unrun) given;
   files_kept = files;
   output_kept = output;

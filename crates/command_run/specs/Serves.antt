@@ -5,6 +5,7 @@ use Rattle.std.specs.Io.KnownBytes.{Appends}
 use Rattle.std.specs.Result.{IsErrAnd}
 use Rattle.elf32_reader.specs.Format.{file_limit}
 use Rattle.output_files.specs.Content.{Content}
+use Rattle.output_files.specs.declared.file_name.FileName.{FileName}
 use Rattle.runtime.specs.Answer.{HasAnswer, IsComplete}
 use Rattle.runtime.specs.Run.{IsAccepted, IsRefusedBy, IsRunnable, setup_from}
 use Rattle.runtime.specs.Sending.{SendsPrefix}
@@ -16,6 +17,7 @@ use Rattle.token.specs.RunInTurn.{point_of}
 use Rattle.token.specs.Setup.{Setup}
 use Rattle.token.specs.declared.outcome.RunOutcome.{RunOutcome}
 use Rattle.token.specs.declared.run_in_turn.RunInTurn.{RunInTurn}
+use Rattle.command_requests.specs.Names.{AreTwins, Sameness}
 use Rattle.command_requests.specs.Reading.{AreRead, IsUnread}
 use Rattle.command_outputs.specs.Records.{AreFiled, AreTextsOf, AreUnwritten, CanPrintAll, IsUnwritten, IsUnwrittenTo, KeepsButParts, Left, Texts, placed, printed}
 use Rattle.command_requests.specs.declared.destination.Destination.{Destination}
@@ -34,9 +36,12 @@ pub record Host : Type 0 where
   pub files : Content
   pub output : Option (List ℕ)
 
--- a run that is asked for: of the file at a path on what there is to read of standard input, with its texts put where they are to be
+-- a run that is asked for: of the file at a path on what there is to read of standard input, with its texts put where they are to be; the names
+-- of its files, and which of them are of one file, as far as the files tell
 pub record RunRequest : Type 0 where
   pub path : List ℕ
+  pub names : List FileName
+  pub is_same : Sameness
   pub input : Option (List ℕ)
   pub config : Config
   pub records : Records
@@ -131,13 +136,13 @@ Concludes tells records symbols before after setup (Err failure) =
 abbrev pub IsBegun : Option (List ℕ) → Option (List ℕ) → Config → (SymbolLists → Setup → Type 0) → Type 0
 IsBegun content input config Is = AreRun content input (λ elf given. IsAccepted elf given config × Is (symbols_of elf) (setup_from elf given config))
 
--- two arguments name one file
-abbrev pub AreOneFile : Failure → Type 0
-AreOneFile failure = (one : _) × (other : _) × (failure ≡ OneFile one other)
+-- two arguments name one file, by the files at hand
+abbrev pub AreOneFile : RunRequest → Failure → Type 0
+AreOneFile request failure = (one : FileName) × (other : FileName) × (failure ≡ OneFile one other) × AreTwins request.is_same one other request.names
 
 -- No run begins, and files and standard output are as they were.
 pub record IsUnbegun (request : RunRequest) (before after : Host) (answer : Result RunOutcome Failure) : Type 0 where
-  pub why : IsErrAnd answer (λ failure. AreOneFile failure ⊎ IsUnrun request.path (before.files request.path) request.input request.config failure)
+  pub why : IsErrAnd answer (λ failure. AreOneFile request failure ⊎ IsUnrun request.path (before.files request.path) request.input request.config failure)
   pub files_kept : after.files ≡ before.files
   pub output_kept : after.output ≡ before.output
 

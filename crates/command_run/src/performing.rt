@@ -3,6 +3,7 @@ ghost use Rattle.std.specs.Prelude.{◌≡◌, ◌+◌, ◌-◌, ◌^◌, ◌<�
 ghost use Rattle.output_files.specs.Content.{Tells};
 ghost use Rattle.output_files.specs.Taken.{TakesAtMost};
 ghost use Rattle.run_limits.specs.Limits as limit;
+ghost use Rattle.command_requests.specs.Names.{names_of};
 ghost use Rattle.command_outputs.specs.Records.{KeepsButParts, NamesNone};
 ghost use Rattle.symbols.specs.Symbol.{SymbolLists};
 ghost use Rattle.token.specs.RunInTurn.{point_of};
@@ -37,7 +38,14 @@ pub fn run_file<'a, H: Threads + Wait + Sync, F: Files, R: Read, W: Write>(
     requires { stdout.old.failures < 2 ^ 64 - 1 }
     ensures input { TakesAtMost (limit.input + 1) (R.remaining stdin.old) (R.remaining stdin.new) }
     ensures answer { RunsInto (Tells F.Output.contents)
-        (record { path = file.now; input = R.remaining stdin.old; config = config.now; records = records.now })
+        (record {
+          path = file.now;
+          names = names_of file.entry records.now;
+          is_same = F.is_same files.old;
+          input = R.remaining stdin.old;
+          config = config.now;
+          records = records.now;
+        })
         (record { files = F.content files.old; output = W.contents stdout.old.writer })
         (record { files = F.content files.new; output = W.contents stdout.new.writer }) result }
     ensures unnamed { NamesNone records.now → files.new ≡ files.old }
