@@ -1,8 +1,8 @@
-"""Measures guest programs: workers, samples in C, turns of the C library's operations, the debugger, lists of races, and other detectors
-of races beside them.
+"""Measures guest programs: workers, samples in C, turns of the C library's operations, the debugger, lists of races, other detectors
+of races beside them, and a minimal interpreter in C.
 """
 
 PARTS = {
     "workers": "measure_workers", "c-samples": "measure_c_samples", "turns": "measure_turns", "debugger": "measure_debugger",
-    "races": "measure_races", "detectors": "measure_detectors",
+    "races": "measure_races", "detectors": "measure_detectors", "yardstick": "measure_yardstick",
 }
