@@ -2,6 +2,7 @@ pub mod Arithmetic
 pub mod Cause
 pub mod Flows
 pub mod HartState
+pub mod Nears
 pub mod Next
 pub mod Steps
 pub mod Segment

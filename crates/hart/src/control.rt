@@ -1,5 +1,5 @@
 //! Jumps and branches, as methods of a hart.
-ghost use Rattle.std.specs.Prelude.{◌≡◌, ◌%◌};
+ghost use Rattle.std.specs.Prelude.{◌≡◌, ℕ};
 ghost use Rattle.guest_memory.specs.Memory.{Memory};
 ghost use Rattle.hart.specs.HartState.{with_pc};
 ghost use Rattle.hart.specs.Next.{puts, jumps, branches};
@@ -7,46 +7,44 @@ ghost use Rattle.hart.specs.Flows.{Flows, IsOutOfMemory};
 
 use crate::arithmetic::sum;
 use crate::cause::Cause;
-use crate::flow::{Flow, go_on, trapped};
+use crate::flow::{Flow, trapped};
 use crate::state::Hart;
 use decoder::{BranchOffset, Register};
 
 impl Hart {
-    /// Sets a register, and goes on after the instruction at `pc`.
+    /// Sets a register, and goes on.
     #[inline(always)]
-    pub(crate) fn put(&mut self, pc: u32, rd: Register, value: u32) -> Flow
-        requires { pc % 4 ≡ 0 }
-        ensures flows { (memory : Memory) → Flows result (puts (with_pc self.old pc) memory rd value) self.old memory self.new memory }
+    pub(crate) fn put(&mut self, rd: Register, value: u32) -> Flow
+        ensures flows { (pc : ℕ) (memory : Memory) → Flows result (puts (with_pc self.old pc) memory rd value) pc self.old memory self.new memory }
         ensures no_growth { IsOutOfMemory result → ⊥ }
     {
         self.set_reg(usize::from(rd.number()), value);
-        go_on(pc)
+        Flow::Next
     }
 
     /// Jumps from `pc` to a target, with the address of the next instruction in a register.
     #[tactic(auto, unfolding(crate::specs::Next::jumps))]
     #[inline(always)]
     pub(crate) fn jump(&mut self, pc: u32, rd: Register, target: u32) -> Flow
-        ensures flows { (memory : Memory) → Flows result (jumps (with_pc self.old pc) memory rd target) self.old memory self.new memory }
+        ensures flows { (memory : Memory) → Flows result (jumps (with_pc self.old pc) memory rd target) pc self.old memory self.new memory }
         ensures no_growth { IsOutOfMemory result → ⊥ }
     {
         if target % 4 != 0 {
             return trapped(Cause::TargetMisaligned, target);
         }
         self.set_reg(usize::from(rd.number()), pc.wrapping_add(4));
-        Flow::Goes(target)
+        Flow::Jumps(target)
     }
 
     /// Jumps from `pc` where the branch is taken, and else goes on.
     #[tactic(auto, unfolding(crate::specs::Next::branches, crate::specs::Arithmetic::sum))]
     #[inline(always)]
     pub(crate) fn branch(&mut self, pc: u32, taken: bool, offset: BranchOffset) -> Flow
-        requires { pc % 4 ≡ 0 }
-        ensures flows { (memory : Memory) → Flows result (branches (with_pc self.old pc) memory taken offset) self.old memory self.new memory }
+        ensures flows { (memory : Memory) → Flows result (branches (with_pc self.old pc) memory taken offset) pc self.old memory self.new memory }
         ensures no_growth { IsOutOfMemory result → ⊥ }
     {
         if !taken {
-            return go_on(pc);
+            return Flow::Next;
         }
         self.jump(pc, Register::new(0), sum(pc, offset.word()))
     }

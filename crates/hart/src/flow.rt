@@ -1,5 +1,5 @@
-//! How an instruction goes on: at an address, into a call or a trap, or out of memory.
-ghost use Rattle.std.specs.Prelude.{◌≡◌, ◌+◌, ◌%◌, ◌^◌};
+//! How an instruction goes on: at the next one or at an address, into a call or a trap, or out of memory.
+ghost use Rattle.std.specs.Prelude.{◌≡◌};
 
 use crate::cause::Cause;
 use crate::trap::Trap;
@@ -8,22 +8,16 @@ use std::alloc::AllocError;
 /// How a hart goes on after an instruction.
 #[derive(Debug, Drop)]
 pub(crate) enum Flow {
+    /// The instruction was executed, and the next one is the one after it.
+    Next,
     /// The instruction was executed, and the next one is at this address, a multiple of 4.
-    Goes(u32),
+    Jumps(u32),
     /// It is an ecall. Nothing has changed.
     Ecall,
     /// It traps. Nothing has changed.
     Trap(Trap),
     /// It is a store for which the memory had to grow and couldn't. Nothing has changed.
     OutOfMemory(AllocError),
-}
-
-/// Goes on after the instruction at an address.
-#[inline(always)]
-pub(crate) fn go_on(pc: u32) -> Flow
-    ensures { result ≡ Flow.Goes ((pc + 4) % 2 ^ 32) }
-{
-    Flow::Goes(pc.wrapping_add(4))
 }
 
 /// A trap of this cause and value.

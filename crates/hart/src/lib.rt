@@ -7,6 +7,8 @@ mod control;
 mod execute;
 mod flow;
 mod instruction;
+mod near;
+mod near_run;
 mod one_step;
 mod segment;
 mod slice_end;

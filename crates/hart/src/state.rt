@@ -64,8 +64,9 @@ impl Hart {
         requires { i < 32 }
         ensures { self.new ≡ record { registers = with_register self.old.registers i value; pc = self.old.pc } }
     {
-        self.registers[i] = value;
-        self.registers[0] = 0;
+        if i != 0 {
+            self.registers[i] = value;
+        }
     }
 
     /// Sets the address of the next instruction.

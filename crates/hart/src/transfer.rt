@@ -13,7 +13,7 @@ ghost use Rattle.hart.specs.Flows.{Flows, IsOutOfMemory};
 
 use crate::arithmetic::{extended_byte, extended_half};
 use crate::cause::Cause;
-use crate::flow::{Flow, go_on, trapped};
+use crate::flow::{Flow, trapped};
 use crate::state::Hart;
 use decoder::Register;
 use guest_memory::{AccessFault, GuestMemory, StoreFault};
@@ -24,17 +24,15 @@ impl Hart {
     #[inline(always)]
     pub(crate) fn load(
         &mut self,
-        pc: u32,
         rd: Register,
         address: u32,
         answer: Result<u32, AccessFault>,
     ) -> Flow
-        requires { pc % 4 ≡ 0 }
-        ensures flows { (memory : Memory) → Flows result (loads (with_pc self.old pc) memory rd address answer) self.old memory self.new memory }
+        ensures flows { (pc : ℕ) (memory : Memory) → Flows result (loads (with_pc self.old pc) memory rd address answer) pc self.old memory self.new memory }
         ensures no_growth { IsOutOfMemory result → ⊥ }
     {
         match answer {
-            Ok(value) => self.put(pc, rd, value),
+            Ok(value) => self.put(rd, value),
             Err(AccessFault::Misaligned) => trapped(Cause::LoadMisaligned, address),
             Err(AccessFault::Denied) => trapped(Cause::LoadDenied, address),
         }
@@ -43,14 +41,13 @@ impl Hart {
     /// Goes on after a store, as it answered.
     #[tactic(auto, unfolding(crate::specs::Next::stores))]
     #[inline(always)]
-    fn store(&self, pc: u32, address: u32, answer: Result<(), StoreFault>) -> Flow
-        requires { pc % 4 ≡ 0 }
-        ensures flows { (before after : Memory) (wanted : Result Memory Fault) → Stores answer before wanted after
-            → Flows result (stores (with_pc self.now pc) address wanted) self.now before self.now after }
+    fn store(&self, address: u32, answer: Result<(), StoreFault>) -> Flow
+        ensures flows { (pc : ℕ) (before after : Memory) (wanted : Result Memory Fault) → Stores answer before wanted after
+            → Flows result (stores (with_pc self.now pc) address wanted) pc self.now before self.now after }
         ensures grows { IsOutOfMemory result → IsRefused answer }
     {
         match answer {
-            Ok(()) => go_on(pc),
+            Ok(()) => Flow::Next,
             Err(StoreFault::Refused(AccessFault::Misaligned)) => trapped(
                 Cause::StoreMisaligned,
                 address,
@@ -96,62 +93,41 @@ pub fn half<M: GuestMemory>(memory: &M, address: u32) -> Result<u32, AccessFault
 /// Stores the low byte of a word.
 #[tactic(auto, using(crate::proofs::Keeping::stores_keep))]
 #[inline(always)]
-pub fn store_byte<M: GuestMemory>(
-    hart: &Hart,
-    pc: u32,
-    memory: &mut M,
-    address: u32,
-    value: u32,
-) -> Flow
-    requires { pc % 4 ≡ 0 }
-    ensures flows { Flows result (stores (with_pc hart.now pc) address (stored 1 (M.cells memory.old) address (value % 2 ^ 8))) hart.now (M.cells memory.old) hart.now (M.cells memory.new) }
+pub fn store_byte<M: GuestMemory>(hart: &Hart, memory: &mut M, address: u32, value: u32) -> Flow
+    ensures flows { (pc : ℕ) → Flows result (stores (with_pc hart.now pc) address (stored 1 (M.cells memory.old) address (value % 2 ^ 8))) pc hart.now (M.cells memory.old) hart.now (M.cells memory.new) }
     ensures grows { IsOutOfMemory result → M.grows memory.old address }
     ensures settles { (other : ℕ) → M.grows memory.new other → M.grows memory.old other }
     ensures base { M.base memory.new ≡ M.base memory.old }
     ensures kept { Kept (M.cells memory.old) (M.cells memory.new) }
 {
     let answer = memory.store8(address, (value % 256) as u8);
-    hart.store(pc, address, answer)
+    hart.store(address, answer)
 }
 
 /// Stores the low two bytes of a word.
 #[tactic(auto, using(crate::proofs::Keeping::stores_keep))]
 #[inline(always)]
-pub fn store_half<M: GuestMemory>(
-    hart: &Hart,
-    pc: u32,
-    memory: &mut M,
-    address: u32,
-    value: u32,
-) -> Flow
-    requires { pc % 4 ≡ 0 }
-    ensures flows { Flows result (stores (with_pc hart.now pc) address (stored 2 (M.cells memory.old) address (value % 2 ^ 16))) hart.now (M.cells memory.old) hart.now (M.cells memory.new) }
+pub fn store_half<M: GuestMemory>(hart: &Hart, memory: &mut M, address: u32, value: u32) -> Flow
+    ensures flows { (pc : ℕ) → Flows result (stores (with_pc hart.now pc) address (stored 2 (M.cells memory.old) address (value % 2 ^ 16))) pc hart.now (M.cells memory.old) hart.now (M.cells memory.new) }
     ensures grows { IsOutOfMemory result → M.grows memory.old address }
     ensures settles { (other : ℕ) → M.grows memory.new other → M.grows memory.old other }
     ensures base { M.base memory.new ≡ M.base memory.old }
     ensures kept { Kept (M.cells memory.old) (M.cells memory.new) }
 {
     let answer = memory.store16(address, (value % 65_536) as u16);
-    hart.store(pc, address, answer)
+    hart.store(address, answer)
 }
 
 /// Stores a word.
 #[tactic(auto, using(crate::proofs::Keeping::stores_keep))]
 #[inline(always)]
-pub fn store_word<M: GuestMemory>(
-    hart: &Hart,
-    pc: u32,
-    memory: &mut M,
-    address: u32,
-    value: u32,
-) -> Flow
-    requires { pc % 4 ≡ 0 }
-    ensures flows { Flows result (stores (with_pc hart.now pc) address (stored 4 (M.cells memory.old) address value)) hart.now (M.cells memory.old) hart.now (M.cells memory.new) }
+pub fn store_word<M: GuestMemory>(hart: &Hart, memory: &mut M, address: u32, value: u32) -> Flow
+    ensures flows { (pc : ℕ) → Flows result (stores (with_pc hart.now pc) address (stored 4 (M.cells memory.old) address value)) pc hart.now (M.cells memory.old) hart.now (M.cells memory.new) }
     ensures grows { IsOutOfMemory result → M.grows memory.old address }
     ensures settles { (other : ℕ) → M.grows memory.new other → M.grows memory.old other }
     ensures base { M.base memory.new ≡ M.base memory.old }
     ensures kept { Kept (M.cells memory.old) (M.cells memory.new) }
 {
     let answer = memory.store32(address, value);
-    hart.store(pc, address, answer)
+    hart.store(address, answer)
 }

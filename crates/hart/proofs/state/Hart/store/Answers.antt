@@ -14,7 +14,7 @@ goes_on hart address (Err fault) ok = absurd (cc)
 
 pub returns-in-Err-OutOfMemory-clause-flows : goal.returns-in-Err-OutOfMemory-clause-flows
 returns-in-Err-OutOfMemory-clause-flows c =
-    λ before after wanted answered.
+    λ pc before after wanted answered.
     let fault : c.in-Err-OutOfMemory.field-0 ≡ OutOfMemory c.in-Err-OutOfMemory.error = rw c.in-Err-OutOfMemory.is at c.in-Err-OutOfMemory.field-0-is in
     let refused = rw (c.in-Err-OutOfMemory.is, fault) at answered in
-    (goes_on (with_pc c.args.self.now c.args.pc) c.args.address wanted refused.0, refl, refused.1)
+    (goes_on (with_pc c.args.self.now pc) c.args.address wanted refused.0, refl, refused.1)
