@@ -1,7 +1,7 @@
 //! The accesses of a memory of pages: what `GuestMemory` asks, once for all of them.
 #![tactic(auto, using(crate::proofs::PageAccesses::page_accesses))]
 
-ghost use Rattle.std.specs.Prelude.{◌≡◌, ◌%◌, ◌↔◌, ℕ, IsTrue, IsFalse, None, option_map};
+ghost use Rattle.std.specs.Prelude.{◌≡◌, ◌%◌, ◌↔◌, ℕ, IsTrue, IsFalse, IfSome, Some, None, Ok, option_map};
 ghost use Rattle.guest_memory.specs.Memory.{loaded, fetched, stored};
 ghost use Rattle.guest_memory.specs.Stores.{Stores, IsOutOfMemory};
 ghost use Rattle.paged_memory.specs.Number.{width_of, value_of};
@@ -21,6 +21,18 @@ fn readable<M: PageMemory>(memory: &M, address: u32) -> Option<&Page>
 {
     let page = memory.find_page(address / PAGE_SIZE)?;
     if page.perm().read { Some(page) } else { None }
+}
+
+/// The page of an address, where one look finds it and it can be read.
+#[inline(always)]
+#[tactic(auto, unfolding(crate::specs::PageMap::permitted_page))]
+fn near_readable<M: PageMemory>(memory: &M, address: u32) -> Option<&Page>
+    ensures { IfSome result (λ page. permitted_page (λ perm. perm.read) (M.pages memory.now) address ≡ Some page.now) }
+{
+    match memory.near_page(address / PAGE_SIZE) {
+        Some(page) if page.perm().read => Some(page),
+        _ => None,
+    }
 }
 
 /// The page of an address, where it can be executed.
@@ -87,6 +99,39 @@ pub fn load32<M: PageMemory>(memory: &M, address: u32) -> Result<u32, AccessFaul
         Some(page) => Ok(page.read32((address % PAGE_SIZE) as usize)),
         None => Err(AccessFault::Denied),
     }
+}
+
+/// The byte at an address, where one look finds its page, as `GuestMemory` says.
+#[inline(always)]
+pub fn near8<M: PageMemory>(memory: &M, address: u32) -> Option<u8>
+    ensures { IfSome result (λ value. loaded 1 (memory_of_pages (M.pages memory.now)) address ≡ Ok value) }
+{
+    let page = near_readable(memory, address)?;
+    Some(page.read8((address % PAGE_SIZE) as usize))
+}
+
+/// The two bytes from an address on, where one look finds their page, as `GuestMemory` says.
+#[inline(always)]
+pub fn near16<M: PageMemory>(memory: &M, address: u32) -> Option<u16>
+    ensures { IfSome result (λ value. loaded 2 (memory_of_pages (M.pages memory.now)) address ≡ Ok value) }
+{
+    if address % 2 != 0 {
+        return None;
+    }
+    let page = near_readable(memory, address)?;
+    Some(page.read16((address % PAGE_SIZE) as usize))
+}
+
+/// The four bytes from an address on, where one look finds their page, as `GuestMemory` says.
+#[inline(always)]
+pub fn near32<M: PageMemory>(memory: &M, address: u32) -> Option<u32>
+    ensures { IfSome result (λ value. loaded 4 (memory_of_pages (M.pages memory.now)) address ≡ Ok value) }
+{
+    if address % 4 != 0 {
+        return None;
+    }
+    let page = near_readable(memory, address)?;
+    Some(page.read32((address % PAGE_SIZE) as usize))
 }
 
 /// The instruction word at an address, as `GuestMemory` says.

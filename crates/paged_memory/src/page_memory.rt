@@ -1,5 +1,5 @@
 //! Loads and stores over anything that has pages.
-ghost use Rattle.std.specs.Prelude.{◌≡◌, ◌+◌, ◌^◌, ◌%◌, ◌<◌, ◌≤◌, ℕ, Option, IsSome, IsErr, OnOk, OnErr, option_map};
+ghost use Rattle.std.specs.Prelude.{◌≡◌, ◌+◌, ◌^◌, ◌%◌, ◌<◌, ◌≤◌, ℕ, Option, Some, IsSome, IfSome, IsErr, OnOk, OnErr, option_map};
 ghost use Rattle.guest_memory.specs.Layout.{page_of, page_size};
 ghost use Rattle.paged_memory.specs.Number.{width_of, value_of};
 ghost use Rattle.paged_memory.specs.Page.{PageValue};
@@ -18,6 +18,14 @@ pub trait PageMemory {
     fn find_page(&self, number: u32) -> Option<&Page>
         requires { number < 2 ^ 20 }
         ensures { option_map (λ page. page.now) result ≡ pages self.now number };
+
+    /// The page of a number, where one look finds it. A memory may find none so.
+    #[inline(always)]
+    fn near_page(&self, number: u32) -> Option<&Page>
+        ensures { IfSome result (λ page. pages self.now number ≡ Some page.now) }
+    {
+        None
+    }
 }
 
 /// A memory of pages that the stores of `crate::access` work on.

@@ -15,6 +15,8 @@ mod memories;
 #[cfg(test)]
 mod memory_rows;
 #[cfg(test)]
+mod near_accesses;
+#[cfg(test)]
 mod objects;
 #[cfg(test)]
 mod permissions;

@@ -1,5 +1,6 @@
 pub mod Indexed
 pub mod Listed
+pub mod NearPages
 pub mod Places
 pub mod PrivatePages
 pub mod Views

@@ -1,4 +1,5 @@
 pub mod Listed
+pub mod NearPages
 pub mod PlaceTable
 pub mod Places
 pub mod PrivatePages

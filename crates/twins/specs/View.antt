@@ -1,4 +1,4 @@
-use Rattle.std.specs.Prelude.{◌≡◌, ℕ, Bool, false, ◌==◌, ◌||◌, Result, Ok, Err, Option, None, IsSome, List, is_some}
+use Rattle.std.specs.Prelude.{◌≡◌, ℕ, Bool, true, false, ◌==◌, ◌||◌, Result, Ok, Err, Option, None, IsSome, List, is_some}
 use Rattle.guest_memory.specs.Layout.{page_of}
 use Rattle.guest_memory.specs.Memory.{Memory}
 use Rattle.guest_memory.specs.declared.fault.AccessFault.TheVariants.{Denied}
@@ -47,6 +47,11 @@ dirty_after (Err fault) old address number = is_dirty old number
 pub record Marks (result : Result (Unit {0}) StoreFault) (old : View) (address : ℕ) (new : View) : Type 0 where
   pub base : base_of new ≡ base_of old
   pub dirty : (number : ℕ) → is_dirty new number ≡ dirty_after result old address number
+
+-- what a near store makes of a view beside its bytes: what a store that is made makes of it or, where it wasn't made, nothing
+abbrev pub MarksNear : Bool → View → ℕ → View → Type 0
+MarksNear true old address new = Marks (Ok tt) old address new
+MarksNear false old address new = new ≡ old
 
 -- whether the page of an address permits stores
 abbrev pub writable_page : View → ℕ → Option PageValue

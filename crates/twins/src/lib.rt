@@ -1,6 +1,7 @@
 //! Copy-on-write views of a snapshot, on which guest threads' segments run.
 #![tactic(auto)]
 
+mod near_pages;
 mod page_index;
 mod place_table;
 mod private_page;
