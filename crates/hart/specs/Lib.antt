@@ -4,6 +4,7 @@ pub mod Flows
 pub mod HartState
 pub mod Nears
 pub mod Next
+pub mod Places
 pub mod Steps
 pub mod Segment
 pub mod Slice

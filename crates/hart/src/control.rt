@@ -3,11 +3,13 @@ ghost use Rattle.std.specs.Prelude.{◌≡◌, ℕ};
 ghost use Rattle.guest_memory.specs.Memory.{Memory};
 ghost use Rattle.hart.specs.HartState.{with_pc};
 ghost use Rattle.hart.specs.Next.{puts, jumps, branches};
+ghost use Rattle.hart.specs.Places.{pc_of};
 ghost use Rattle.hart.specs.Flows.{Flows, IsOutOfMemory};
 
 use crate::arithmetic::sum;
 use crate::cause::Cause;
 use crate::flow::{Flow, trapped};
+use crate::place::Place;
 use crate::state::Hart;
 use decoder::{BranchOffset, Register};
 
@@ -22,30 +24,30 @@ impl Hart {
         Flow::Next
     }
 
-    /// Jumps from `pc` to a target, with the address of the next instruction in a register.
+    /// Jumps from a place to a target, with the address of the next instruction in a register.
     #[tactic(auto, unfolding(crate::specs::Next::jumps))]
     #[inline(always)]
-    pub(crate) fn jump(&mut self, pc: u32, rd: Register, target: u32) -> Flow
-        ensures flows { (memory : Memory) → Flows result (jumps (with_pc self.old pc) memory rd target) pc self.old memory self.new memory }
+    pub(crate) fn jump(&mut self, place: Place, rd: Register, target: u32) -> Flow
+        ensures flows { (memory : Memory) → Flows result (jumps (with_pc self.old (pc_of place)) memory rd target) (pc_of place) self.old memory self.new memory }
         ensures no_growth { IsOutOfMemory result → ⊥ }
     {
         if target % 4 != 0 {
             return trapped(Cause::TargetMisaligned, target);
         }
-        self.set_reg(usize::from(rd.number()), pc.wrapping_add(4));
+        self.set_reg(usize::from(rd.number()), place.pc().wrapping_add(4));
         Flow::Jumps(target)
     }
 
-    /// Jumps from `pc` where the branch is taken, and else goes on.
+    /// Jumps from a place where the branch is taken, and else goes on.
     #[tactic(auto, unfolding(crate::specs::Next::branches, crate::specs::Arithmetic::sum))]
     #[inline(always)]
-    pub(crate) fn branch(&mut self, pc: u32, taken: bool, offset: BranchOffset) -> Flow
-        ensures flows { (memory : Memory) → Flows result (branches (with_pc self.old pc) memory taken offset) pc self.old memory self.new memory }
+    pub(crate) fn branch(&mut self, place: Place, taken: bool, offset: BranchOffset) -> Flow
+        ensures flows { (memory : Memory) → Flows result (branches (with_pc self.old (pc_of place)) memory taken offset) (pc_of place) self.old memory self.new memory }
         ensures no_growth { IsOutOfMemory result → ⊥ }
     {
         if !taken {
             return Flow::Next;
         }
-        self.jump(pc, Register::new(0), sum(pc, offset.word()))
+        self.jump(place, Register::new(0), sum(place.pc(), offset.word()))
     }
 }

@@ -10,6 +10,7 @@ mod instruction;
 mod near;
 mod near_run;
 mod one_step;
+mod place;
 mod segment;
 mod slice_end;
 mod state;
