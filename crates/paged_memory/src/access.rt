@@ -115,11 +115,10 @@ pub fn near8<M: PageMemory>(memory: &M, address: u32) -> Option<u8>
 pub fn near16<M: PageMemory>(memory: &M, address: u32) -> Option<u16>
     ensures { IfSome result (λ value. loaded 2 (memory_of_pages (M.pages memory.now)) address ≡ Ok value) }
 {
-    if address % 2 != 0 {
-        return None;
+    match near_readable(memory, address) {
+        Some(page) if address % 2 == 0 => Some(page.read16((address % PAGE_SIZE) as usize)),
+        _ => None,
     }
-    let page = near_readable(memory, address)?;
-    Some(page.read16((address % PAGE_SIZE) as usize))
 }
 
 /// The four bytes from an address on, where one look finds their page, as `GuestMemory` says.
@@ -127,11 +126,10 @@ pub fn near16<M: PageMemory>(memory: &M, address: u32) -> Option<u16>
 pub fn near32<M: PageMemory>(memory: &M, address: u32) -> Option<u32>
     ensures { IfSome result (λ value. loaded 4 (memory_of_pages (M.pages memory.now)) address ≡ Ok value) }
 {
-    if address % 4 != 0 {
-        return None;
+    match near_readable(memory, address) {
+        Some(page) if address % 4 == 0 => Some(page.read32((address % PAGE_SIZE) as usize)),
+        _ => None,
     }
-    let page = near_readable(memory, address)?;
-    Some(page.read32((address % PAGE_SIZE) as usize))
 }
 
 /// The instruction word at an address, as `GuestMemory` says.

@@ -3,7 +3,7 @@ use Rattle.std.specs.Prelude.{Ok}
 use Rattle.paged_memory.proofs.PageAccesses.{loaded-page}
 use Rattle.paged_memory.proofs.access.near32.Goals as goal
 
-pub returns : goal.returns
-returns g c =
-    loaded-page (g.M.PageMemory.pages c.args.memory.now) c.args.address 4 c.in_ok-page.page.now c.in_ok-page.ensures c.if-address-ne0.false (omega arith)
+pub returns-in-Some : goal.returns-in-Some
+returns-in-Some g c =
+    loaded-page (g.M.PageMemory.pages c.args.memory.now) c.args.address 4 c.in-Some.page.now c.in-Some.ensures c.if-address-eq0.true (omega arith)
     ∙ ap Ok (sym c.read32.ensures)
