@@ -126,12 +126,12 @@ impl<F: EndFacts + Send + Sync> Board<F> {
         if self.missed {
             return false;
         }
-        match line.posts.recv(rt) {
-            Ok(post) => {
+        match line.next_post(rt) {
+            Some(post) => {
                 self.file(post);
                 true
             }
-            Err(_) => false,
+            None => false,
         }
     }
 

@@ -6,21 +6,18 @@ use crate::hand::Hand;
 use crate::offer::Offer;
 use crate::post::Post;
 use crate::shared_phase::SharedPhase;
+use crate::signals::Signals;
 use crate::stepped::Stepped;
-use crate::stop_word::StopWord;
 use crossbeam_channel::{Receiver, Sender};
 use phase_jobs::Gate;
 use std::sync::{Arc, Wait};
-
-/// How often a worker without work looks for some before it sleeps.
-const LOOKS: u32 = 2000;
 
 /// What the workers of a caller share. They draw jobs of the phases that they are offered, and tell what became of each.
 #[derive(Drop)]
 pub struct Crew<F: EndFacts> {
     pub(crate) offers: Receiver<Offer<F>>,
     pub(crate) posts: Sender<Post<F>>,
-    pub(crate) stop_word: Arc<StopWord>,
+    pub(crate) signals: Arc<Signals>,
 }
 
 impl<F: EndFacts + Send + Sync> Crew<F> {
@@ -36,15 +33,13 @@ impl<F: EndFacts + Send + Sync> Crew<F> {
 
     /// Waits for an offer. None if the workers are dismissed.
     fn next_offer<R: Wait>(&self, rt: &R) -> Option<Offer<F>> {
-        for _ in 0..LOOKS {
-            if self.stop_word.is_said() {
-                return None;
-            }
-            if let Ok(offer) = self.offers.try_recv(rt) {
-                return Some(offer);
-            }
+        match self
+            .signals
+            .look_for(rt, &self.signals.offers, &self.offers)
+        {
+            Some(offer) => Some(offer),
+            None => self.offers.recv(rt).ok(),
         }
-        self.offers.recv(rt).ok()
     }
 
     /// Works at the phase that is offered.
@@ -59,7 +54,7 @@ impl<F: EndFacts + Send + Sync> Crew<F> {
         requires { Has shared.now.phase hand.old }
     {
         for _ in rt.forever() {
-            if self.stop_word.is_said() {
+            if self.signals.stop_word.is_said() {
                 return;
             }
             match hand.step(shared.jobs(), gate) {
@@ -69,6 +64,7 @@ impl<F: EndFacts + Send + Sync> Crew<F> {
                     if self.posts.send(rt, shared.post(number, told)).is_err() {
                         return;
                     }
+                    self.signals.posts.ring();
                 }
             }
         }

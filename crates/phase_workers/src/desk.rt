@@ -109,7 +109,7 @@ impl<F: EndFacts + Send + Sync> Desk<F> {
         ensures { self.new ≡ record { crew = false; shared = None } }
     {
         if let Some(line) = &self.line {
-            line.stop_word.say();
+            line.signals.stop_word.say();
         }
         self.line = None;
         self.board = None;

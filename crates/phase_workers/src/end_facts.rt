@@ -2,7 +2,6 @@
 ghost use Rattle.std.specs.Prelude.{ℕ};
 ghost use Rattle.segment.specs.declared.segment_end.SegmentEnd.{SegmentEnd};
 
-use std::marker::Brand;
 
 /// What is known of the ends that host threads tell each other.
 pub trait EndFacts {

@@ -16,6 +16,7 @@ mod line;
 mod offer;
 mod post;
 mod shared_phase;
+mod signals;
 mod stepped;
 mod stop_word;
 mod told;

@@ -7,7 +7,7 @@ use crate::end_facts::EndFacts;
 use crate::offer::Offer;
 use crate::post::Post;
 use crate::shared_phase::SharedPhase;
-use crate::stop_word::StopWord;
+use crate::signals::Signals;
 use claim_table::{DrawSeat, JOBS};
 use crossbeam_channel::{Receiver, Sender, bounded};
 use run_limits::MAX_WORKERS;
@@ -21,7 +21,7 @@ pub(crate) struct Line<F: EndFacts> {
     /// The same offers, to take back those that nobody took.
     left: Receiver<Offer<F>>,
     pub(crate) posts: Receiver<Post<F>>,
-    pub(crate) stop_word: Arc<StopWord>,
+    pub(crate) signals: Arc<Signals>,
 }
 
 /// How many offers there are at most.
@@ -32,17 +32,17 @@ impl<F: EndFacts + Send + Sync> Line<F> {
     pub(crate) fn new(alloc: Global) -> Result<(Self, Crew<F>), AllocError> {
         let (offers, left) = bounded(alloc, MOST_OFFERS)?;
         let (posts, received) = bounded(alloc, JOBS)?;
-        let stop_word = Arc::new(alloc, StopWord::new())?;
+        let signals = Arc::new(alloc, Signals::new())?;
         let crew = Crew {
             offers: left.clone()?,
             posts,
-            stop_word: Arc::try_clone(&stop_word)?,
+            signals: Arc::try_clone(&signals)?,
         };
         let line = Line {
             offers,
             left,
             posts: received,
-            stop_word,
+            signals,
         };
         Ok((line, crew))
     }
@@ -80,6 +80,15 @@ impl<F: EndFacts + Send + Sync> Line<F> {
             if !self.offer(rt, shared, seat) {
                 return;
             }
+            self.signals.offers.ring();
+        }
+    }
+
+    /// Waits for a message. None if no worker is left.
+    pub(crate) fn next_post<R: Wait>(&self, rt: &R) -> Option<Post<F>> {
+        match self.signals.look_for(rt, &self.signals.posts, &self.posts) {
+            Some(post) => Some(post),
+            None => self.posts.recv(rt).ok(),
         }
     }
 }
