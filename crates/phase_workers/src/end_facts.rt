@@ -2,7 +2,6 @@
 ghost use Rattle.std.specs.Prelude.{ℕ};
 ghost use Rattle.segment.specs.declared.segment_end.SegmentEnd.{SegmentEnd};
 
-
 /// What is known of the ends that host threads tell each other.
 pub trait EndFacts {
     /// In the phase of this number it is the end of the job of this name.

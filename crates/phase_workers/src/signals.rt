@@ -54,7 +54,7 @@ impl Signals {
     }
 
     /// What has been sent, if some comes within a while and the workers aren't stopped. It takes the channel's lock only after a ring.
-    pub(crate) fn look_for<T, R: Wait>(
+    pub(crate) fn look_for<T: Drop, R: Wait>(
         &self,
         rt: &R,
         bell: &Bell,
