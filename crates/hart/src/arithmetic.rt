@@ -58,7 +58,7 @@ pub fn is_below_signed(a: u32, b: u32) -> bool
     a.cast_signed() < b.cast_signed()
 }
 
-/// 1 where the test holds, else 0.
+/// 1 if the test holds, else 0.
 #[tactic(auto, unfolding(crate::specs::Arithmetic::one_if))]
 #[inline(always)]
 pub fn one_if(test: bool) -> u32

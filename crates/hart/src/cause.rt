@@ -8,7 +8,7 @@ pub enum Cause {
     /// A taken branch or a jump to an address that is no multiple of 4, raised on the branch or jump: the
     /// target.
     TargetMisaligned,
-    /// A fetch where a byte isn't executable: the address.
+    /// A fetch of a byte that isn't executable: the address.
     FetchDenied,
     /// A word that is no instruction of RV32IM: the word.
     IllegalInstruction,
@@ -16,11 +16,11 @@ pub enum Cause {
     Breakpoint,
     /// A load at an address that is no multiple of its width: the address.
     LoadMisaligned,
-    /// A load where a byte isn't readable: the address.
+    /// A load of a byte that isn't readable: the address.
     LoadDenied,
     /// A store at an address that is no multiple of its width: the address.
     StoreMisaligned,
-    /// A store where a byte isn't writable: the address.
+    /// A store to a byte that isn't writable: the address.
     StoreDenied,
     /// The hart has executed as many instructions as it may, and would execute another: 0.
     BoundReached,

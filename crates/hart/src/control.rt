@@ -38,7 +38,7 @@ impl Hart {
         Flow::Jumps(target)
     }
 
-    /// Jumps from a place where the branch is taken, and else goes on.
+    /// Jumps from a place if the branch is taken, and else goes on.
     #[tactic(auto, unfolding(crate::specs::Next::branches, crate::specs::Arithmetic::sum))]
     #[inline(always)]
     pub(crate) fn branch(&mut self, place: Place, taken: bool, offset: BranchOffset) -> Flow

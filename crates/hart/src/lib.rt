@@ -11,6 +11,7 @@ mod near;
 mod near_run;
 mod one_step;
 mod place;
+mod reached;
 mod segment;
 mod slice_end;
 mod state;
@@ -21,7 +22,10 @@ mod transfer;
 mod trap;
 
 pub use cause::Cause;
+pub use near::{Near, near_entry};
 pub use one_step::step;
+pub use place::Place;
+pub use reached::Reached;
 pub use segment::{run_coded, run_coded_slice, run_slice, run_to_stop};
 pub use slice_end::SliceEnd;
 pub use state::Hart;
