@@ -11,6 +11,7 @@ use Rattle.races.specs.Words.{IsRenewed, KnowsWord, KnowsWords, found_at, latest
 use Rattle.races.specs.declared.found.Found.{Found}
 use Rattle.races.specs.declared.latest.Latest.{Latest}
 use Rattle.races.specs.declared.page.Page.{Page}
+use Rattle.races.specs.declared.race_map.RaceMap.{RaceMap}
 use Rattle.races.specs.declared.site.Access.{Access}
 use Rattle.races.specs.declared.word_races.WordRaces.{WordRaces}
 use Rattle.races.proofs.Clocked.{none_contained}
@@ -24,6 +25,12 @@ word_other steps step word latest found not_of not_renews knows = record {
   accesses = latest_other steps step word latest not_of not_renews knows.accesses;
   races = found_more steps step word found not_of knows.races;
 }
+
+-- what is kept of each word stays
+pub words_same : (steps : List Step) (old new : List Page) (was now : RaceMap) → ((word : ℕ) → latest_at new word ≡ latest_at old word) → now ≡ was → KnowsWords steps old was.words → KnowsWords steps new now.words
+words_same steps old new was now stays same knows word =
+    subst (λ (latest : List Latest). KnowsWord steps word latest (found_at now.words word)) (sym (stays word))
+    (subst (λ (races : RaceMap). KnowsWord steps word (latest_at old word) (found_at races.words word)) (sym same) (knows word))
 
 -- an order changes no word
 pub words_ordered : (steps : List Step) (step : Step) (pages : List Page) (races : BTreeMap ℕ WordRaces) → ((access : Access) → step ≡ Touch access → ⊥) → ((word place : ℕ) → Renews step word place → ⊥) → KnowsWords steps pages races

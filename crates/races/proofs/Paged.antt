@@ -6,10 +6,12 @@ use Rattle.std.proofs.lemmas.Bool.{cases_lt, cases_eq}
 use Rattle.std.proofs.lemmas.Bool.Decides.{nat_tests}
 use Rattle.std.proofs.lemmas.Option.{slice_get_read, slice_get_past}
 use Rattle.races.specs.Races.{Renews}
+use Rattle.races.specs.Repeats.{HasAgain}
 use Rattle.races.specs.Steps.Step.{Renew}
 use Rattle.races.specs.Words.{IsErased, IsKept, IsRenewed, IsReplaced, kept_by, latest_at, latest_of, latest_on}
 use Rattle.races.specs.declared.latest.Latest.{Latest}
 use Rattle.races.specs.declared.page.Page.{Page}
+use Rattle.races.specs.declared.site.Access.{Access}
 use Rattle.races.specs.declared.word.Word.{Word}
 use Rattle.races.proofs.Clocked.{get_set, get_set_apart}
 use Rattle.races.proofs.Kept.{kept_after, kept_both, kept_first, renewed_none, renewed_outside, renewed_same}
@@ -121,6 +123,16 @@ module _ (firsts : List (Option Latest)) (words : List Word) (place : ℕ) (own 
   place_stays was now in_words was_is same =
       both_same _ _ _ _ refl (word_is latest_of words place was now in_words was_is ∙ same ∙ sym (word_was latest_of words place was now in_words was_is))
 
+-- what is kept at each place stays
+pub words_stay : (firsts : List (Option Latest)) (words : List Word) (place : ℕ) (was now : Word) → place < length words → was ≡ get_or words place was → latest_of now ≡ latest_of was → (other : ℕ)
+    → kept_by option_to_list (slice_get firsts other) ++ kept_by latest_of (slice_get (set words place now) other) ≡ kept_by option_to_list (slice_get firsts other) ++ kept_by latest_of (slice_get words other)
+words_stay firsts words place was now inside is same other = ⊎_elim
+    (λ here.
+    subst (λ (n : ℕ). kept_by option_to_list (slice_get firsts n) ++ kept_by latest_of (slice_get (set words place now) n) ≡ kept_by option_to_list (slice_get firsts n) ++ kept_by latest_of (slice_get words n)) here
+    (both_same _ _ _ _ refl (word_is latest_of words place was now inside is ∙ same ∙ sym (word_was latest_of words place was now inside is))))
+    (λ there. both_same _ _ _ _ refl (word_other latest_of words place was now inside is other there))
+    (cases_eq place other)
+
 -- ---- the pages
 
 pub more_pages : (pages : List Page) (page : Page) → ((place : ℕ) → latest_on (Some page) place ≡ []) → (number place : ℕ) → latest_on (slice_get (pages ++ page ∷ []) number) place ≡ latest_on (slice_get pages number) place
@@ -138,6 +150,24 @@ module _ (pages : List Page) (number : ℕ) (was now : Page) (inside : number < 
 
   pub page_other : (other place : ℕ) → (number ≡ other → ⊥) → latest_on (slice_get (set pages number now) other) place ≡ latest_on (slice_get pages other) place
   page_other other place apart = ap (λ (page : Option Page). latest_on page place) (get_set_apart pages number other now apart)
+
+-- an access that is kept of a word is made again
+pub page_again : (pages : List Page) (word number place since : ℕ) (access : Access) (was : Page) → number ≡ word / 4096 → place ≡ word % 4096 → number < length pages → was ≡ get_or pages number was
+    → HasAgain since access (latest_on (Some was) place) → HasAgain since access (latest_at pages word)
+page_again pages word number place since access was number_is place_is inside is again =
+    subst (λ (n : ℕ). HasAgain since access (latest_on (slice_get pages n) (word % 4096))) number_is
+    (subst (λ (n : ℕ). HasAgain since access (latest_on (slice_get pages number) n)) place_is
+    (subst (λ (latest : List Latest). HasAgain since access latest) (sym (page_was pages number was was inside is place)) again))
+
+-- what is kept stays
+pub page_stays : (pages : List Page) (number : ℕ) (was now : Page) → number < length pages → was ≡ get_or pages number was → ((place : ℕ) → latest_on (Some now) place ≡ latest_on (Some was) place) → (word : ℕ)
+    → latest_at (set pages number now) word ≡ latest_at pages word
+page_stays pages number was now inside is same word = ⊎_elim
+    (λ here.
+    subst (λ (n : ℕ). latest_on (slice_get (set pages number now) n) (word % 4096) ≡ latest_on (slice_get pages n) (word % 4096)) here
+    (page_is pages number was now inside is (word % 4096) ∙ same (word % 4096) ∙ sym (page_was pages number was now inside is (word % 4096))))
+    (λ there. page_other pages number was now inside is (word / 4096) (word % 4096) there)
+    (cases_eq number (word / 4096))
 
 -- an access is kept of a word
 pub page_kept_own : (pages : List Page) (word : ℕ) (was now : Page) (own : Latest) → word / 4096 < length pages → was ≡ get_or pages (word / 4096) was

@@ -31,6 +31,11 @@ abbrev pub IsAuthor : Option Site → Site → Type 0
 IsAuthor None site = Unit {0}
 IsAuthor (Some author) site = IsSameAuthor author site
 
+-- an access is of these bytes by this instruction of the thread
+pub record IsAlike (past : Latest) (site : Site) (bytes : ByteSet) : Type 0 where
+  pub same_author : IsSameAuthor past.site site
+  pub same_bytes : past.bytes ≡ bytes
+
 -- bytes are taken from an access of an instruction
 abbrev pub IsTaken : Option Site → ByteSet → Site → (place : ℕ) → Type 0
 IsTaken of bytes site place = IsAuthor of site × (has bytes place ≡ true)

@@ -1,5 +1,5 @@
 //! Which of a word's four bytes.
-ghost use Rattle.std.specs.Prelude.{◌≡◌, ℕ, ◌&&◌, ◌||◌, not};
+ghost use Rattle.std.specs.Prelude.{◌≡◌, ℕ, ◌&&◌, ◌||◌, IsTrue, not};
 ghost use Rattle.races.specs.Bytes.{has, is_none};
 
 /// Some of a word's four bytes, which stand at the places 0 to 3.
@@ -23,6 +23,17 @@ impl ByteSet {
         ensures { result ≡ is_none self }
     {
         !(self.first || self.second || self.third || self.fourth)
+    }
+
+    /// Whether both have the same bytes. No byte is tested by itself, so this is one comparison of four bytes of memory.
+    #[inline(always)]
+    pub(crate) fn is_same(self, other: ByteSet) -> bool
+        ensures { IsTrue result → self ≡ other }
+    {
+        (self.first == other.first)
+            & (self.second == other.second)
+            & (self.third == other.third)
+            & (self.fourth == other.fourth)
     }
 
     /// The lowest place of a byte, or 3 if there is none.

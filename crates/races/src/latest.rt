@@ -1,8 +1,8 @@
 //! An access of a word that is kept.
-ghost use Rattle.std.specs.Prelude.{◌↔◌, IsTrue};
+ghost use Rattle.std.specs.Prelude.{◌≡◌, ◌≤◌, ◌↔◌, IsTrue};
 ghost use Rattle.races.specs.Clocks.{time_of};
 ghost use Rattle.races.specs.Repeats.{IsAgain};
-ghost use Rattle.races.specs.Words.{IsAuthor, IsCleaned, IsHit, IsReplaced};
+ghost use Rattle.races.specs.Words.{IsAlike, IsAuthor, IsCleaned, IsHit, IsReplaced};
 
 use crate::byte_set::ByteSet;
 use crate::clocks::Clocks;
@@ -57,14 +57,28 @@ impl Latest {
         }
     }
 
+    /// Whether it is of these bytes by this instruction of the thread.
+    #[inline(always)]
+    pub(crate) fn is_alike(&self, site: Site, bytes: ByteSet) -> bool
+        ensures { IsTrue result → IsAlike self.now site bytes }
+    {
+        bytes.is_same(self.bytes) && site.is_same(self.site) && site.thread == self.site.thread
+    }
+
+    /// Whether it is of this turn, and of this step or a later one.
+    #[inline(always)]
+    pub(crate) fn is_recent(&self, turn: u64, since: u64) -> bool
+        ensures { IsTrue result ↔ ((self.now.site.turn ≡ turn) × (since ≤ self.now.step)) }
+    {
+        turn == self.site.turn && since <= self.step
+    }
+
     /// Whether a later access is the same: of the same bytes by the same instruction of the thread.
     #[inline(always)]
     pub(crate) fn is_again(&self, own: &Latest) -> bool
         ensures { IsTrue result → IsReplaced self.now own.now }
     {
-        own.site.thread == self.site.thread
-            && own.site.is_same(self.site)
-            && own.bytes == self.bytes
+        self.is_alike(own.site, own.bytes)
     }
 
     /// Whether it is an access of this step or a later one, and a later one is of the same bytes by the same instruction of
@@ -73,10 +87,6 @@ impl Latest {
     pub(crate) fn is_made_again(&self, access: &Access, since: u64) -> bool
         ensures { IsTrue result → IsAgain since access.now self.now }
     {
-        access.site.thread == self.site.thread
-            && access.site.is_same(self.site)
-            && access.site.turn == self.site.turn
-            && access.bytes == self.bytes
-            && since <= self.step
+        self.is_alike(access.site, access.bytes) && self.is_recent(access.site.turn, since)
     }
 }

@@ -8,6 +8,7 @@ mod depths;
 mod event;
 mod found;
 mod fresh;
+mod guess;
 mod latest;
 mod page;
 mod pages;

@@ -35,21 +35,45 @@ impl Page {
 
     /// Whether an access of the word at a place that is kept, of this step or a later one, is made again.
     #[inline(always)]
-    pub(crate) fn has_again(&self, place: usize, access: &Access, since: u64) -> bool
-        ensures { IsTrue result → HasAgain since access.now (latest_on (Some self.now) place) }
+    pub(crate) fn has_again(&mut self, place: usize, access: &Access, since: u64) -> bool
+        ensures again { IsTrue result → HasAgain since access.now (latest_on (Some self.old) place) }
+        ensures stays { (other : ℕ) → latest_on (Some self.new) other ≡ latest_on (Some self.old) other }
     {
-        let first = self.first(place);
-        is_again(&first, access, since) || self.has_later(place, access, since)
+        self.has_first(place, access, since) || self.has_later(place, access, since)
+    }
+
+    /// Whether it is the first one.
+    #[inline(always)]
+    fn has_first(&self, place: usize, access: &Access, since: u64) -> bool
+        ensures { IsTrue result → HasAgain since access.now (first_on (Some self.now) place) }
+    {
+        match self.firsts.get(place) {
+            Some(first) => is_again(first, access, since),
+            None => false,
+        }
     }
 
     /// Whether it is among the later ones.
-    fn has_later(&self, place: usize, access: &Access, since: u64) -> bool
-        ensures { IsTrue result → HasAgain since access.now (others_on (Some self.now) place) }
+    #[inline(always)]
+    fn has_later(&mut self, place: usize, access: &Access, since: u64) -> bool
+        ensures again { IsTrue result → HasAgain since access.now (others_on (Some self.old) place) }
+        ensures stays { (other : ℕ) → latest_on (Some self.new) other ≡ latest_on (Some self.old) other }
     {
-        match self.word(place) {
-            Some(word) => word.has_again(access, since),
-            None => false,
+        if self.words.len() <= place {
+            return false;
         }
+        self.words[place].has_again(access, since)
+    }
+
+    /// The guess is where an access of the word at a place is again, if it is among the later ones. Answers whether the guess
+    /// is another than before.
+    pub(crate) fn aim(&mut self, place: usize, access: &Access) -> bool
+        ensures { (other : ℕ) → latest_on (Some self.new) other ≡ latest_on (Some self.old) other }
+    {
+        if self.words.len() <= place {
+            return false;
+        }
+        self.words[place].aim(access.site, access.bytes)
     }
 
     /// The first access that is kept of the word at a place, if there is one.

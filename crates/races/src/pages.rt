@@ -31,13 +31,26 @@ impl Pages {
 
     /// Whether an access that is kept, of this step or a later one, is made again.
     #[inline(always)]
-    pub(crate) fn has_again(&self, access: &Access, since: u64) -> bool
-        ensures { IsTrue result → HasAgain since access.now (latest_at self.now.pages.items access.now.word) }
+    pub(crate) fn has_again(&mut self, access: &Access, since: u64) -> bool
+        ensures again { IsTrue result → HasAgain since access.now (latest_at self.old.pages.items access.now.word) }
+        ensures stays { (word : ℕ) → latest_at self.new.pages.items word ≡ latest_at self.old.pages.items word }
     {
-        match self.pages.get(page_of(access.word)) {
-            Some(page) => page.has_again(place_of(access.word), access, since),
-            None => false,
+        let page = page_of(access.word);
+        if self.pages.len() <= page {
+            return false;
         }
+        self.pages[page].has_again(place_of(access.word), access, since)
+    }
+
+    /// The guess is where an access is again, if it is among those that are kept. Answers whether the guess is another than before.
+    pub(crate) fn aim(&mut self, access: &Access) -> bool
+        ensures { (word : ℕ) → latest_at self.new.pages.items word ≡ latest_at self.old.pages.items word }
+    {
+        let page = page_of(access.word);
+        if self.pages.len() <= page {
+            return false;
+        }
+        self.pages[page].aim(place_of(access.word), access)
     }
 
     /// The first access that is kept of a word, if there is one.

@@ -1,10 +1,11 @@
 //! The recorder of races: it is told a run's events one after another, and says where they race.
-ghost use Rattle.std.specs.Prelude.{◌≡◌, ℕ, List, [], ◌∷◌, ◌++◌, IfOk, OnOk, OnErr, true, false, map};
+ghost use Rattle.std.specs.Prelude.{◌≡◌, ℕ, List, [], ◌∷◌, ◌++◌, IfOk, IsFalse, IsTrue, OnOk, OnErr, true, false, map};
 ghost use Rattle.races.specs.Races.{AreRaces};
 ghost use Rattle.races.specs.Recording.{KnowsSteps, Records, depth_of};
 ghost use Rattle.races.specs.Steps.{Step, both_outside, outside, steps_in, steps_of, threads_outside};
 ghost use Rattle.races.specs.Steps.Step.{Order, Touch};
 ghost use Rattle.races.specs.declared.event.Event.{Event as RunEvent};
+ghost use Rattle.races.specs.declared.event.Event.TheVariants.{Access as Accessed};
 ghost use Rattle.races.specs.declared.place.Place.{Place as ClockPlace};
 ghost use Rattle.races.specs.declared.place.Place.TheVariants.{Thread};
 
@@ -62,16 +63,26 @@ impl RaceRecorder {
         ensures broken { OnErr result (self.new.is_broken ≡ true) }
         ensures stays { OnOk result (self.old.is_broken ≡ false) }
     {
-        if self.is_broken {
-            return Err(AllocError);
+        match event {
+            Event::Access(access) => self.record_access(access),
+            _ => self.record_other(event),
         }
-        match self.tell(event) {
-            Ok(()) => Ok(()),
-            Err(error) => {
-                self.is_broken = true;
-                Err(error)
-            }
+    }
+
+    /// Records an access. It says the same as `record` of the event of this access, and is the short way to it.
+    ///
+    /// # Errors
+    ///
+    /// As `record`.
+    pub fn record_access(&mut self, access: &Access) -> Result<(), AllocError>
+        ensures recorded { OnOk result ((history : List RunEvent) → Records self.old history → Records self.new (history ++ Accessed access.now ∷ [])) }
+        ensures broken { OnErr result (self.new.is_broken ≡ true) }
+        ensures stays { OnOk result (self.old.is_broken ≡ false) }
+    {
+        if self.is_repeated(access) {
+            return Ok(());
         }
+        self.record_unguessed(access)
     }
 
     /// The races of the events that were told, in the order of their second accesses: one for each pair of instructions
@@ -91,6 +102,81 @@ impl RaceRecorder {
         let mut told = self.steps.told()?;
         told.sort_by_key(|one| one.step)?;
         races_of(self.alloc, &told)
+    }
+
+    /// Whether an access is made again. Then it is recorded, and nothing is kept of it.
+    #[inline(always)]
+    fn is_repeated(&mut self, access: &Access) -> bool
+        ensures recorded { IsTrue result → (history : List RunEvent) → Records self.old history → Records self.new (history ++ Accessed access.now ∷ []) }
+        ensures stays { IsFalse result → (history : List RunEvent) → Records self.old history → Records self.new history }
+        ensures whole { IsTrue result → self.old.is_broken ≡ false }
+        ensures broken { self.new.is_broken ≡ self.old.is_broken }
+    {
+        if self.is_broken || !self.depths.is_outside(access.site.thread) {
+            return false;
+        }
+        self.steps.is_repeated(access)
+    }
+
+    /// Records an access that was not guessed to be made again: it may still be.
+    #[inline(never)]
+    fn record_unguessed(&mut self, access: &Access) -> Result<(), AllocError>
+        ensures recorded { OnOk result ((history : List RunEvent) → Records self.old history → Records self.new (history ++ Accessed access.now ∷ [])) }
+        ensures broken { OnErr result (self.new.is_broken ≡ true) }
+        ensures stays { OnOk result (self.old.is_broken ≡ false) }
+    {
+        if !self.aim(access) {
+            return self.record_new(access);
+        }
+        if self.is_repeated(access) {
+            return Ok(());
+        }
+        self.record_new(access)
+    }
+
+    /// The guess is where an access is again, if it is looked at and among those that are kept. Answers whether the guess is
+    /// another than before.
+    fn aim(&mut self, access: &Access) -> bool
+        ensures stays { (history : List RunEvent) → Records self.old history → Records self.new history }
+        ensures broken { self.new.is_broken ≡ self.old.is_broken }
+    {
+        if !self.depths.is_outside(access.site.thread) {
+            return false;
+        }
+        self.steps.aim(access)
+    }
+
+    /// Records an access that is not known to be made again.
+    fn record_new(&mut self, access: &Access) -> Result<(), AllocError>
+        ensures recorded { OnOk result ((history : List RunEvent) → Records self.old history → Records self.new (history ++ Accessed access.now ∷ [])) }
+        ensures broken { OnErr result (self.new.is_broken ≡ true) }
+        ensures stays { OnOk result (self.old.is_broken ≡ false) }
+    {
+        if self.is_broken {
+            return Err(AllocError);
+        }
+        let recorded = self.access(access);
+        self.is_broken = recorded.is_err();
+        recorded
+    }
+
+    /// Records an event in the long way.
+    #[inline(never)]
+    fn record_other(&mut self, event: &Event) -> Result<(), AllocError>
+        ensures recorded { OnOk result ((history : List RunEvent) → Records self.old history → Records self.new (history ++ event.now ∷ [])) }
+        ensures broken { OnErr result (self.new.is_broken ≡ true) }
+        ensures stays { OnOk result (self.old.is_broken ≡ false) }
+    {
+        if self.is_broken {
+            return Err(AllocError);
+        }
+        match self.tell(event) {
+            Ok(()) => Ok(()),
+            Err(error) => {
+                self.is_broken = true;
+                Err(error)
+            }
+        }
     }
 
     /// Tells what is looked at of an event.

@@ -1,5 +1,5 @@
 //! The steps of a run: accesses, orders, and bytes that begin a new life.
-ghost use Rattle.std.specs.Prelude.{◌≡◌, ℕ, ◌+◌, ◌-◌, ◌^◌, ◌<◌, List, [], ◌∷◌, ◌++◌, IfOk, OnOk};
+ghost use Rattle.std.specs.Prelude.{◌≡◌, ℕ, ◌+◌, ◌-◌, ◌^◌, ◌<◌, List, [], ◌∷◌, ◌++◌, IfOk, IsFalse, IsTrue, OnOk};
 ghost use Rattle.std.specs.Ordering.{nat_cmp};
 ghost use Rattle.std.specs.BTreeMap.{IsOrdered};
 ghost use Rattle.races.specs.Recording.{KnowsSteps};
@@ -45,16 +45,35 @@ impl Steps {
         })
     }
 
+    /// Whether an access is made again, of those at the places of the guess. Then it is a step more, and nothing is kept of it.
+    #[inline(always)]
+    pub(crate) fn is_repeated(&mut self, access: &Access) -> bool
+        ensures again { IsTrue result → (steps : List Step) → KnowsSteps self.old steps → KnowsSteps self.new (steps ++ Touch access.now ∷ []) }
+        ensures stays { IsFalse result → (steps : List Step) → KnowsSteps self.old steps → KnowsSteps self.new steps }
+    {
+        if self.count >= MOST_STEPS {
+            return false;
+        }
+        let since = self.passed.of(access.site.thread);
+        if !self.words.has_again(access, since) {
+            return false;
+        }
+        self.count += 1;
+        true
+    }
+
+    /// The guess is where an access is again, if it is among those that are kept. Answers whether the guess is another than before.
+    pub(crate) fn aim(&mut self, access: &Access) -> bool
+        ensures { (steps : List Step) → KnowsSteps self.old steps → KnowsSteps self.new steps }
+    {
+        self.words.aim(access)
+    }
+
     /// An access.
     pub(crate) fn touch(&mut self, access: &Access) -> Result<(), AllocError>
         ensures { OnOk result ((steps : List Step) → KnowsSteps self.old steps → KnowsSteps self.new (steps ++ Touch access.now ∷ [])) }
     {
         let more = self.more()?;
-        let since = self.passed.of(access.site.thread);
-        if self.words.has_again(access, since) {
-            self.count = more;
-            return Ok(());
-        }
         self.words.touch(access, self.count, &self.clocks)?;
         self.count = more;
         Ok(())

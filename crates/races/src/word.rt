@@ -2,10 +2,11 @@
 ghost use Rattle.std.specs.Prelude.{◌≡◌, ℕ, ◌<◌, [], Contains, IfSome, IsFalse, IsTrue, MatchOption, OnOk, length, slice_index_or};
 ghost use Rattle.std.specs.Option.{option_to_list};
 ghost use Rattle.races.specs.Repeats.{HasAgain};
-ghost use Rattle.races.specs.Words.{IsAuthor, IsCleaned, IsErased, IsKept, IsReplaced, latest_of};
+ghost use Rattle.races.specs.Words.{IsAlike, IsAuthor, IsCleaned, IsErased, IsKept, IsReplaced, latest_of};
 ghost use Rattle.races.specs.declared.latest.Latest.{Latest as Past};
 
 use crate::byte_set::ByteSet;
+use crate::guess::Guess;
 use crate::latest::Latest;
 use crate::site::{Access, Site};
 use std::alloc::{AllocError, Global};
@@ -17,6 +18,8 @@ pub(crate) struct Word {
     pub(crate) first: Option<Latest>,
     /// The others.
     pub(crate) others: Vec<Latest>,
+    /// Where among the others one is probably made again.
+    guess: Guess,
 }
 
 impl Word {
@@ -27,15 +30,61 @@ impl Word {
         Word {
             first: None,
             others: Vec::new(alloc),
+            guess: Guess::new(),
         }
     }
 
-    /// Whether an access that is kept, of this step or a later one, is made again.
+    /// Whether the first access or one at a place of the guess, of this step or a later one, is made again.
     #[inline(always)]
-    pub(crate) fn has_again(&self, access: &Access, since: u64) -> bool
-        ensures { IsTrue result → HasAgain since access.now (latest_of self.now) }
+    pub(crate) fn has_again(&mut self, access: &Access, since: u64) -> bool
+        ensures again { IsTrue result → HasAgain since access.now (latest_of self.old) }
+        ensures stays { latest_of self.new ≡ latest_of self.old }
     {
-        is_again(&self.first, access, since) || is_any_again(&self.others, access, since)
+        is_again(&self.first, access, since) || self.has_guessed(access, since)
+    }
+
+    /// Whether one at a place of the guess is.
+    #[inline(always)]
+    fn has_guessed(&mut self, access: &Access, since: u64) -> bool
+        ensures again { IsTrue result → HasAgain since access.now self.old.others.items }
+        ensures first { self.new.first ≡ self.old.first }
+        ensures others { self.new.others ≡ self.old.others }
+    {
+        if self.has_at(self.guess.next(), access, since) {
+            return true;
+        }
+        self.has_at(self.guess.begin(), access, since)
+    }
+
+    /// Whether the one at a place among the others is. If it is of the same bytes by the same instruction, its place is the guess.
+    #[inline(always)]
+    fn has_at(&mut self, place: usize, access: &Access, since: u64) -> bool
+        ensures again { IsTrue result → HasAgain since access.now self.old.others.items }
+        ensures first { self.new.first ≡ self.old.first }
+        ensures others { self.new.others ≡ self.old.others }
+    {
+        if !is_at(&self.others, place, access.site, access.bytes) {
+            return false;
+        }
+        self.guess = self.guess.after(place);
+        self.others[place].is_recent(access.site.turn, since)
+    }
+
+    /// The guess is where an access of these bytes by this instruction of the thread is, if there is one among the others.
+    /// Answers whether the guess is another than before.
+    pub(crate) fn aim(&mut self, site: Site, bytes: ByteSet) -> bool
+        ensures { latest_of self.new ≡ latest_of self.old }
+    {
+        if is_at(&self.others, self.guess.last(), site, bytes) {
+            return false;
+        }
+        match find_anywhere(&self.others, site, bytes) {
+            Some(place) => {
+                self.guess = self.guess.from(place);
+                true
+            }
+            None => false,
+        }
     }
 
     /// Puts an access in the place of the one that it is again, if there is one.
@@ -47,7 +96,7 @@ impl Word {
             self.first = Some(*own);
             return true;
         }
-        replace_same(&mut self.others, own)
+        replace_same(&mut self.others, self.guess, own)
     }
 
     /// Keeps an access, after the others if there are any.
@@ -111,19 +160,6 @@ pub(crate) fn is_again(past: &Option<Latest>, access: &Access, since: u64) -> bo
     }
 }
 
-/// Whether one of some accesses, of this step or a later one, is made again.
-#[inline(always)]
-fn is_any_again(latest: &[Latest], access: &Access, since: u64) -> bool
-    ensures { IsTrue result → HasAgain since access.now latest.now }
-{
-    for past in latest {
-        if past.is_made_again(access, since) {
-            return true;
-        }
-    }
-    false
-}
-
 /// Whether there is an access, of this instruction. With `None` any is.
 fn has_first(first: &Option<Latest>, of: Option<Site>) -> bool
     ensures { IsFalse result → (past : Past) → Contains (option_to_list first.now) past → IsAuthor of past.site → ⊥ }
@@ -176,11 +212,11 @@ fn clean(latest: &mut [Latest], of: Option<Site>, bytes: ByteSet)
 }
 
 /// Puts an access in the place of the one that it is again, if there is one.
-fn replace_same(latest: &mut Vec<Latest>, own: &Latest) -> bool
+fn replace_same(latest: &mut Vec<Latest>, guess: Guess, own: &Latest) -> bool
     ensures kept { IsTrue result → IsKept own.now latest.old.items latest.new.items }
     ensures stays { IsFalse result → latest.new.items ≡ latest.old.items }
 {
-    match find_same(latest, own) {
+    match find_alike(latest, guess, own.site, own.bytes) {
         Some(index) => {
             latest[index] = *own;
             true
@@ -189,13 +225,39 @@ fn replace_same(latest: &mut Vec<Latest>, own: &Latest) -> bool
     }
 }
 
-/// The first access that another is again.
-fn find_same(latest: &[Latest], own: &Latest) -> Option<usize>
+/// Where an access of these bytes by this instruction of the thread is: at a place of a guess, or anywhere.
+fn find_alike(latest: &[Latest], guess: Guess, site: Site, bytes: ByteSet) -> Option<usize>
     ensures within { IfSome result (λ index. index < length latest.now) }
-    ensures same { IfSome result (λ index. (d : Past) → IsReplaced (slice_index_or latest.now index d) own.now) }
+    ensures same { IfSome result (λ index. (d : Past) → IsAlike (slice_index_or latest.now index d) site bytes) }
+{
+    if is_at(latest, guess.last(), site, bytes) {
+        return Some(guess.last());
+    }
+    if is_at(latest, guess.begin(), site, bytes) {
+        return Some(guess.begin());
+    }
+    find_anywhere(latest, site, bytes)
+}
+
+/// Whether the access at a place is of these bytes by this instruction of the thread.
+#[inline(always)]
+fn is_at(latest: &[Latest], index: usize, site: Site, bytes: ByteSet) -> bool
+    ensures within { IsTrue result → index < length latest.now }
+    ensures same { IsTrue result → (d : Past) → IsAlike (slice_index_or latest.now index d) site bytes }
+{
+    match latest.get(index) {
+        Some(past) => past.is_alike(site, bytes),
+        None => false,
+    }
+}
+
+/// The first access of these bytes by this instruction of the thread.
+fn find_anywhere(latest: &[Latest], site: Site, bytes: ByteSet) -> Option<usize>
+    ensures within { IfSome result (λ index. index < length latest.now) }
+    ensures same { IfSome result (λ index. (d : Past) → IsAlike (slice_index_or latest.now index d) site bytes) }
 {
     for (index, past) in latest.iter().enumerate() {
-        if past.is_again(own) {
+        if past.is_alike(site, bytes) {
             return Some(index);
         }
     }

@@ -38,10 +38,20 @@ impl Words {
 
     /// Whether an access that is kept, of this step or a later one, is made again.
     #[inline(always)]
-    pub(crate) fn has_again(&self, access: &Access, since: u64) -> bool
-        ensures { IsTrue result → HasAgain since access.now (latest_at self.now.pages.pages.items access.now.word) }
+    pub(crate) fn has_again(&mut self, access: &Access, since: u64) -> bool
+        ensures again { IsTrue result → HasAgain since access.now (latest_at self.old.pages.pages.items access.now.word) }
+        ensures stays { (word : ℕ) → latest_at self.new.pages.pages.items word ≡ latest_at self.old.pages.pages.items word }
+        ensures races { self.new.races ≡ self.old.races }
     {
         self.pages.has_again(access, since)
+    }
+
+    /// The guess is where an access is again, if it is among those that are kept. Answers whether the guess is another than before.
+    pub(crate) fn aim(&mut self, access: &Access) -> bool
+        ensures stays { (word : ℕ) → latest_at self.new.pages.pages.items word ≡ latest_at self.old.pages.pages.items word }
+        ensures races { self.new.races ≡ self.old.races }
+    {
+        self.pages.aim(access)
     }
 
     /// An access, the step of this index.
