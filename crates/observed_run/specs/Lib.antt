@@ -1,8 +1,6 @@
 pub mod Calls
 pub mod Ended
 pub mod Events
-pub mod Lengths
 pub mod Runs
 pub mod Slices
-pub mod Stretches
 pub mod Told

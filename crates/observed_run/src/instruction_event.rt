@@ -1,8 +1,9 @@
 //! The event that an instruction is: the load or store that it makes, or a hint.
-ghost use Rattle.std.specs.Prelude.{◌≡◌, ◌≤◌, ◌<◌, ◌+◌, ◌^◌, ◌%◌, ◌/◌, ℕ, Some};
+ghost use Rattle.std.specs.Prelude.{◌≡◌, ◌≤◌, ◌<◌, ◌+◌, ◌^◌, ◌%◌, ◌/◌, ℕ, None, IsTrue};
 ghost use Rattle.decoded_code.specs.Code.{HasCode, entry_at};
-ghost use Rattle.hart.specs.HartState.{with_pc};
+ghost use Rattle.hart.specs.HartState.{HartState, with_pc};
 ghost use Rattle.observed_run.specs.Events as spec;
+ghost use Rattle.observed_run.specs.declared.actor.Actor.{Actor as Author};
 
 use crate::actor::Actor;
 use decoded_code::{CodeSlice, entry as entry_of_word};
@@ -12,10 +13,20 @@ use hart::Hart;
 use races::{Access, ByteSet, Event, Site};
 
 /// The event that an instruction of a thread is at an address, none if it loads and stores nothing and is no hint.
-#[tactic(auto, unfolding(crate::specs::Events::event_of))]
-#[inline(always)]
-pub(crate) fn event_of(actor: Actor, hart: &Hart, pc: u32, instr: &Instr) -> Option<Event>
+fn event_of(actor: Actor, hart: &Hart, pc: u32, instr: &Instr) -> Option<Event>
     ensures { result ≡ spec.event_of actor (with_pc hart.now pc) instr.now }
+{
+    match access_of(actor, hart, pc, instr) {
+        Some(access) => Some(Event::Access(access)),
+        None => hint_of(actor, hart, instr),
+    }
+}
+
+/// The access that an instruction of a thread makes at an address, if it loads or stores.
+#[tactic(auto, unfolding(crate::specs::Events::access_of))]
+#[inline(always)]
+pub(crate) fn access_of(actor: Actor, hart: &Hart, pc: u32, instr: &Instr) -> Option<Access>
+    ensures { result ≡ spec.access_of actor (with_pc hart.now pc) instr.now }
 {
     match *instr {
         Instr::Lb { rs1, offset, .. } | Instr::Lbu { rs1, offset, .. } => {
@@ -28,15 +39,45 @@ pub(crate) fn event_of(actor: Actor, hart: &Hart, pc: u32, instr: &Instr) -> Opt
         Instr::Sb { rs1, offset, .. } => Some(store(actor, hart, pc, rs1, offset.word(), 1)),
         Instr::Sh { rs1, offset, .. } => Some(store(actor, hart, pc, rs1, offset.word(), 2)),
         Instr::Sw { rs1, offset, .. } => Some(store(actor, hart, pc, rs1, offset.word(), 4)),
+        _ => None,
+    }
+}
+
+/// The hint that an instruction of a thread is.
+#[tactic(auto, unfolding(crate::specs::Events::hint_of))]
+fn hint_of(actor: Actor, hart: &Hart, instr: &Instr) -> Option<Event>
+    ensures { (pc : ℕ) → result ≡ spec.hint_of actor (with_pc hart.now pc) instr.now }
+{
+    match *instr {
         Instr::Slt { rd, rs1, rs2 } if rd.number() == 0 => signed_hint(actor, hart, rs1, rs2),
         Instr::Sltu { rd, rs1, rs2 } if rd.number() == 0 => unsigned_hint(actor, hart, rs1, rs2),
         _ => None,
     }
 }
 
+/// Whether an instruction is no event, whatever the hart: it neither loads nor stores and is no hint.
+#[tactic(auto, unfolding(crate::specs::Events::access_of, crate::specs::Events::hint_of))]
+#[inline(always)]
+pub(crate) fn is_silent(instr: &Instr) -> bool
+    ensures { IsTrue result → (actor : Author) (hart : HartState) → spec.event_of actor hart instr.now ≡ None }
+{
+    match *instr {
+        Instr::Lb { .. }
+        | Instr::Lh { .. }
+        | Instr::Lw { .. }
+        | Instr::Lbu { .. }
+        | Instr::Lhu { .. }
+        | Instr::Sb { .. }
+        | Instr::Sh { .. }
+        | Instr::Sw { .. } => false,
+        Instr::Slt { rd, .. } | Instr::Sltu { rd, .. } => rd.number() != 0,
+        _ => true,
+    }
+}
+
 /// A load of so many bytes at a register's address plus an offset.
 #[inline(always)]
-fn load(actor: Actor, hart: &Hart, pc: u32, base: Register, offset: u32, width: u32) -> Event
+fn load(actor: Actor, hart: &Hart, pc: u32, base: Register, offset: u32, width: u32) -> Access
     requires { width ≤ 4 }
     ensures { result ≡ spec.load actor (with_pc hart.now pc) base offset width }
 {
@@ -45,7 +86,7 @@ fn load(actor: Actor, hart: &Hart, pc: u32, base: Register, offset: u32, width: 
 
 /// A store of so many bytes at a register's address plus an offset.
 #[inline(always)]
-fn store(actor: Actor, hart: &Hart, pc: u32, base: Register, offset: u32, width: u32) -> Event
+fn store(actor: Actor, hart: &Hart, pc: u32, base: Register, offset: u32, width: u32) -> Access
     requires { width ≤ 4 }
     ensures { result ≡ spec.store actor (with_pc hart.now pc) base offset width }
 {
@@ -62,12 +103,12 @@ fn address_of(hart: &Hart, base: Register, offset: u32) -> u32
 
 /// An access of so many bytes at an address, all in one word.
 #[inline(always)]
-fn access_at(site: Site, address: u32, width: u32) -> Event
+fn access_at(site: Site, address: u32, width: u32) -> Access
     requires { width ≤ 4 }
     ensures { result ≡ spec.access_at site address width }
 {
     let from = address % 4;
-    Event::Access(Access {
+    Access {
         site,
         word: address / 4,
         bytes: ByteSet {
@@ -76,7 +117,7 @@ fn access_at(site: Site, address: u32, width: u32) -> Event
             third: is_within(2, from, width),
             fourth: is_within(3, from, width),
         },
-    })
+    }
 }
 
 /// Whether a place of a word is among those from another on, so many.

@@ -5,13 +5,11 @@ mod actor;
 mod before;
 mod call_events;
 mod instruction_event;
-mod lengths;
+mod observed_loop;
 mod observing;
 mod ranges;
-mod register_set;
 mod run;
-mod straight;
-mod stretch;
 mod telling;
+mod told_near;
 
 pub use run::races_of_run;

@@ -18,20 +18,21 @@ pub(crate) fn accesses(
     let mut events = Vec::new(alloc);
     let first = address / 4;
     for step in 0..word_count(address, length) {
-        events.push(access(site, first.wrapping_add(step), address, length))?;
+        let word = first.wrapping_add(step);
+        events.push(Event::Access(access(site, word, address, length)))?;
     }
     Ok(events)
 }
 
 /// The access of those of so many bytes from an address on that are of a word.
-pub(crate) fn access(site: Site, word: u32, address: u32, length: u32) -> Event
+pub(crate) fn access(site: Site, word: u32, address: u32, length: u32) -> Access
     ensures { result ≡ spec.access site word address length }
 {
-    Event::Access(Access {
+    Access {
         site,
         word,
         bytes: bytes_in(word, address, length),
-    })
+    }
 }
 
 /// How many words have one of so many bytes from an address on.

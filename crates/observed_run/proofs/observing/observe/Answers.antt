@@ -27,7 +27,6 @@ loop-view-init c =
       quantum = none_done segment.quantum;
       base = below;
       code = subst (λ (memory : Memory). HasCode c.code-code.result.start c.code-code.result.entries.now memory) (sym cells) c.code-code.ensures;
-      lengths = c.new-lengths.ensures c.code-code.result.entries.now;
       told = told_none c.args.recorder.now;
     }
 
@@ -43,7 +42,6 @@ loop-view-preserved c =
       quantum = not_used_up segment.quantum c.in-Unfinished.count observed.ahead.2;
       base = c.observe_some.ensures.base ∙ so_far.base;
       code = c.observe_some.ensures.code;
-      lengths = c.observe_some.ensures.lengths;
       told = observed.told segment.hart copy c.args.recorder.now so_far.runs so_far.told;
     }
 

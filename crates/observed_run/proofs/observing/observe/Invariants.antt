@@ -5,7 +5,6 @@ use Rattle.hart.specs.Slice.{Runs}
 use Rattle.paged_memory.specs.Snapshot as snapshots
 use Rattle.twins.specs.View.{base_of, cells_of}
 use Rattle.observed_run.specs.Events.{events_upto}
-use Rattle.observed_run.specs.Lengths.{AreLengths}
 use Rattle.observed_run.specs.Told.{IsTold}
 use Rattle.observed_run.proofs.observing.observe.Given as goal
 
@@ -16,7 +15,6 @@ invariant-loop-view l = record {
   quantum : IfSome l.segment.quantum (λ q. l.done ≤ q);
   base : snapshots.cells_of (base_of l.view) ≡ snapshots.cells_of l.base;
   code : HasCode l.code.start l.code.entries.now (cells_of l.view);
-  lengths : AreLengths l.code.entries.now l.lengths;
   told : IsTold l.fn.recorder l.recorder (events_upto l.actor l.segment.hart (snapshots.cells_of l.base) l.done);
 }
 
