@@ -128,6 +128,23 @@ fn a_run_without_an_end_ends_with_the_input(rt: HostRuntime) -> Result<(), Fail>
     Ok(())
 }
 
+/// Nothing is heard for a while, and the run goes on. Then the byte 03 stops it.
+#[test]
+fn a_run_goes_on_while_nothing_is_heard(rt: HostRuntime) -> Result<(), Fail> {
+    let program = file_of(rt.alloc(), &[LOOP])?;
+    let mut files = MemoryFiles::new(rt.alloc(), program.as_slice());
+    let mut stdin = SlowReader {
+        clock: &rt,
+        bytes: b"$vCont;c#a8\x03",
+        last: 1,
+        is_next_interrupted: true,
+    };
+    let performed = Performed::new(&rt, &DEBUG, &mut files, &mut stdin);
+    let answer = b"+$T02thread:1;20:00000100;02:f0ffff7f;08:00000000;01:00000000;#81";
+    performed.assert_is(&rt, 0, answer, "");
+    Ok(())
+}
+
 /// What was read before is answered.
 #[test]
 fn a_read_that_fails_is_a_failure(rt: HostRuntime) -> Result<(), Fail> {
