@@ -115,17 +115,21 @@ impl Holding for Overlap {
     }
 }
 
-/// The endless job of phase 2, its job 2, runs on the worker: the caller waits for that, and then some more.
+/// The endless job of phase 2, its job 2, runs on the worker: the caller waits for that, and then some more, and the
+/// worker before its other jobs for the caller.
 #[derive(Drop)]
 struct EndlessWorker;
 
 impl Holding for EndlessWorker {
     fn hold<R: Clock>(&self, seen: &Seen<'_, R>, worker: u32, job: u32) {
         if worker == CALLER {
+            reach(&seen.second);
             seen.wait_until(|| is_reached(&seen.first));
             linger();
         } else if job == 2 {
             reach(&seen.first);
+        } else {
+            seen.wait_until(|| is_reached(&seen.second));
         }
     }
 }
