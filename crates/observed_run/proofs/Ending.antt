@@ -1,25 +1,17 @@
 -- The end of a segment, and what a recorder was told up to it.
-use Rattle.std.proofs.Common.{◌≡◌, ◌∙◌, ◌+◌, ◌≤◌, ℕ, Option, [], ap, sym, subst}
-use Rattle.std.specs.Prelude.{nat_lt, if◌then◌else◌}
+use Rattle.std.proofs.Common.{◌≡◌, ◌∙◌, ℕ, ap, sym, subst}
 use Rattle.commit.specs.Merge.{changes}
 use Rattle.guest_memory.specs.Memory.{Memory}
 use Rattle.hart.specs.HartState.{HartState}
 use Rattle.hart.specs.Segment as of_hart
-use Rattle.hart.specs.Slice.{Runs}
 use Rattle.hart.specs.declared.stop.Stop.{Stop}
 use Rattle.paged_memory.specs.Snapshot as snapshots
-use Rattle.races.specs.declared.event.Event.{Event}
-use Rattle.races.specs.declared.recorder.RaceRecorder.{RaceRecorder}
 use Rattle.segment.specs.Ends.{IsEndOf}
 use Rattle.segment.specs.declared.segment.Segment.{Segment}
 use Rattle.segment.specs.declared.segment_end.SegmentEnd.{SegmentEnd}
 use Rattle.twins.specs.View.{base_of, cells_of}
 use Rattle.twins.specs.declared.view.View.{View}
 use Rattle.observed_run.specs.Ended.{IsEnded}
-use Rattle.observed_run.specs.Events.{events_upto, listed, next_event, steps_before}
-use Rattle.observed_run.specs.Told.{IsTold}
-use Rattle.observed_run.specs.declared.actor.Actor.{Actor}
-use Rattle.observed_run.proofs.Told.{not_before, steps_are, steps_within, told_last}
 
 -- an end with what a view changed is that of the segment which ended so on the view
 pub end_of : (segment : Segment) (copy : Memory) (stop : Stop) (count : ℕ) (hart : HartState) (view : View) (end : SegmentEnd) → snapshots.cells_of (base_of view) ≡ copy

@@ -8,6 +8,7 @@ mod instruction_event;
 mod observed_loop;
 mod observing;
 mod ranges;
+mod retyped;
 mod run;
 mod telling;
 mod told_near;
