@@ -4,8 +4,8 @@ import re
 
 from .repository import TOP, crates
 
-# The functions that carry the headline, by crate; `perform` is looked for in every crate of the program.
-CARRIERS = [("runtime", "run"), ("runtime", "run_into"), ("runtime", "run_recorded"), (None, "perform")]
+# The functions that carry the headline, by crate.
+CARRIERS = [("runtime", "run"), ("runtime", "run_into"), ("runtime", "run_recorded")]
 
 NAME = re.compile(r"[^\W\d]\w*'*(?:\.[^\W\d]\w*'*)*")
 HEAD = re.compile(r"^(?:(?:abbrev|unfoldable)(?: pub)?|pub record|record|pub data|data) ([^\W\d]\w*'*)", re.M)
@@ -98,11 +98,10 @@ def contract(crate, function):
 def seeds():
     found = set()
     for crate, function in CARRIERS:
-        those = [contract(it, function) for it in ([crate] if crate else crates())]
-        those = [it for it in those if it is not None]
-        if not those:
-            raise SystemExit(f"no public function {function} carries the headline")
-        found |= set().union(*those)
+        named = contract(crate, function)
+        if named is None:
+            raise SystemExit(f"{crate} has no public function {function}")
+        found |= named
     return found
 
 

@@ -2,7 +2,7 @@
 
 Generated are docs/CONFORMANCE.md as a whole, from tools/changes; docs/CRATES.md as a whole, from crates.txt and the first sentence of
 each crate root; the limits in docs/GUEST.md, from the definitions; the list of the definitions that the headline
-needs in docs/LAW.md, from the contracts of run, run_into, run_recorded and perform; the transcripts in docs/DEBUGGING.md, from the
+needs in docs/LAW.md, from the contracts of run, run_into and run_recorded; the transcripts in docs/DEBUGGING.md, from the
 sessions of guest/tests/gdb; and man/dthreads.1, from docs/CLI.md. Besides,
 each line of a block marked `antt` must be in the sources, so that no page quotes what isn't there, each link must lead to a file
 and a heading, and the pages that are read as a whole have a size that they don't exceed.

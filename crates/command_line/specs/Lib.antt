@@ -1,2 +1,3 @@
 pub mod Debugs
+pub mod Performs
 pub mod Replays

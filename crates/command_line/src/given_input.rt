@@ -1,7 +1,12 @@
-//! Runs and replays whose input is that of a file, where one is named, and else standard input.
-ghost use Rattle.std.specs.Prelude.{◌+◌, ◌-◌, ◌^◌, ◌<◌};
+//! Runs and replays whose input is that of a file, if one is named, and else standard input.
+ghost use Rattle.std.specs.Prelude.{◌≡◌, ◌+◌, ◌-◌, ◌^◌, ◌<◌, IfErr, IfOk, IsSome};
+ghost use Rattle.output_files.specs.Content.{Tells};
 ghost use Rattle.output_files.specs.Taken.{TakesAtMost};
 ghost use Rattle.run_limits.specs.Limits as limit;
+ghost use Rattle.command_requests.specs.Names.{names_of};
+ghost use Rattle.command_requests.specs.Reading.{AreRead, IsUnreadAt};
+ghost use Rattle.command_line.specs.Performs.{ReplaysOn, RunsOn};
+ghost use Rattle.command_line.specs.Replays.{asked};
 
 use crate::replaying::replay;
 use command_replay::ReplayFailure;
@@ -14,7 +19,7 @@ use std::io::{Read, Write};
 use std::sync::Wait;
 use std::thread::Threads;
 
-/// Runs the program of a file on the input of another one, where it is named, and else on the bytes of `stdin`.
+/// Runs the program of a file on the input of another one, if it is named, and else on the bytes of `stdin`.
 pub(crate) fn run_given<'a, H: Threads + Wait + Sync, F: Files, R: Read, W: Write>(
     rt: &H,
     alloc: Global,
@@ -27,7 +32,20 @@ pub(crate) fn run_given<'a, H: Threads + Wait + Sync, F: Files, R: Read, W: Writ
     stdout: &mut WriteSink<W>,
 ) -> Result<RunOutcome, Failure<'a>>
     requires { stdout.old.failures < 2 ^ 64 - 1 }
-    ensures { TakesAtMost (limit.input + 1) (R.remaining stdin.old) (R.remaining stdin.new) }
+    ensures taken { TakesAtMost (limit.input + 1) (R.remaining stdin.old) (R.remaining stdin.new) }
+    ensures unused { IsSome input.entry → stdin.new ≡ stdin.old }
+    ensures answer { RunsOn (Tells F.Output.contents)
+        (record {
+          path = file.now;
+          names = names_of file.entry records.now;
+          is_same = F.is_same files.old;
+          input = R.remaining stdin.old;
+          config = config.now;
+          records = records.now;
+        })
+        input.entry
+        (record { files = F.content files.old; output = W.contents stdout.old.writer })
+        (record { files = F.content files.new; output = W.contents stdout.new.writer }) result }
 {
     let Some(path) = input else {
         return run_file(rt, alloc, file, config, records, files, stdin, stdout);
@@ -37,7 +55,7 @@ pub(crate) fn run_given<'a, H: Threads + Wait + Sync, F: Files, R: Read, W: Writ
     run_file(rt, alloc, file, config, records, files, &mut reader, stdout)
 }
 
-/// Replays a schedule of the program of a file on the input of another one, where it is named, and else on the bytes of
+/// Replays a schedule of the program of a file on the input of another one, if it is named, and else on the bytes of
 /// `stdin`.
 pub(crate) fn replay_given<'a, F: Files, R: Read, W: Write>(
     alloc: Global,
@@ -49,7 +67,10 @@ pub(crate) fn replay_given<'a, F: Files, R: Read, W: Write>(
     stdin: &mut R,
     stdout: &mut W,
 ) -> Result<Option<RunOutcome>, ReplayFailure<'a>>
-    ensures { TakesAtMost (limit.input + 1) (R.remaining stdin.old) (R.remaining stdin.new) }
+    ensures taken { TakesAtMost (limit.input + 1) (R.remaining stdin.old) (R.remaining stdin.new) }
+    ensures unused { IsSome input.entry → stdin.new ≡ stdin.old }
+    ensures answer { ReplaysOn (asked F.content files.now file.now schedule.now (R.remaining stdin.old) config.now)
+        input.entry (W.contents stdout.old) (W.contents stdout.new) result }
 {
     let Some(path) = input else {
         return replay(alloc, file, schedule, config, files, stdin, stdout);
@@ -59,8 +80,11 @@ pub(crate) fn replay_given<'a, F: Files, R: Read, W: Write>(
     replay(alloc, file, schedule, config, files, &mut reader, stdout)
 }
 
-/// The bytes of an input's file, and one more than the limit where it has so many.
-fn input_at<'a, F: Files>(alloc: Global, path: &'a str, files: &F) -> Result<Vec<u8>, Failure<'a>> {
+/// The bytes of an input's file, and one more than the limit if it has so many.
+fn input_at<'a, F: Files>(alloc: Global, path: &'a str, files: &F) -> Result<Vec<u8>, Failure<'a>>
+    ensures read { IfOk result (λ bytes. AreRead limit.input (F.content files.now path.now) bytes.items) }
+    ensures failed { IfErr result (IsUnreadAt path.now) }
+{
     match files.read(alloc, path, MAX_INPUT) {
         Ok(bytes) => Ok(bytes),
         Err(fault) => Err(Failure::of_read(Target::Path(path), fault)),

@@ -1,8 +1,10 @@
 //! Performs the arguments of a command line over any files and streams, and gives the status.
 ghost use Rattle.std.specs.Prelude.{◌⊎◌, ◌+◌, ◌-◌, ◌^◌, ◌<◌};
+ghost use Rattle.output_files.specs.Content.{Tells};
 ghost use Rattle.output_files.specs.Taken.{TakesAtMost};
 ghost use Rattle.run_limits.specs.Limits as limit;
 ghost use Rattle.command_line.specs.Debugs.{IsDebug};
+ghost use Rattle.command_line.specs.Performs.{Performs, PerformsOne};
 
 use crate::config::config_of;
 use crate::given_input::{replay_given, run_given};
@@ -20,7 +22,7 @@ use std::sync::Wait;
 use std::thread::Threads;
 
 /// Does what the arguments of a command line ask for, the program's name being the first, and answers
-/// the status that the program ends with. Where writing to `stderr` fails, the status stays.
+/// the status that the program ends with. If writing to `stderr` fails, the status stays.
 pub fn perform<H: Threads + Wait + Sync, S: AsStr, F: Files, R: Read + Send, W: Write, E: Write>(
     rt: &H,
     alloc: Global,
@@ -31,6 +33,13 @@ pub fn perform<H: Threads + Wait + Sync, S: AsStr, F: Files, R: Read + Send, W: 
     stderr: &mut E,
 ) -> u8
     requires { stdout.old.failures < 2 ^ 64 - 1 }
+    ensures { Performs (Tells F.Output.contents)
+        (record {
+          host = record { files = F.content files.old; output = W.contents stdout.old.writer };
+          is_same = F.is_same files.old;
+          input = R.remaining stdin.old;
+        })
+        (record { files = F.content files.new; output = W.contents stdout.new.writer }) result }
 {
     match asked(alloc, arguments, &mut stdout.writer, stderr) {
         Ok(request) => perform_request(rt, alloc, request, files, stdin, stdout, stderr),
@@ -50,7 +59,15 @@ pub fn perform_request<H: Threads + Wait + Sync, F: Files, R: Read + Send, W: Wr
     stderr: &mut E,
 ) -> u8
     requires { stdout.old.failures < 2 ^ 64 - 1 }
-    ensures { IsDebug request.entry ⊎ TakesAtMost (limit.input + 1) (R.remaining stdin.old) (R.remaining stdin.new) }
+    ensures taken { IsDebug request.entry ⊎ TakesAtMost (limit.input + 1) (R.remaining stdin.old) (R.remaining stdin.new) }
+    ensures performed { PerformsOne (Tells F.Output.contents)
+        (record {
+          host = record { files = F.content files.old; output = W.contents stdout.old.writer };
+          is_same = F.is_same files.old;
+          input = R.remaining stdin.old;
+        })
+        request.entry
+        (record { files = F.content files.new; output = W.contents stdout.new.writer }) result }
 {
     match request {
         Request::Disasm { file } => conclude_listing(

@@ -1,0 +1,90 @@
+-- What performing a request answers, the status for it, and what it leaves, told by the files' content and the standard streams as far as these
+-- are known.
+use Rattle.std.specs.Borrow.{Bor}
+use Rattle.std.specs.Prelude.{◌≡◌, ◌⊎◌, ℕ, Option, Some, None, Result, Err, List}
+use Rattle.std.specs.Result.{IsErrAnd}
+use Rattle.run_limits.specs.Limits as limit
+use Rattle.output_files.specs.Content.{Content}
+use Rattle.runtime.specs.declared.config.Config.{Config}
+use Rattle.token.specs.declared.outcome.RunOutcome.{RunOutcome}
+use Rattle.command_requests.specs.Names.{Sameness, names_of}
+use Rattle.command_requests.specs.Reading.{AreRead, IsUnreadAt}
+use Rattle.command_requests.specs.Status.{failure_status}
+use Rattle.command_requests.specs.Unasked.{IsUnaskedStatus, KeepsUnlessHelp}
+use Rattle.command_requests.specs.declared.failure.Failure.{Failure}
+use Rattle.command_requests.specs.declared.numbers.Numbers.{Numbers}
+use Rattle.command_requests.specs.declared.request.Request.{Request}
+use Rattle.command_requests.specs.declared.request.Request.TheVariants.{Run, Debug, Disasm, Replay}
+use Rattle.command_outputs.specs.Status.{answer_status}
+use Rattle.command_disasm.specs.Listings.{IsListed, IsUnlisted}
+use Rattle.command_replay.specs.Status.{replay_status}
+use Rattle.command_replay.specs.declared.replay_failure.ReplayFailure.{ReplayFailure}
+use Rattle.command_replay.specs.declared.replay_failure.ReplayFailure.TheVariants.{Plain}
+use Rattle.command_run.specs.Serves.{Host, RunRequest, RunsInto}
+use Rattle.command_line.specs.Replays.{ReplayRequest, Replays}
+
+-- the configuration of a run with these numbers
+abbrev pub config_of : Numbers → Config
+config_of numbers = record { bound = numbers.bound; quantum = numbers.quantum; workers = numbers.workers }
+
+-- Such is it of what there is to read of the input: of standard input, or of the file that is named for it, whose bytes were read.
+abbrev pub OnInput : Content → Option (List ℕ) → Option (Bor (List ℕ)) → (Option (List ℕ) → Type 0) → Type 0
+OnInput files stdin None Is = Is stdin
+OnInput files stdin (Some path) Is = (bytes : List ℕ) × AreRead limit.input (files path.now) bytes × Is (Some bytes)
+
+-- a file is named for the input, and could not be read
+abbrev pub IsInputUnread : Option (Bor (List ℕ)) → Failure → Type 0
+IsInputUnread None failure = ⊥
+IsInputUnread (Some path) failure = IsUnreadAt path.now failure
+
+-- What a run answers on the input that is named for it, or on standard input: the input's file couldn't be read, and all is as it was; or
+-- what it answers on its bytes.
+abbrev pub RunsOn : Type 0 → RunRequest → Option (Bor (List ℕ)) → (before after : Host) → Result RunOutcome Failure → Type 0
+RunsOn tells request named before after answer =
+    (IsErrAnd answer (IsInputUnread named) × (after ≡ before))
+    ⊎ OnInput before.files request.input named (λ input. RunsInto tells (record request { input = input }) before after answer)
+
+-- what a replay answers, likewise
+abbrev pub ReplaysOn : ReplayRequest → Option (Bor (List ℕ)) → (output output' : Option (List ℕ)) → Result (Option RunOutcome) ReplayFailure → Type 0
+ReplaysOn request named output output' answer =
+    ((plain : Failure) × (answer ≡ Err (Plain plain)) × IsInputUnread named plain × (output' ≡ output))
+    ⊎ OnInput request.files request.input named (λ input. Replays (record request { input = input }) output output' answer)
+
+-- what performing a request finds: what a command finds, which names are of one file, and what there is to read of standard input, as far as
+-- these are known
+pub record Found : Type 0 where
+  pub host : Host
+  pub is_same : Sameness
+  pub input : Option (List ℕ)
+
+-- Performing a request answers this status and leaves this. The first type says that outputs tell what they hold. Of a debugging it is
+-- said alone that it changes no file.
+abbrev pub PerformsOne : Type 0 → Found → Request → Host → ℕ → Type 0
+PerformsOne tells found (Run file named numbers records) after status =
+    (answer : Result RunOutcome Failure) × (status ≡ answer_status answer)
+    × RunsOn tells
+    (record {
+      path = file.now;
+      names = names_of file records;
+      is_same = found.is_same;
+      input = found.input;
+      config = config_of numbers;
+      records = records;
+    })
+    named found.host after answer
+PerformsOne tells found (Replay file schedule named numbers) after status =
+    ((answer : Result (Option RunOutcome) ReplayFailure) × (status ≡ replay_status answer)
+    × ReplaysOn (record { files = found.host.files; path = file.now; schedule = schedule.now; input = found.input; config = config_of numbers })
+    named found.host.output after.output answer)
+    × (after.files ≡ found.host.files)
+PerformsOne tells found (Disasm file) after status =
+    (((status ≡ 0) × IsListed (found.host.files file.now) found.host.output after.output)
+    ⊎ ((failure : Failure) × (status ≡ failure_status failure) × IsUnlisted file.now (found.host.files file.now) failure))
+    × (after.files ≡ found.host.files)
+PerformsOne tells found (Debug file named numbers turn) after status = after.files ≡ found.host.files
+
+-- Some request was performed; or none was made, nothing but help or the version was printed, and no file has changed.
+abbrev pub Performs : Type 0 → Found → Host → ℕ → Type 0
+Performs tells found after status =
+    ((request : Request) × PerformsOne tells found request after status)
+    ⊎ (IsUnaskedStatus status × KeepsUnlessHelp status found.host.output after.output × (after.files ≡ found.host.files))
