@@ -13,10 +13,12 @@ from dt_commands.repository import TOP
 
 FILE, RECORD = "release/x86_64-linux/dthreads", "release/sources.sha256"
 BUILT = f"{TOP}/crates/command/out/command"
+# How the names of functions begin that the loops of the hart must have inline.
+INLINE = "hart::near::"
 
 
 def arguments(parser):
-    parser.add_argument("--check", action="store_true", help="make nothing: fail if the release is of these sources and another program than the one built here")
+    parser.add_argument("--check", action="store_true", help="make nothing: fail if the release is of these sources and another program than the one built here, or if its loop calls an instruction")
 
 
 def say(text):
@@ -76,6 +78,11 @@ def comparison(top=TOP, version=None):
     return False, f"the program is {FILE}, byte for byte"
 
 
+def calls_of_loop(file=BUILT):
+    """Returns what the hart's loops call in the program that was built, in place of having it inline."""
+    return sorted({it for it in executable.names(bytes_of(file)) if it.startswith(INLINE)}) if os.path.isfile(file) else []
+
+
 def make(top=TOP, version=None):
     """Writes both files, and returns the status."""
     if not is_built(top):
@@ -101,4 +108,7 @@ def run(options):
         return make()
     is_at_odds, text = comparison()
     say(text)
-    return 1 if is_at_odds else 0
+    calls = calls_of_loop()
+    for it in calls:
+        say(f"a loop of the hart calls {it}, which it must have inline")
+    return 1 if is_at_odds or calls else 0

@@ -31,6 +31,21 @@ struct.pack_into("<Q", ELF, 64 + 32, 8)
 ELF[120:128] = b"segment."
 
 
+def with_symbols(*names):
+    """Returns an ELF file with these symbols: header, names, table, and the section headers of both."""
+    texts = b"\0" + b"".join(it.encode() + b"\0" for it in names)
+    places = [1 + sum(len(it) + 1 for it in names[:at]) for at in range(len(names))]
+    table = b"".join(struct.pack("<I20x", it) for it in places)
+    data = bytearray(64) + texts + table
+    headers = len(data)
+    for kind, offset, size, link in ((3, 64, len(texts), 0), (executable.SYMBOLS, 64 + len(texts), len(table), 0)):
+        data += struct.pack("<4xI16xQQI20x", kind, offset, size, link)
+    data[:6] = executable.MAGIC
+    struct.pack_into("<Q", data, executable.SECTION_HEADERS, headers)
+    struct.pack_into("<HH", data, executable.COUNTS + 4, 64, 2)
+    return bytes(data)
+
+
 class Tree(unittest.TestCase):
     """A checkout of five crates."""
 
@@ -128,6 +143,18 @@ class Stripped(unittest.TestCase):
 
     def test_no_executable_is_refused(self):
         self.assertRaises(ValueError, executable.stripped, b"#!/bin/sh\n")
+        self.assertRaises(ValueError, executable.names, b"#!/bin/sh\n")
+
+    def test_the_names_of_all_symbols_are_found(self):
+        self.assertEqual(executable.names(with_symbols("one", "a::b")), ["one", "a::b"])
+        self.assertEqual(executable.names(executable.stripped(bytes(ELF))), [])
+
+    def test_an_instruction_that_the_loop_calls_is_found(self):
+        with tempfile.NamedTemporaryFile() as it:
+            it.write(with_symbols("main", "hart::near::put", "hart::near_run::run_near"))
+            it.flush()
+            self.assertEqual(release.calls_of_loop(it.name), ["hart::near::put"])
+        self.assertEqual(release.calls_of_loop("/nowhere"), [])
 
 
 class Releases(Tree):
