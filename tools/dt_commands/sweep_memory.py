@@ -7,7 +7,7 @@ then standard output has a prefix of the true output, and no file was written af
 these guests: each of its lines is the true one or says out of memory, and its draws take no memory.
 
 A run that doesn't end within SECONDS hangs. `--gate` sweeps the runs of two guests by several workers alone, as .ci/run does: of one of them
-the ready threads have gaps in their numbers.
+the ready threads have gaps in their numbers. And it sweeps a run that is refused, since two of its outputs are one file under two names.
 
 It needs a C compiler; without one `--gate` says so and passes. DTHREADS names a built program to run the guests with, or else it is built.
 """
@@ -231,6 +231,12 @@ def by_workers(room, program):
             yield f"run {guest}, {workers} workers", Sweep(room, words, seconds=GATE_SECONDS)
 
 
+def one_file(room, program):
+    """Yields the sweep of a run whose outputs are one file under two names, with its name."""
+    words = [program, "run", f"{TOP}/samples/race.elf", "--trace", "trace", "--report", "./trace"]
+    yield "run race, two names of one file", Sweep(room, words, records=["trace"], seconds=GATE_SECONDS)
+
+
 def replays(room, program):
     """Yields the sweeps of the whole program on each schedule, each with its name."""
     for schedule, numbers in SCHEDULES:
@@ -280,7 +286,8 @@ def sweep_gate():
         return 0
     with tempfile.TemporaryDirectory(prefix="sweep-memory-") as room:
         library(room)
-        for name, one in by_workers(room, dthreads()):
+        program = dthreads()
+        for name, one in (*by_workers(room, program), *one_file(room, program)):
             one.each(name)
     return 0
 
@@ -301,7 +308,7 @@ def sweep(options):
                 progress.at = name
                 does(room, built(name))
         program = dthreads()
-        every = [*runs(room, program), *list(by_workers(room, program))[2:], *replays(room, program), *debugs(room, program)]
+        every = [*runs(room, program), *list(by_workers(room, program))[2:], *one_file(room, program), *replays(room, program), *debugs(room, program)]
         chosen = [it for it in every if options.word in it[0]]
         progress.total = len(chosen)
         for name, one in progress.each(chosen, lambda it: it[0]):
