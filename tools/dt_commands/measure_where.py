@@ -6,6 +6,7 @@ names the program to run them with, which must have its symbols, or else crates/
 """
 import collections
 import os
+import shutil
 import subprocess
 import tempfile
 
@@ -85,6 +86,8 @@ def rows(prepared, room, rounds):
 
 def measure(options):
     """Measures where the time of the samples goes, by part of the program."""
+    if not shutil.which("perf"):
+        raise SystemExit("it needs Linux's perf")
     print("| " + " | ".join(COLUMNS) + " |\n" + "|---" * len(COLUMNS) + "|", flush=True)
     every = [it for it in c_samples.samples() if it.name in LARGER]
     with tempfile.TemporaryDirectory() as room, Progress("samples", len(every)) as progress:
