@@ -17,10 +17,10 @@ use Rattle.observed_run.proofs.observing.observe.Goals as goal
 pub loop-view-init : goal.loop-view-init
 unfolding events_upto
 loop-view-init c =
-    let opened = c.open.ensures in
+    let opened = c.open-memory.ensures in
     let segment = c.args.segment in
-    let cells : views.cells_of c.open.result ≡ cells_of c.args.base.now = ap memory_of_pages (opened.pages ∙ c.in_ok-try_clone.ensures.pages) in
-    let below : cells_of (views.base_of c.open.result) ≡ cells_of c.args.base.now = ap cells_of opened.base ∙ ap memory_of_pages c.in_ok-try_clone.ensures.pages in
+    let cells : views.cells_of c.open-memory.result ≡ cells_of c.args.base.now = ap memory_of_pages (opened.pages ∙ c.in_ok-try_clone.ensures.pages) in
+    let below : cells_of (views.base_of c.open-memory.result) ≡ cells_of c.args.base.now = ap cells_of opened.base ∙ ap memory_of_pages c.in_ok-try_clone.ensures.pages in
     record {
       runs = subst (λ (memory : Memory). Runs c.args.segment.hart (cells_of c.args.base.now) c.args.segment.left c.args.segment.quantum 0 c.args.segment.hart memory) (sym cells) (begun _ _ _ _);
       bound = omega arith;
@@ -48,7 +48,7 @@ loop-view-preserved c =
 pub returns-in-Stopped-clause-end : goal.returns-in-Stopped-clause-end
 returns-in-Stopped-clause-end c =
     let copy : Memory = cells_of c.args.base.now in
-    let view = c.observe_some.new.view.memory in
+    let view = c.observe_some.new.view.memory.memory in
     let so_far = c.loop-view.invariant in
     let observed = rw c.in-Stopped.is at c.in_ok-end.ensures.observed in
     let there = observed.ends c.args.segment.hart copy so_far.runs in

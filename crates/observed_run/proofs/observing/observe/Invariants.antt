@@ -10,11 +10,11 @@ use Rattle.observed_run.proofs.observing.observe.Given as goal
 
 abbrev pub invariant-loop-view : goal.invariant-loop-view
 invariant-loop-view l = record {
-  runs : Runs l.segment.hart (snapshots.cells_of l.base) l.segment.left l.segment.quantum l.done l.hart (cells_of l.view.memory);
+  runs : Runs l.segment.hart (snapshots.cells_of l.base) l.segment.left l.segment.quantum l.done l.hart (cells_of l.view.memory.memory);
   bound : l.done ≤ l.segment.left;
   quantum : IfSome l.segment.quantum (λ q. l.done ≤ q);
-  base : snapshots.cells_of (base_of l.view.memory) ≡ snapshots.cells_of l.base;
-  code : HasCode l.code.start l.code.entries.now (cells_of l.view.memory);
+  base : snapshots.cells_of (base_of l.view.memory.memory) ≡ snapshots.cells_of l.base;
+  code : HasCode l.code.start l.code.entries.now (cells_of l.view.memory.memory);
   told : IsTold l.fn.recorder l.recorder (events_upto l.actor l.segment.hart (snapshots.cells_of l.base) l.done);
 }
 
