@@ -11,7 +11,7 @@ from .repository import TOP
 
 # Fakes that tests put in the place of a reader or a writer, and the program that tells refusals by itself.
 FAKES = {
-    "crates/test_command_line/src/fakes.rt",
+    "crates/test_command_rows/src/memory_files.rt",
     "crates/test_alloc_failures/src/failed.rt",
     "crates/test_alloc_failures/src/programs.rt",
     "crates/test_alloc_failures/src/quiet.rt",

@@ -1,4 +1,4 @@
-use Rattle.test_command_line.proofs.fakes.MemoryFilesFiles.begin_aside.Goals as goal
+use Rattle.test_command_rows.proofs.memory_files.MemoryFilesFiles.begin_aside.Goals as goal
 
 -- an output in memory doesn't tell what it holds
 pub returns-clause-empty : goal.returns-clause-empty
