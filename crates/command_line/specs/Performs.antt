@@ -7,7 +7,7 @@ use Rattle.run_limits.specs.Limits as limit
 use Rattle.output_files.specs.Content.{Content}
 use Rattle.runtime.specs.declared.config.Config.{Config}
 use Rattle.token.specs.declared.outcome.RunOutcome.{RunOutcome}
-use Rattle.command_requests.specs.Names.{Sameness, names_of}
+use Rattle.command_requests.specs.Names.{Sameness}
 use Rattle.command_requests.specs.Reading.{AreRead, IsUnreadAt}
 use Rattle.command_requests.specs.Status.{failure_status}
 use Rattle.command_requests.specs.Unasked.{IsUnaskedStatus, KeepsUnlessHelp}
@@ -20,7 +20,7 @@ use Rattle.command_disasm.specs.Listings.{IsListed, IsUnlisted}
 use Rattle.command_replay.specs.Status.{replay_status}
 use Rattle.command_replay.specs.declared.replay_failure.ReplayFailure.{ReplayFailure}
 use Rattle.command_replay.specs.declared.replay_failure.ReplayFailure.TheVariants.{Plain}
-use Rattle.command_run.specs.Serves.{Host, RunRequest, RunsInto}
+use Rattle.command_run.specs.Serves.{Host, RunRequest, RunsInto, run_of}
 use Rattle.command_line.specs.Replays.{ReplayRequest, Replays}
 
 -- the configuration of a run with these numbers
@@ -57,21 +57,15 @@ pub record Found : Type 0 where
   pub is_same : Sameness
   pub input : Option (List ℕ)
 
+abbrev pub found_of : Host → Sameness → Option (List ℕ) → Found
+found_of host is_same input = record { host = host; is_same = is_same; input = input }
+
 -- Performing a request answers this status and leaves this. The first type says that outputs tell what they hold. Of a debugging it is
 -- said alone that it changes no file.
 abbrev pub PerformsOne : Type 0 → Found → Request → Host → ℕ → Type 0
 PerformsOne tells found (Run file named numbers records) after status =
     (answer : Result RunOutcome Failure) × (status ≡ answer_status answer)
-    × RunsOn tells
-    (record {
-      path = file.now;
-      names = names_of file records;
-      is_same = found.is_same;
-      input = found.input;
-      config = config_of numbers;
-      records = records;
-    })
-    named found.host after answer
+    × RunsOn tells (run_of file found.is_same found.input (config_of numbers) records) named found.host after answer
 PerformsOne tells found (Replay file schedule named numbers) after status =
     ((answer : Result (Option RunOutcome) ReplayFailure) × (status ≡ replay_status answer)
     × ReplaysOn (record { files = found.host.files; path = file.now; schedule = schedule.now; input = found.input; config = config_of numbers })

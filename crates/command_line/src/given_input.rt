@@ -3,8 +3,8 @@ ghost use Rattle.std.specs.Prelude.{◌≡◌, ◌+◌, ◌-◌, ◌^◌, ◌<�
 ghost use Rattle.output_files.specs.Content.{Tells};
 ghost use Rattle.output_files.specs.Taken.{TakesAtMost};
 ghost use Rattle.run_limits.specs.Limits as limit;
-ghost use Rattle.command_requests.specs.Names.{names_of};
 ghost use Rattle.command_requests.specs.Reading.{AreRead, IsUnreadAt};
+ghost use Rattle.command_run.specs.Serves.{host_of, run_of};
 ghost use Rattle.command_line.specs.Performs.{ReplaysOn, RunsOn};
 ghost use Rattle.command_line.specs.Replays.{asked};
 
@@ -34,18 +34,8 @@ pub(crate) fn run_given<'a, H: Threads + Wait + Sync, F: Files, R: Read, W: Writ
     requires { stdout.old.failures < 2 ^ 64 - 1 }
     ensures taken { TakesAtMost (limit.input + 1) (R.remaining stdin.old) (R.remaining stdin.new) }
     ensures unused { IsSome input.entry → stdin.new ≡ stdin.old }
-    ensures answer { RunsOn (Tells F.Output.contents)
-        (record {
-          path = file.now;
-          names = names_of file.entry records.now;
-          is_same = F.is_same files.old;
-          input = R.remaining stdin.old;
-          config = config.now;
-          records = records.now;
-        })
-        input.entry
-        (record { files = F.content files.old; output = W.contents stdout.old.writer })
-        (record { files = F.content files.new; output = W.contents stdout.new.writer }) result }
+    ensures answer { RunsOn (Tells F.Output.contents) (run_of file.entry (F.is_same files.old) (R.remaining stdin.old) config.now records.now)
+        input.entry (host_of F.content W.contents files.old stdout.old) (host_of F.content W.contents files.new stdout.new) result }
 {
     let Some(path) = input else {
         return run_file(rt, alloc, file, config, records, files, stdin, stdout);

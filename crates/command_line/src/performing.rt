@@ -4,7 +4,8 @@ ghost use Rattle.output_files.specs.Content.{Tells};
 ghost use Rattle.output_files.specs.Taken.{TakesAtMost};
 ghost use Rattle.run_limits.specs.Limits as limit;
 ghost use Rattle.command_line.specs.Debugs.{IsDebug};
-ghost use Rattle.command_line.specs.Performs.{Performs, PerformsOne};
+ghost use Rattle.command_run.specs.Serves.{host_of};
+ghost use Rattle.command_line.specs.Performs.{Performs, PerformsOne, found_of};
 
 use crate::config::config_of;
 use crate::given_input::{replay_given, run_given};
@@ -34,12 +35,8 @@ pub fn perform<H: Threads + Wait + Sync, S: AsStr, F: Files, R: Read + Send, W: 
 ) -> u8
     requires { stdout.old.failures < 2 ^ 64 - 1 }
     ensures { Performs (Tells F.Output.contents)
-        (record {
-          host = record { files = F.content files.old; output = W.contents stdout.old.writer };
-          is_same = F.is_same files.old;
-          input = R.remaining stdin.old;
-        })
-        (record { files = F.content files.new; output = W.contents stdout.new.writer }) result }
+        (found_of (host_of F.content W.contents files.old stdout.old) (F.is_same files.old) (R.remaining stdin.old))
+        (host_of F.content W.contents files.new stdout.new) result }
 {
     match asked(alloc, arguments, &mut stdout.writer, stderr) {
         Ok(request) => perform_request(rt, alloc, request, files, stdin, stdout, stderr),
@@ -61,13 +58,9 @@ pub fn perform_request<H: Threads + Wait + Sync, F: Files, R: Read + Send, W: Wr
     requires { stdout.old.failures < 2 ^ 64 - 1 }
     ensures taken { IsDebug request.entry ⊎ TakesAtMost (limit.input + 1) (R.remaining stdin.old) (R.remaining stdin.new) }
     ensures performed { PerformsOne (Tells F.Output.contents)
-        (record {
-          host = record { files = F.content files.old; output = W.contents stdout.old.writer };
-          is_same = F.is_same files.old;
-          input = R.remaining stdin.old;
-        })
+        (found_of (host_of F.content W.contents files.old stdout.old) (F.is_same files.old) (R.remaining stdin.old))
         request.entry
-        (record { files = F.content files.new; output = W.contents stdout.new.writer }) result }
+        (host_of F.content W.contents files.new stdout.new) result }
 {
     match request {
         Request::Disasm { file } => conclude_listing(

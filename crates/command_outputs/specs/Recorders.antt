@@ -1,5 +1,5 @@
 -- What the recorders of a run's texts have recorded.
-use Rattle.std.specs.Prelude.{◌≡◌, ℕ, Option, List, IfSome, is_some}
+use Rattle.std.specs.Prelude.{◌≡◌, ◌⊎◌, ℕ, Option, List, IfSome, is_some, true}
 use Rattle.run_digest.specs.Recording.{Digests}
 use Rattle.sharing_report.specs.Recording.{Shares}
 use Rattle.token.specs.Change.{Change}
@@ -22,6 +22,10 @@ pub record AreSame {O : Type 0} (recorders others : TextRecorders O) : Type 0 wh
   pub timeline : is_some others.timeline ≡ is_some recorders.timeline
   pub sharing : is_some others.sharing ≡ is_some recorders.sharing
   pub digest : is_some others.digest ≡ is_some recorders.digest
+
+-- one of those that write as the turns are done is there
+abbrev pub Writes : {O : Type 0} → TextRecorders O → Type 0
+Writes recorders = (is_some recorders.trace ≡ true) ⊎ (is_some recorders.timeline ≡ true)
 
 -- there is a recorder for each text that is wanted, and for no other
 pub record AreFor {O : Type 0} (records : Records) (recorders : TextRecorders O) : Type 0 where

@@ -1,6 +1,5 @@
 //! The outputs of the texts that are made at the end of a run.
 /// The outputs that were begun for the texts that are made when a run has ended.
-#[derive(Drop)]
 pub struct MadeOutputs<O> {
     /// For the sharing report.
     pub report: Option<O>,

@@ -9,7 +9,6 @@ use output_files::Files;
 use std::alloc::Global;
 
 /// The outputs that were begun for the texts of a run.
-#[derive(Drop)]
 pub struct Outputs<O> {
     /// For the trace.
     pub trace: Option<O>,
@@ -142,9 +141,14 @@ pub fn abandon<F: Files>(records: &Records<'_>, outputs: Outputs<F::Output>, fil
     ensures kept { KeepsButParts records.now (F.content files.old) (F.content files.new) }
     ensures unnamed { NamesNone records.now → files.new ≡ files.old }
 {
-    abandon_output(records.trace, outputs.trace, files);
-    abandon_output(records.timeline, outputs.timeline, files);
-    abandon_made(records, outputs.made, files);
+    let Outputs {
+        trace,
+        timeline,
+        made,
+    } = outputs;
+    abandon_output(records.trace, trace, files);
+    abandon_output(records.timeline, timeline, files);
+    abandon_made(records, made, files);
 }
 
 /// Takes away what was begun for the texts that are made when a run has ended.
@@ -154,10 +158,16 @@ pub fn abandon_made<F: Files>(records: &Records<'_>, made: MadeOutputs<F::Output
         → F.content files.new path ≡ F.content files.old path }
     ensures unnamed { NamesNone records.now → files.new ≡ files.old }
 {
-    abandon_output(records.report, made.report, files);
-    abandon_output(records.races, made.races, files);
-    abandon_output(records.core, made.core, files);
-    abandon_output(records.digest, made.digest, files);
+    let MadeOutputs {
+        report,
+        races,
+        core,
+        digest,
+    } = made;
+    abandon_output(records.report, report, files);
+    abandon_output(records.races, races, files);
+    abandon_output(records.core, core, files);
+    abandon_output(records.digest, digest, files);
 }
 
 /// Begins the output for a destination, where there is one.
@@ -193,10 +203,9 @@ pub fn abandon_output<F: Files>(
     ensures kept { KeepsButPartFor destination.entry (F.content files.old) (F.content files.new) }
     ensures unnamed { IsNone destination.entry → files.new ≡ files.old }
 {
-    let Some(Destination::File(path)) = destination else {
-        return;
-    };
-    if let Some(output) = output {
-        files.abandon(path, output);
+    match (destination, output) {
+        (_, None) => {}
+        (Some(Destination::File(path)), Some(output)) => files.abandon(path, output),
+        (_, Some(output)) => files.abandon_aside(output),
     }
 }

@@ -20,7 +20,7 @@ ghost use Rattle.command_outputs.specs.Records.{AreBegunMade, AreLastWritten, Ar
 use crate::ended::Ended;
 use crate::made_outputs::MadeOutputs;
 use crate::outputs::{abandon_made, abandon_output};
-use crate::text_recorders::{TextRecorders, timeline_output};
+use crate::text_recorders::{TextRecorders, timeline_output, trace_output};
 use crate::trace_failure::failure_of_turn;
 use command_requests::{Destination, Failure, Records, Target};
 use core_file::{CoreFault, core_threads, write_core};
@@ -137,23 +137,29 @@ fn write_made<'a, F: Files, W: Write>(
         → AreUnwrittenMade (Tells F.Output.contents) records.now (left_by turns changes end)
         (F.content files.new) (W.contents writer.old) (W.contents writer.new) failure) }
 {
+    let MadeOutputs {
+        report,
+        races,
+        core,
+        digest: digest_output,
+    } = made;
     let text = report_of(alloc, &sharing);
-    match write_text(records.report, made.report, text, files, writer) {
+    match write_text(records.report, report, text, files, writer) {
         Ok(()) => write_rest(
             alloc,
             records,
             digest,
-            made.races,
-            made.core,
-            made.digest,
+            races,
+            core,
+            digest_output,
             end,
             files,
             writer,
         ),
         Err(failure) => {
-            abandon_output(records.races, made.races, files);
-            abandon_output(records.core, made.core, files);
-            abandon_output(records.digest, made.digest, files);
+            abandon_output(records.races, races, files);
+            abandon_output(records.core, core, files);
+            abandon_output(records.digest, digest_output, files);
             Err(failure)
         }
     }
@@ -258,10 +264,11 @@ fn write_core_file<'a, F: Files, W: Write>(
         × IsPut (Tells F.Output.contents) destination.entry text (F.content files.new) (W.contents writer.old) (W.contents writer.new)) }
     ensures left { LeavesOthers F.content destination.entry result files.old files.new (W.contents writer.old) (W.contents writer.new) }
 {
-    let Some(output) = output else {
+    let Some(destination) = destination else {
+        abandon_output(None, output, files);
         return Ok(());
     };
-    let Some(destination) = destination else {
+    let Some(output) = output else {
         return Ok(());
     };
     let mut output = output;
@@ -335,10 +342,11 @@ fn write_trace<'a, F: Files, W: Write>(
         (F.content files.new) (W.contents writer.old) (W.contents writer.new)) }
     ensures left { LeavesOthers F.content destination.entry result files.old files.new (W.contents writer.old) (W.contents writer.new) }
 {
-    let Some(recorder) = recorder else {
+    let Some(destination) = destination else {
+        abandon_output(None, trace_output(recorder), files);
         return Ok(());
     };
-    let Some(destination) = destination else {
+    let Some(recorder) = recorder else {
         return Ok(());
     };
     let mut recorder = recorder;
@@ -370,10 +378,11 @@ fn write_timeline<'a, F: Files, W: Write>(
         (F.content files.new) (W.contents writer.old) (W.contents writer.new)) }
     ensures left { LeavesOthers F.content destination.entry result files.old files.new (W.contents writer.old) (W.contents writer.new) }
 {
-    let Some(recorder) = recorder else {
+    let Some(destination) = destination else {
+        abandon_output(None, timeline_output(recorder), files);
         return Ok(());
     };
-    let Some(destination) = destination else {
+    let Some(recorder) = recorder else {
         return Ok(());
     };
     let mut recorder = recorder;
@@ -412,10 +421,11 @@ fn write_text<'a, F: Files, W: Write>(
             return Err(Failure::from(refused));
         }
     };
-    let Some(output) = output else {
+    let Some(destination) = destination else {
+        abandon_output(None, output, files);
         return Ok(());
     };
-    let Some(destination) = destination else {
+    let Some(output) = output else {
         return Ok(());
     };
     put(destination, output, &text, files, writer)
@@ -476,7 +486,10 @@ pub fn publish<'a, F: Files, W: Write>(
         return Ok(());
     };
     match destination {
-        None => Ok(()),
+        None => {
+            files.abandon_aside(output);
+            Ok(())
+        }
         Some(Destination::StandardOutput) => match files.copy(output, writer) {
             Ok(()) => Ok(()),
             Err(fault) => Err(Failure::of_write(Target::StandardOutput, fault)),

@@ -10,7 +10,6 @@ use trace_events::TimelineRecorder;
 use tracer::TraceRecorder;
 
 /// What records the texts of a run, each where it is wanted.
-#[derive(Drop)]
 pub struct TextRecorders<O> {
     /// The trace, which goes to its output as the turns are done.
     pub trace: Option<TraceRecorder<O>>,
@@ -63,13 +62,20 @@ impl<O: Write> TextRecorders<O> {
         let TextRecorders {
             trace,
             timeline,
-            ..
+            sharing: _sharing,
+            digest: _digest,
         } = self;
-        let trace = match trace {
-            Some(trace) => Some(trace.into_writer()),
-            None => None,
-        };
-        (trace, timeline_output(timeline))
+        (trace_output(trace), timeline_output(timeline))
+    }
+}
+
+/// The output that a trace goes to, where there is one. Lines that weren't written are dropped.
+pub(crate) fn trace_output<O: Write>(trace: Option<TraceRecorder<O>>) -> Option<O>
+    ensures { result ≡ option_map (λ trace. trace.writer) trace }
+{
+    match trace {
+        Some(trace) => Some(trace.into_writer()),
+        None => None,
     }
 }
 

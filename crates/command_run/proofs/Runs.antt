@@ -1,5 +1,5 @@
 -- What a run answers, put together of its parts.
-use Rattle.std.proofs.Common.{false, true, ◌≡◌, ◌⊎◌, ◌∙◌, inl, inr, ℕ, Option, Some, None, Result, Ok, Err, List, IfOk, IfSome, IsSome, ap, is_some, refl, subst, sym, ⊎_elim}
+use Rattle.std.proofs.Common.{Bool, false, true, ◌≡◌, ◌⊎◌, ◌∙◌, ◌+◌, inl, inr, ℕ, Option, Some, None, Result, Ok, Err, List, IfOk, IfSome, IsSome, ap, is_some, refl, subst, sym, ⊎_elim}
 use Rattle.std.proofs.KnownBytes.{Appends-trans}
 use Rattle.std.specs.Io.KnownBytes.{Appends}
 use Rattle.std.specs.Result.{IsErrAnd}
@@ -9,7 +9,7 @@ use Rattle.paged_memory.specs.Snapshot.{cells_of}
 use Rattle.runtime.proofs.Prefixes.{appends_prefix}
 use Rattle.runtime.proofs.OneReport.{answer_so, one_answer}
 use Rattle.runtime.specs.Recorded.{Ends, EndsOrRecords, IsRecordedEnd, Recording}
-use Rattle.runtime.specs.Sending.{AppendsPrefix, SendsPrefix}
+use Rattle.runtime.specs.Sending.{AppendsPrefix, CountsFailures, SendsPrefix}
 use Rattle.runtime.specs.declared.config.Config.{Config}
 use Rattle.runtime.specs.declared.run_end.RunEnd.{RunEnd}
 use Rattle.runtime.specs.declared.interruption.Interruption.{Interruption}
@@ -25,9 +25,9 @@ use Rattle.token.specs.RunInTurn.{point_of}
 use Rattle.token.specs.Setup.{Setup}
 use Rattle.token.specs.declared.outcome.RunOutcome.{RunOutcome}
 use Rattle.token.specs.declared.turn.Turn.{Turn}
-use Rattle.command_run.specs.Failure.{failure_of_interruption}
+use Rattle.command_run.specs.Failure.{IsStoppedBy}
 use Rattle.command_outputs.specs.Records.{AreTextsOf, AreUnwritten, AreWritten, IsUnwritten, IsUnwrittenTo, KeepsButParts, Left, Texts}
-use Rattle.command_outputs.specs.Recorders.{AreFor, AreSame}
+use Rattle.command_outputs.specs.Recorders.{AreFor, AreSame, Writes}
 use Rattle.symbols.specs.Symbol.{SymbolLists}
 use Rattle.symbols.specs.Symbols.{symbols_of}
 use Rattle.command_run.specs.Observing.{AreSameRun, IsObserved, IsRaceText}
@@ -65,28 +65,29 @@ pub in_order : (setup : Setup) (history : History) → IsLegal setup history →
 in_order setup history legal = record { phases = phases_ascend setup history legal; threads = thread_numbers_small setup history legal }
 
 -- why a run was stopped
-unwritten_by : (destination : Option Destination) (interruption : Interruption)
-    → (failure_of_interruption destination interruption ≡ OutOfMemory)
-    ⊎ ((failure_of_interruption destination interruption ≡ CannotWrite StandardOutput) ⊎ IsUnwrittenTo destination (failure_of_interruption destination interruption))
-unwritten_by destination stop.OutOfMemory = inl refl
-unwritten_by destination stop.WriteFailed = inr (inl refl)
-unwritten_by None stop.RecordFailed = inr (inl refl)
-unwritten_by (Some destination) stop.RecordFailed = inr (inr refl)
+unwritten_by : (destination : Option Destination) (interruption : Interruption) (failure : Failure) (failures failures' : ℕ)
+    → IsStoppedBy destination interruption failure → CountsFailures {T = RunEnd} stop.WriteFailed (Err interruption) failures failures'
+    → (failure ≡ OutOfMemory) ⊎ (((failure ≡ CannotWrite StandardOutput) × (failures' ≡ failures + 1)) ⊎ IsUnwrittenTo destination failure)
+unwritten_by destination stop.OutOfMemory failure failures failures' is counts = inl is
+unwritten_by destination stop.WriteFailed failure failures failures' is counts = inr (inl (is, counts.0 refl))
+unwritten_by None stop.RecordFailed failure failures failures' is counts = absurd is
+unwritten_by (Some destination) stop.RecordFailed failure failures failures' is counts = inr (inr (subst (IsUnwrittenTo (Some destination)) (sym is) refl))
 
-pub stopped_by : (trace timeline destination : Option Destination) (setup : Setup) (interruption : Interruption) (old new : Option (List ℕ))
-    → (destination ≡ trace) ⊎ (destination ≡ timeline) → SendsPrefix setup old new
-    → IsStopped trace timeline setup old new (failure_of_interruption destination interruption)
-stopped_by trace timeline destination setup interruption old new among sent = (
+pub stopped_by : (trace timeline destination : Option Destination) (setup : Setup) (interruption : Interruption) (failure : Failure) (before after : Host)
+    → (destination ≡ trace) ⊎ (destination ≡ timeline) → IsStoppedBy destination interruption failure
+    → CountsFailures {T = RunEnd} stop.WriteFailed (Err interruption) before.failures after.failures
+    → SendsPrefix setup before.output after.output → IsStopped trace timeline setup before after failure
+stopped_by trace timeline destination setup interruption failure before after among is counts sent = (
   ⊎_elim
       (λ memory. inl memory)
       (λ others. ⊎_elim
       (λ output. inr (inl output))
       (λ unwritten. ⊎_elim
-      (λ is. inr (inr (inl (subst (λ (to : Option Destination). IsUnwrittenTo to (failure_of_interruption destination interruption)) is unwritten))))
-      (λ is. inr (inr (inr (subst (λ (to : Option Destination). IsUnwrittenTo to (failure_of_interruption destination interruption)) is unwritten))))
+      (λ is. inr (inr (inl (subst (λ (to : Option Destination). IsUnwrittenTo to failure) is unwritten))))
+      (λ is. inr (inr (inr (subst (λ (to : Option Destination). IsUnwrittenTo to failure) is unwritten))))
       among)
       others)
-      (unwritten_by destination interruption),
+      (unwritten_by destination interruption failure before.failures after.failures is counts),
   sent,
 )
 
@@ -182,11 +183,14 @@ pub but_parts_twice : (records : Records) (old now new : Content) → KeepsButPa
 but_parts_twice records old now new first second = λ path trace timeline report races core digest. second path trace timeline report races core digest ∙ first path trace timeline report races core digest
 
 -- the output of a text couldn't be begun, and nothing was put out
-pub concludes_unbegun : (tells : Type 0) (records : Records) (symbols : SymbolLists) (setup : Setup) (files now : Content) (out : Option (List ℕ)) (failure : Failure) (answer : Result RunOutcome Failure)
-    → KeepsButParts records files now → IsUnwritten records failure → IsErrAnd answer (λ given. given ≡ failure)
-    → Concludes tells records symbols (record { files = files; output = out }) (record { files = now; output = out }) setup answer
-concludes_unbegun tells records symbols setup files now out failure answer kept unwritten given =
-    handed_on (λ (given : Result RunOutcome Failure). Concludes tells records symbols (record { files = files; output = out }) (record { files = now; output = out }) setup given) failure answer
+pub concludes_unbegun : (tells : Type 0) (records : Records) (symbols : SymbolLists) (setup : Setup) (files now : Content) (out : Option (List ℕ)) (failures : ℕ) (failure : Failure)
+    (answer : Result RunOutcome Failure) → KeepsButParts records files now → IsUnwritten records failure → IsErrAnd answer (λ given. given ≡ failure)
+    → Concludes tells records symbols (record { files = files; output = out; failures = failures }) (record { files = now; output = out; failures = failures }) setup answer
+concludes_unbegun tells records symbols setup files now out failures failure answer kept unwritten given =
+    handed_on
+    (λ (given : Result RunOutcome Failure).
+    Concludes tells records symbols (record { files = files; output = out; failures = failures }) (record { files = now; output = out; failures = failures }) setup given)
+    failure answer
     (inl (inl (unwritten, refl), kept)) given
 
 -- what another recorder has recorded of a run that has an end
@@ -201,6 +205,15 @@ pub if_recorded : {R : Type 0} (records : Recording R) (setup : Setup) (result :
     → ((turns : List Turn) (changes : List Change) → records recorder turns changes → Is) → EndsOrRecords records setup result recorder → IfOk result (λ end. Is)
 if_recorded records setup (Ok end) recorder Is follows ends = follows (turns_of ends.some.0) (changes_of ends.some.0) ends.some.2.recorded
 if_recorded records setup (Err interruption) recorder Is follows ends = tt
+
+-- a write of a recorder failed, and one that writes is there
+pub writes_by : {O : Type 0} (recorders : TextRecorders O) (trace timeline sharing digest : Bool) (A B : Type 0)
+    → is_some recorders.trace ≡ trace → is_some recorders.timeline ≡ timeline
+    → ((trace ≡ true) × A) ⊎ (((timeline ≡ true) × B) ⊎ (((sharing ≡ true) × ⊥) ⊎ ((digest ≡ true) × ⊥))) → Writes recorders
+writes_by recorders trace timeline sharing digest A B first second (inl wanted) = inl (first ∙ wanted.0)
+writes_by recorders trace timeline sharing digest A B first second (inr (inl wanted)) = inr (second ∙ wanted.0)
+writes_by recorders trace timeline sharing digest A B first second (inr (inr (inl wanted))) = absurd wanted.1
+writes_by recorders trace timeline sharing digest A B first second (inr (inr (inr wanted))) = absurd wanted.1
 
 -- the same recorders are there for the same texts
 pub still_for : {O : Type 0} (records : Records) (recorders others : TextRecorders O) → AreFor records recorders → AreSame recorders others → AreFor records others

@@ -1,5 +1,5 @@
 -- What the faults of a run are to the user.
-use Rattle.std.specs.Prelude.{Option, Some, None}
+use Rattle.std.specs.Prelude.{◌≡◌, Option, Some, None}
 use Rattle.runtime.specs.declared.interruption.Interruption.{Interruption}
 use Rattle.runtime.specs.declared.interruption.Interruption.TheVariants as stop
 use Rattle.runtime.specs.declared.refusal.Refusal.{Refusal}
@@ -8,7 +8,6 @@ use Rattle.command_requests.specs.Destination.{target_of}
 use Rattle.command_requests.specs.declared.destination.Destination.{Destination}
 use Rattle.command_requests.specs.declared.failure.Failure.{Failure}
 use Rattle.command_requests.specs.declared.failure.Failure.TheVariants.{OutsideRange, ElfRefused, InputTooLarge, CannotWrite, OutOfMemory}
-use Rattle.command_requests.specs.declared.target.Target.{Target}
 use Rattle.command_requests.specs.declared.target.Target.TheVariants.{StandardOutput}
 
 -- what a refusal is to the user
@@ -17,13 +16,9 @@ failure_of_refusal refused.BadConfig = OutsideRange
 failure_of_refusal refused.InputTooLarge = InputTooLarge
 failure_of_refusal (refused.Elf fault) = ElfRefused fault
 
--- what the trace is written to by a run whose trace goes to this destination, where there is one
-abbrev pub trace_target : Option Destination → Target
-trace_target None = StandardOutput
-trace_target (Some trace) = target_of trace
-
--- What stops such a run, to the user: the sink writes to standard output, and its recorder to the trace.
-abbrev pub failure_of_interruption : Option Destination → Interruption → Failure
-failure_of_interruption trace stop.OutOfMemory = OutOfMemory
-failure_of_interruption trace stop.WriteFailed = CannotWrite StandardOutput
-failure_of_interruption trace stop.RecordFailed = CannotWrite (trace_target trace)
+-- What stops a run whose recorder writes to this destination, to the user. A recorder that writes nowhere doesn't fail.
+abbrev pub IsStoppedBy : Option Destination → Interruption → Failure → Type 0
+IsStoppedBy destination stop.OutOfMemory failure = failure ≡ OutOfMemory
+IsStoppedBy destination stop.WriteFailed failure = failure ≡ CannotWrite StandardOutput
+IsStoppedBy None stop.RecordFailed failure = ⊥
+IsStoppedBy (Some destination) stop.RecordFailed failure = failure ≡ CannotWrite (target_of destination)

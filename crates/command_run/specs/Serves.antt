@@ -1,6 +1,7 @@
 -- What the program answers to a request and what it leaves, told by the files' content and the standard streams as far as these are
 -- known.
-use Rattle.std.specs.Prelude.{◌≡◌, ◌⊎◌, ℕ, Option, Some, Result, Ok, Err, List, ◌++◌, IfSome, IsSome}
+use Rattle.std.specs.Prelude.{◌≡◌, ◌⊎◌, ◌+◌, ℕ, Option, Some, Result, Ok, Err, List, ◌++◌, IfSome, IsSome}
+use Rattle.std.specs.Borrow.{Bor}
 use Rattle.std.specs.Io.KnownBytes.{Appends}
 use Rattle.std.specs.Result.{IsErrAnd}
 use Rattle.elf32_reader.specs.Format.{file_limit}
@@ -11,13 +12,14 @@ use Rattle.runtime.specs.Run.{IsAccepted, IsRefusedBy, IsRunnable, setup_from}
 use Rattle.runtime.specs.Sending.{SendsPrefix}
 use Rattle.runtime.specs.declared.config.Config.{Config}
 use Rattle.runtime.specs.declared.refusal.Refusal.{Refusal}
+use Rattle.runtime.specs.declared.write_sink.WriteSink.{WriteSink}
 use Rattle.run_limits.specs.Limits as limit
 use Rattle.token.specs.History.{History, changes_of, outcome, present, turns_of}
 use Rattle.token.specs.RunInTurn.{point_of}
 use Rattle.token.specs.Setup.{Setup}
 use Rattle.token.specs.declared.outcome.RunOutcome.{RunOutcome}
 use Rattle.token.specs.declared.run_in_turn.RunInTurn.{RunInTurn}
-use Rattle.command_requests.specs.Names.{AreTwins, Sameness}
+use Rattle.command_requests.specs.Names.{AreTwins, Sameness, names_of}
 use Rattle.command_requests.specs.Reading.{AreRead, IsUnread}
 use Rattle.command_outputs.specs.Records.{AreFiled, AreTextsOf, AreUnwritten, CanPrintAll, IsUnwritten, IsUnwrittenTo, KeepsButParts, Left, Texts, placed, printed}
 use Rattle.command_requests.specs.declared.destination.Destination.{Destination}
@@ -31,10 +33,15 @@ use Rattle.command_run.specs.Observing.{IsObserved, IsRaceText}
 use Rattle.symbols.specs.Symbol.{SymbolLists}
 use Rattle.symbols.specs.Symbols.{symbols_of}
 
--- what a command finds and what it leaves: the files' content, and what standard output holds
+-- what a command finds and what it leaves: the files' content, what standard output holds, and how often it failed to take a run's output
 pub record Host : Type 0 where
   pub files : Content
   pub output : Option (List ℕ)
+  pub failures : ℕ
+
+-- what a command finds in files and on standard output, or leaves there
+abbrev pub host_of : {F W : Type 0} → (F → Content) → (W → Option (List ℕ)) → F → WriteSink W → Host
+host_of content contents files stdout = record { files = content files; output = contents stdout.writer; failures = stdout.failures }
 
 -- a run that is asked for: of the file at a path on what there is to read of standard input, with its texts put where they are to be; the names
 -- of its files, and which of them are of one file, as far as the files tell
@@ -45,6 +52,10 @@ pub record RunRequest : Type 0 where
   pub input : Option (List ℕ)
   pub config : Config
   pub records : Records
+
+abbrev pub run_of : Bor (List ℕ) → Sameness → Option (List ℕ) → Config → Records → RunRequest
+run_of file is_same input config records =
+    record { path = file.now; names = names_of file records; is_same = is_same; input = input; config = config; records = records }
 
 -- Why no run of a file's bytes and an input begins: it is refused. Memory can run out once the configuration and the input are in order.
 abbrev pub IsRefused : List ℕ → List ℕ → Config → Failure → Type 0
@@ -93,17 +104,19 @@ pub record LeavesTexts (setup : Setup) (records : Records) (ends : RunOutcome) (
 abbrev pub ComesTo : Setup → Records → RunOutcome → List ℕ → Texts → Type 0
 ComesTo setup records ends output texts = HasAnswer setup (LeavesTexts setup records ends output texts)
 
--- Why a run that began has no answer, and what standard output holds: memory was refused, or standard output failed, or a write of the
--- trace or of the timeline to its destination. A prefix of the output of some legal history is put out.
-abbrev pub IsStopped : (trace timeline : Option Destination) → Setup → Option (List ℕ) → Option (List ℕ) → Failure → Type 0
-IsStopped trace timeline setup old new failure =
-    ((failure ≡ OutOfMemory) ⊎ ((failure ≡ CannotWrite StandardOutput) ⊎ (IsUnwrittenTo trace failure ⊎ IsUnwrittenTo timeline failure)))
-    × SendsPrefix setup old new
+-- Why a run that began has no answer, and what standard output holds: memory was refused, or standard output failed once, or a write of
+-- the trace or of the timeline to its destination. A prefix of the output of some legal history is put out.
+abbrev pub IsStopped : (trace timeline : Option Destination) → Setup → (before after : Host) → Failure → Type 0
+IsStopped trace timeline setup before after failure =
+    ((failure ≡ OutOfMemory) ⊎ (((failure ≡ CannotWrite StandardOutput) × (after.failures ≡ before.failures + 1))
+    ⊎ (IsUnwrittenTo trace failure ⊎ IsUnwrittenTo timeline failure)))
+    × SendsPrefix setup before.output after.output
 
 -- Why a run has no answer although nothing refuses it: the output of a text couldn't be begun, and nothing was put out; or the run
 -- was stopped.
-abbrev pub IsHalted : Records → Option (List ℕ) → Option (List ℕ) → Failure → Setup → Type 0
-IsHalted records old new failure setup = (IsUnwritten records failure × (new ≡ old)) ⊎ IsStopped records.trace records.timeline setup old new failure
+abbrev pub IsHalted : Records → (before after : Host) → Failure → Setup → Type 0
+IsHalted records before after failure setup =
+    (IsUnwritten records failure × (after.output ≡ before.output)) ⊎ IsStopped records.trace records.timeline setup before after failure
 
 -- the text is that of the run's races, if they are wanted
 abbrev pub AreWantedRaces : Records → SymbolLists → Setup → List ℕ → Type 0
@@ -130,7 +143,7 @@ Concludes tells records symbols before after setup (Ok ends) =
     × AreFiled (placed records texts) after.files
     × (CanPrintAll tells (placed records texts) → Appends before.output after.output (put ++ printed (placed records texts)))
 Concludes tells records symbols before after setup (Err failure) =
-    (IsHalted records before.output after.output failure setup × KeepsButParts records before.files after.files) ⊎ IsLeftOut tells records symbols before after failure setup
+    (IsHalted records before after failure setup × KeepsButParts records before.files after.files) ⊎ IsLeftOut tells records symbols before after failure setup
 
 -- the file and the input were read, nothing refuses their run, and such are the file's symbols and what the run is given
 abbrev pub IsBegun : Option (List ℕ) → Option (List ℕ) → Config → (SymbolLists → Setup → Type 0) → Type 0

@@ -3,12 +3,11 @@ ghost use Rattle.std.specs.Prelude.{◌≡◌, ◌+◌, ◌-◌, ◌^◌, ◌<�
 ghost use Rattle.output_files.specs.Content.{Tells};
 ghost use Rattle.output_files.specs.Taken.{TakesAtMost};
 ghost use Rattle.run_limits.specs.Limits as limit;
-ghost use Rattle.command_requests.specs.Names.{names_of};
 ghost use Rattle.command_outputs.specs.Records.{KeepsButParts, NamesNone};
 ghost use Rattle.symbols.specs.Symbol.{SymbolLists};
 ghost use Rattle.token.specs.RunInTurn.{point_of};
 ghost use Rattle.command_run.specs.Observing.{AreSameRun};
-ghost use Rattle.command_run.specs.Serves.{Concludes, RunsInto};
+ghost use Rattle.command_run.specs.Serves.{Concludes, RunsInto, host_of, run_of};
 
 use crate::observing::race_text;
 use crate::opened::Opened;
@@ -37,17 +36,8 @@ pub fn run_file<'a, H: Threads + Wait + Sync, F: Files, R: Read, W: Write>(
 ) -> Result<RunOutcome, Failure<'a>>
     requires { stdout.old.failures < 2 ^ 64 - 1 }
     ensures input { TakesAtMost (limit.input + 1) (R.remaining stdin.old) (R.remaining stdin.new) }
-    ensures answer { RunsInto (Tells F.Output.contents)
-        (record {
-          path = file.now;
-          names = names_of file.entry records.now;
-          is_same = F.is_same files.old;
-          input = R.remaining stdin.old;
-          config = config.now;
-          records = records.now;
-        })
-        (record { files = F.content files.old; output = W.contents stdout.old.writer })
-        (record { files = F.content files.new; output = W.contents stdout.new.writer }) result }
+    ensures answer { RunsInto (Tells F.Output.contents) (run_of file.entry (F.is_same files.old) (R.remaining stdin.old) config.now records.now)
+        (host_of F.content W.contents files.old stdout.old) (host_of F.content W.contents files.new stdout.new) result }
     ensures unnamed { NamesNone records.now → files.new ≡ files.old }
 {
     if let Some((one, other)) = named_twice(alloc, file, records, files)? {
@@ -73,8 +63,8 @@ fn run_opened_file<'a, H: Threads + Wait + Sync, F: Files, W: Write>(
     requires same { AreSameRun opened }
     ensures answer { (symbols : SymbolLists) → IfSome opened.observed (λ observed. observed.symbols ≡ symbols)
         → Concludes (Tells F.Output.contents) records.now symbols
-        (record { files = F.content files.old; output = W.contents stdout.old.writer })
-        (record { files = F.content files.new; output = W.contents stdout.new.writer }) (point_of opened.start).setup result }
+        (host_of F.content W.contents files.old stdout.old) (host_of F.content W.contents files.new stdout.new)
+        (point_of opened.start).setup result }
     ensures unnamed { NamesNone records.now → files.new ≡ files.old }
 {
     one_history();

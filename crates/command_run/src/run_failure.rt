@@ -1,6 +1,7 @@
 //! What the faults of a run are to the user.
-ghost use Rattle.std.specs.Prelude.{◌≡◌};
+ghost use Rattle.std.specs.Prelude.{◌≡◌, is_some, true};
 ghost use Rattle.command_run.specs.Failure as spec;
+ghost use Rattle.command_run.specs.Failure.{IsStoppedBy};
 
 use command_requests::{Destination, Failure, Target};
 use runtime::{Interruption, Refusal};
@@ -16,19 +17,20 @@ pub(crate) fn failure_of_refusal<'a>(refusal: Refusal) -> Failure<'a>
     }
 }
 
-/// The failure of a run that was stopped so, and whose trace goes to this destination, where there is one.
+/// The failure of a run that was stopped so, and whose recorder writes to this destination. One that writes nowhere can't fail.
 pub(crate) fn failure_of_interruption<'a>(
     interruption: Interruption,
-    trace: Option<Destination<'a>>,
+    destination: Option<Destination<'a>>,
 ) -> Failure<'a>
-    ensures { result ≡ spec.failure_of_interruption trace.entry interruption }
+    requires { interruption ≡ Interruption.RecordFailed → is_some destination ≡ true }
+    ensures { IsStoppedBy destination.entry interruption result }
 {
     match interruption {
         Interruption::OutOfMemory => Failure::OutOfMemory,
         Interruption::WriteFailed => Failure::CannotWrite(Target::StandardOutput),
-        Interruption::RecordFailed => match trace {
-            Some(trace) => Failure::CannotWrite(trace.target()),
-            None => Failure::CannotWrite(Target::StandardOutput),
+        Interruption::RecordFailed => match destination {
+            Some(destination) => Failure::CannotWrite(destination.target()),
+            None => unreachable!(),
         },
     }
 }

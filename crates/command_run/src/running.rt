@@ -1,12 +1,14 @@
 //! The command `run`: opens a file and its input, and runs them to their end.
-ghost use Rattle.std.specs.Prelude.{◌≡◌, ◌⊎◌, ◌+◌, ◌-◌, ◌^◌, ◌<◌, [], IfErr, IfOk, is_some};
+ghost use Rattle.std.specs.Prelude.{◌≡◌, ◌⊎◌, ◌+◌, ◌-◌, ◌^◌, ◌<◌, [], IfErr, IfOk, is_some, true};
 ghost use Rattle.std.specs.Io.KnownBytes.{Appends};
+ghost use Rattle.output_files.specs.Content.{Content};
 ghost use Rattle.output_files.specs.Taken.{TakesAtMost};
 ghost use Rattle.run_limits.specs.Limits as limit;
 ghost use Rattle.runtime.specs.Recorded.{Ends};
-ghost use Rattle.runtime.specs.Sending.{SendsSoFar};
+ghost use Rattle.runtime.specs.Sending.{CountsFailures, SendsSoFar};
+ghost use Rattle.runtime.specs.declared.interruption.Interruption.TheVariants as stop;
 ghost use Rattle.token.specs.RunInTurn.{point_of};
-ghost use Rattle.command_outputs.specs.Recorders.{AreSame, AreTold};
+ghost use Rattle.command_outputs.specs.Recorders.{AreFor, AreSame, AreTold, Writes};
 ghost use Rattle.command_run.specs.Observing.{AreSameRun};
 ghost use Rattle.command_run.specs.Serves.{AreRun, AreOpenedFrom, IsOpenedFrom, IsRefused, IsStopped, IsUnrun};
 
@@ -29,7 +31,6 @@ use std::thread::Threads;
 use token::{IsWanted, Wanted};
 
 /// A run that was attempted: how it ended, or why it didn't, and what recorded its texts.
-#[derive(Drop)]
 pub struct RunAttempt<'a, O> {
     /// How it ended, and what it left.
     pub result: Result<RunEnd, Failure<'a>>,
@@ -104,7 +105,7 @@ pub fn open_bytes<'a>(
 }
 
 /// Does all turns of a run by so many host threads at most, puts its output out, and tells the recorders of its texts
-/// each turn. Its trace and its timeline go to their destinations, where there are.
+/// each turn. Its trace and its timeline go to their destinations, where there are. A lost flush counts as a failure of `stdout`.
 pub fn run_start<'a, H: Threads + Wait + Sync, O: Write, W: Write>(
     rt: &H,
     alloc: Global,
@@ -117,11 +118,13 @@ pub fn run_start<'a, H: Threads + Wait + Sync, O: Write, W: Write>(
     requires output { (point_of start).state.output ≡ [] }
     requires failures { stdout.old.failures < 2 ^ 64 - 1 }
     requires none { AreTold O.contents recorders [] [] }
+    requires wanted { AreFor records.now recorders }
     ensures ended { IfOk result.result (λ end. Ends (AreTold O.contents) (point_of start).setup end result.recorders) }
-    ensures same { IfOk result.result (λ _. AreSame recorders result.recorders) }
+    ensures same { AreSame recorders result.recorders }
     ensures sent { IfOk result.result (λ end. Appends (W.contents stdout.old.writer) (W.contents stdout.new.writer) end.output.items) }
-    ensures stopped { IfErr result.result (IsStopped records.now.trace records.now.timeline (point_of start).setup
-        (W.contents stdout.old.writer) (W.contents stdout.new.writer)) }
+    ensures stopped { IfErr result.result (λ failure. (files files' : Content) → IsStopped records.now.trace records.now.timeline (point_of start).setup
+        (record { files = files; output = W.contents stdout.old.writer; failures = stdout.old.failures })
+        (record { files = files'; output = W.contents stdout.new.writer; failures = stdout.new.failures }) failure) }
 {
     let run = run_wanted::<Brand, Brand, Brand, Brand, _, _, _>(
         rt, alloc, start, workers, recorders, stdout,
@@ -130,7 +133,10 @@ pub fn run_start<'a, H: Threads + Wait + Sync, O: Write, W: Write>(
     let result = match result {
         Ok(end) => match stdout.finish() {
             Ok(()) => Ok(end),
-            Err(_) => Err(Failure::CannotWrite(Target::StandardOutput)),
+            Err(_) => {
+                stdout.failures += 1;
+                Err(Failure::CannotWrite(Target::StandardOutput))
+            }
         },
         Err(interruption) => {
             let unwritten = unwritten_destination(records, &recorder);
@@ -148,11 +154,14 @@ fn unwritten_destination<'a, O: Write>(
     records: &Records<'a>,
     recorders: &TextRecorders<O>,
 ) -> Option<Destination<'a>>
-    ensures { (result ≡ records.now.trace) ⊎ (result ≡ records.now.timeline) }
+    requires { AreFor records.now recorders.now }
+    ensures among { (result ≡ records.now.trace) ⊎ (result ≡ records.now.timeline) }
+    ensures some { Writes recorders.now → is_some result ≡ true }
 {
-    match &recorders.timeline {
-        Some(timeline) if timeline.failure().is_some() => records.timeline,
-        _ => records.trace,
+    match (&recorders.timeline, records.trace) {
+        (Some(timeline), _) if timeline.failure().is_some() => records.timeline,
+        (_, None) => records.timeline,
+        (_, trace) => trace,
     }
 }
 
@@ -181,27 +190,46 @@ fn run_wanted<
     requires sharing { is_some recorders.sharing ≡ S.is_wanted }
     requires digest { is_some recorders.digest ≡ D.is_wanted }
     ensures ended { IfOk result.result (λ end. Ends (AreTold O.contents) (point_of start).setup end result.recorder) }
-    ensures same { IfOk result.result (λ _. AreSame recorders result.recorder) }
+    ensures same { AreSame recorders result.recorder }
     ensures sent { SendsSoFar (point_of start).setup result.result (W.contents stdout.old.writer) (W.contents stdout.new.writer) }
+    ensures failures { CountsFailures stop.WriteFailed result.result stdout.old.failures stdout.new.failures }
+    ensures writes { IfErr result.result (λ interruption. interruption ≡ stop.RecordFailed → Writes recorders) }
 {
+    let TextRecorders {
+        trace,
+        timeline,
+        sharing,
+        digest,
+    } = recorders;
     let all = Both {
-        first: Wanted::<T, _>::new(recorders.trace),
+        first: Wanted::<T, _>::new(trace),
         second: Both {
-            first: Wanted::<L, _>::new(recorders.timeline),
+            first: Wanted::<L, _>::new(timeline),
             second: Both {
-                first: Wanted::<S, _>::new(recorders.sharing),
-                second: Wanted::<D, _>::new(recorders.digest),
+                first: Wanted::<S, _>::new(sharing),
+                second: Wanted::<D, _>::new(digest),
             },
         },
     };
-    let run = run_opened(rt, alloc, start, workers, &OpenGate, stdout, all);
+    let RecordedRun { result, recorder } = run_opened(
+        rt, alloc, start, workers, &OpenGate, stdout, all,
+    );
+    let Both { first, second } = recorder;
+    let Both {
+        first: timeline,
+        second,
+    } = second;
+    let Both {
+        first: sharing,
+        second: digest,
+    } = second;
     RecordedRun {
-        result: run.result,
+        result,
         recorder: TextRecorders {
-            trace: run.recorder.first.recorder,
-            timeline: run.recorder.second.first.recorder,
-            sharing: run.recorder.second.second.first.recorder,
-            digest: run.recorder.second.second.second.recorder,
+            trace: first.into_recorder(),
+            timeline: timeline.into_recorder(),
+            sharing: sharing.into_recorder(),
+            digest: digest.into_recorder(),
         },
     }
 }

@@ -22,8 +22,8 @@ pub trait Files {
     // Whether two names, as they are written, are of one file, where that is known.
     ghost is_same: { Self → List ℕ → List ℕ → Option Bool } = { λ _ _ _. None };
 
-    /// A text that is not whole yet.
-    type Output: Write + Drop;
+    /// A text that is not whole yet. It can't be let go but by one of `finish`, `copy`, `abandon` and `abandon_aside`.
+    type Output: Write;
 
     /// The first `limit + 1` bytes of a file, or all where it has fewer.
     fn read(&self, alloc: Global, path: &str, limit: usize) -> Result<Vec<u8>, ReadFault>
@@ -67,4 +67,7 @@ pub trait Files {
     /// Takes a part away that was begun for the file at a path and is not wanted.
     fn abandon(&mut self, path: &str, output: Self::Output)
         ensures { KeepsButPart path.now (content self.old) (content self.new) };
+
+    /// Takes an output away that was begun for no file and is not wanted.
+    fn abandon_aside(&self, output: Self::Output);
 }

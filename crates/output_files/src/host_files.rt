@@ -116,18 +116,26 @@ impl<R: rt::Files + rt::Env + AllocGlobal> Files for HostFiles<'_, R> {
             End::Copy(target) => copy_text(&mut output.file, target),
             End::Aside => Ok(()),
         };
+        output.close();
         ended.map_err(|_| WriteFault::WriteFailed)
     }
 
     fn copy<W: Write>(&mut self, output: Self::Output, writer: &mut W) -> Result<(), WriteFault> {
         let mut output = output;
-        copy_text(&mut output.file, writer).map_err(|_| WriteFault::WriteFailed)
+        let copied = copy_text(&mut output.file, writer);
+        output.close();
+        copied.map_err(|_| WriteFault::WriteFailed)
     }
 
     fn abandon(&mut self, _path: &str, output: Self::Output) {
         if let End::Replace { part, .. } = &output.end {
             let _ = fs::remove_file(self.host, part.as_str());
         }
+        output.close();
+    }
+
+    fn abandon_aside(&self, output: Self::Output) {
+        output.close();
     }
 }
 

@@ -13,11 +13,20 @@ pub(crate) enum End<F> {
     Aside,
 }
 
-/// A text that is written to a file of the host, and isn't whole yet.
-#[derive(Drop)]
+/// A text that is written to a file of the host, and isn't whole yet. It is not `Drop`, so that no part is left by mistake.
 pub struct HostOutput<F> {
     pub(crate) file: F,
     pub(crate) end: End<F>,
+}
+
+impl<F: Drop> HostOutput<F> {
+    /// Closes its file, and leaves what it holds.
+    pub(crate) fn close(self) {
+        let HostOutput {
+            file: _file,
+            end: _end,
+        } = self;
+    }
 }
 
 impl<F: Write> Write for HostOutput<F> {

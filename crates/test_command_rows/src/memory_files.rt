@@ -177,6 +177,8 @@ impl Files for MemoryFiles {
     fn abandon(&mut self, path: &str, _output: MemoryOutput) {
         self.note_part(path, false);
     }
+
+    fn abandon_aside(&self, _output: MemoryOutput) {}
 }
 
 /// The first name of a file that may be given by its second one.

@@ -105,4 +105,6 @@ impl Files for MemoryFiles<'_> {
     }
 
     fn abandon(&mut self, _path: &str, _output: Vec<u8>) {}
+
+    fn abandon_aside(&self, _output: Vec<u8>) {}
 }

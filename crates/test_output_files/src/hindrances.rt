@@ -2,8 +2,8 @@
 
 use crate::fakes::LosingWriter;
 use crate::host_files::{empty_folder, path_in};
+use crate::outputs::{aside_with, begun_with, refusal};
 use output_files::{FileName, Files, HostFiles, WriteFault};
-use std::io::Write;
 use std::os::unix::fs::{PermissionsExt, symlink};
 use std::test::Fail;
 use std::{env, fs};
@@ -11,8 +11,7 @@ use std::{env, fs};
 #[test]
 fn a_copy_that_is_lost_by_its_flush_is_a_failure(rt: HostRuntime) -> Result<(), Fail> {
     let mut files = HostFiles::new(&rt);
-    let mut output = files.begin_aside()?;
-    output.write_all(b"a text")?;
+    let output = aside_with(&rt, &[b"a text"])?;
     let copied = files.copy(output, &mut LosingWriter);
     assert_eq!(rt; copied, Err(WriteFault::WriteFailed));
     Ok(())
@@ -21,8 +20,7 @@ fn a_copy_that_is_lost_by_its_flush_is_a_failure(rt: HostRuntime) -> Result<(), 
 /// The file of a program that runs can't be opened for a write, whoever asks.
 #[test]
 fn a_file_that_cannot_be_written_is_not_replaced(rt: HostRuntime) {
-    let mut files = HostFiles::new(&rt);
-    let begun = files.begin(rt.alloc(), "/proc/self/exe").err();
+    let begun = refusal(&rt, "/proc/self/exe");
     assert_eq!(rt; begun, Some(WriteFault::WriteFailed));
 }
 
@@ -34,8 +32,7 @@ fn a_part_that_is_a_link_is_not_written_through(rt: HostRuntime) -> Result<(), F
     let other = path_in(&rt, &folder, "other")?;
     fs::write(&rt, &other, "kept")?;
     symlink(&rt, "other", &path_in(&rt, &folder, "trace.part")?)?;
-    let mut output = files.begin(rt.alloc(), path.as_str())?;
-    output.write_all(b"a text")?;
+    let output = begun_with(&rt, path.as_str(), b"a text")?;
     files.finish(path.as_str(), output)?;
     assert!(rt; fs::read(&rt, &other)?.as_slice() == b"kept".as_slice());
     assert!(rt; fs::read(&rt, &path)?.as_slice() == b"a text".as_slice());
@@ -48,10 +45,10 @@ fn a_text_that_cannot_take_its_place_stays_in_its_part(rt: HostRuntime) -> Resul
     let folder = empty_folder(&rt, "dthreads-stays")?;
     let mut files = HostFiles::new(&rt);
     let path = path_in(&rt, &folder, "trace")?;
-    let mut output = files.begin(rt.alloc(), path.as_str())?;
-    output.write_all(b"a text")?;
-    fs::create_dir(&rt, &path)?;
+    let output = begun_with(&rt, path.as_str(), b"a text")?;
+    let made = fs::create_dir(&rt, &path);
     let finished = files.finish(path.as_str(), output);
+    made?;
     assert_eq!(rt; finished, Err(WriteFault::WriteFailed));
     let part = path_in(&rt, &folder, "trace.part")?;
     assert!(rt; fs::read(&rt, &part)?.as_slice() == b"a text".as_slice());
@@ -95,10 +92,11 @@ fn absolute_links_over_one_another(rt: HostRuntime) -> Result<(), Fail> {
     }
     let (one, other) = (FileName::At(none.as_str()), FileName::At(last.as_str()));
     assert!(rt; files.is_one_file(rt.alloc(), one, other)?);
-    let mut output = files.begin(rt.alloc(), last.as_str())?;
-    output.write_all(b"a text")?;
-    assert!(rt; fs::exists(&rt, &path_in(&rt, &folder, "none.part")?)?);
+    let part = path_in(&rt, &folder, "none.part")?;
+    let output = begun_with(&rt, last.as_str(), b"a text")?;
+    let is_part = fs::exists(&rt, &part);
     files.finish(last.as_str(), output)?;
+    assert!(rt; is_part?);
     assert!(rt; fs::read(&rt, &none)?.as_slice() == b"a text".as_slice());
     assert!(rt; fs::symlink_metadata(&rt, &last)?.is_symlink());
     fs::remove_dir_all(&rt, &folder)?;
@@ -117,8 +115,7 @@ fn one_name_in_two_folders(rt: HostRuntime) -> Result<(), Fail> {
     let names = (FileName::At(one.as_str()), FileName::At(other.as_str()));
     assert!(rt; !files.is_one_file(rt.alloc(), names.0, names.1)?);
     for path in [&one, &other] {
-        let mut output = files.begin(rt.alloc(), path.as_str())?;
-        output.write_all(path.as_bytes())?;
+        let output = begun_with(&rt, path.as_str(), path.as_bytes())?;
         files.finish(path.as_str(), output)?;
     }
     for path in [&one, &other] {
@@ -137,11 +134,11 @@ fn a_text_aside_is_beside_leftovers_and_has_no_name(rt: HostRuntime) -> Result<(
     let _ = fs::remove_file(&rt, &second);
     fs::write(&rt, &first, "another run's")?;
     let mut files = HostFiles::new(&rt);
-    let mut output = files.begin_aside()?;
-    assert!(rt; !fs::exists(&rt, &second)?);
-    output.write_all(b"a text")?;
+    let output = aside_with(&rt, &[b"a text"])?;
+    let is_second = fs::exists(&rt, &second);
     let mut copy = Vec::new(rt.alloc());
     files.copy(output, &mut copy)?;
+    assert!(rt; !is_second?);
     assert!(rt; copy.as_slice() == b"a text".as_slice());
     assert!(rt; fs::read(&rt, &first)?.as_slice() == b"another run's".as_slice());
     fs::remove_file(&rt, &first)?;
@@ -166,13 +163,18 @@ fn opened(rt: &HostRuntime, start: &str, end: &str) -> Result<Option<String>, Fa
 fn a_text_aside_is_its_owners_alone(rt: HostRuntime) -> Result<(), Fail> {
     let mut start = env::temp_dir(&rt)?;
     start.push("dthreads-")?;
-    let output = HostFiles::new(&rt).begin_aside()?;
-    let path = opened(&rt, start.into_string().as_str(), " (deleted)")?;
-    let mode = match &path {
-        Some(path) => fs::metadata(&rt, path)?.permissions().mode() % 0o1000,
-        None => 0,
-    };
-    assert_eq!(rt; mode, 0o600);
-    drop(output);
+    let output = aside_with(&rt, &[])?;
+    let found = opened(&rt, start.into_string().as_str(), " (deleted)");
+    let mode = mode_of(&rt, found);
+    HostFiles::new(&rt).abandon_aside(output);
+    assert_eq!(rt; mode?, 0o600);
     Ok(())
+}
+
+/// The permissions of the file that a link leads to, none if there is no link.
+fn mode_of(rt: &HostRuntime, link: Result<Option<String>, Fail>) -> Result<u32, Fail> {
+    match link? {
+        Some(path) => Ok(fs::metadata(rt, &path)?.permissions().mode() % 0o1000),
+        None => Ok(0),
+    }
 }

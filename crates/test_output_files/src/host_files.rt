@@ -1,9 +1,9 @@
 //! Files and folders that each host has, and files of a folder of the test's own.
 
+use crate::outputs::{aside_with, begun_with, refusal};
 use output_files::{FileName, Files, HostFiles, ReadFault, WriteFault};
 use std::alloc::AllocError;
 use std::fs::Permissions;
-use std::io::Write;
 use std::os::unix::fs::{PermissionsExt, symlink};
 use std::path::PathBuf;
 use std::test::Fail;
@@ -30,7 +30,6 @@ fn files_are_read_and_folders_are_not(rt: HostRuntime) -> Result<(), Fail> {
 
 #[test]
 fn what_cannot_be_written_is_found_at_once(rt: HostRuntime) -> Result<(), Fail> {
-    let mut files = HostFiles::new(&rt);
     for path in [
         "/",
         "/dev",
@@ -41,7 +40,7 @@ fn what_cannot_be_written_is_found_at_once(rt: HostRuntime) -> Result<(), Fail> 
         "..",
         "no such folder/",
     ] {
-        let begun = files.begin(rt.alloc(), path).err();
+        let begun = refusal(&rt, path);
         assert_eq!(rt; begun, Some(WriteFault::WriteFailed), "at {path:?}");
     }
     Ok(())
@@ -50,11 +49,9 @@ fn what_cannot_be_written_is_found_at_once(rt: HostRuntime) -> Result<(), Fail> 
 #[test]
 fn a_device_gets_its_text_at_the_end(rt: HostRuntime) -> Result<(), Fail> {
     let mut files = HostFiles::new(&rt);
-    let mut output = files.begin(rt.alloc(), "/dev/null")?;
-    output.write_all(b"text")?;
+    let output = begun_with(&rt, "/dev/null", b"text")?;
     files.finish("/dev/null", output)?;
-    let mut output = files.begin(rt.alloc(), "/dev/full")?;
-    output.write_all(b"text")?;
+    let output = begun_with(&rt, "/dev/full", b"text")?;
     let finished = files.finish("/dev/full", output);
     assert_eq!(rt; finished, Err(WriteFault::WriteFailed));
     Ok(())
@@ -63,9 +60,7 @@ fn a_device_gets_its_text_at_the_end(rt: HostRuntime) -> Result<(), Fail> {
 #[test]
 fn an_output_aside_is_copied(rt: HostRuntime) -> Result<(), Fail> {
     let mut files = HostFiles::new(&rt);
-    let mut output = files.begin_aside()?;
-    output.write_all(b"a text")?;
-    output.write_all(b" in pieces")?;
+    let output = aside_with(&rt, &[b"a text", b" in pieces"])?;
     let mut copy = Vec::new(rt.alloc());
     files.copy(output, &mut copy)?;
     assert!(rt; copy.as_slice() == b"a text in pieces".as_slice());
@@ -99,21 +94,21 @@ fn a_file_is_replaced_at_the_end(rt: HostRuntime) -> Result<(), Fail> {
     fs::write(&rt, &path, "an old and longer text")?;
     fs::set_permissions(&rt, &path, Permissions::from_mode(0o640))?;
     fs::write(&rt, &part, "what an interrupt left, longer still")?;
-    let mut output = files.begin(rt.alloc(), path.as_str())?;
-    output.write_all(b"a new text")?;
-    output.flush()?;
-    assert!(rt; fs::read(&rt, &part)?.as_slice() == b"a new text".as_slice());
-    assert!(rt; fs::read(&rt, &path)?.as_slice() == b"an old and longer text".as_slice());
+    let output = begun_with(&rt, path.as_str(), b"a new text")?;
+    let (in_part, in_place) = (fs::read(&rt, &part), fs::read(&rt, &path));
     files.finish(path.as_str(), output)?;
+    assert!(rt; in_part?.as_slice() == b"a new text".as_slice());
+    assert!(rt; in_place?.as_slice() == b"an old and longer text".as_slice());
     assert!(rt; fs::read(&rt, &path)?.as_slice() == b"a new text".as_slice());
     assert_eq!(rt;
         fs::metadata(&rt, &path)?.permissions().mode() % 0o1000,
         0o640
     );
     assert!(rt; !fs::exists(&rt, &part)?);
-    let output = files.begin(rt.alloc(), path.as_str())?;
-    assert!(rt; fs::exists(&rt, &part)?);
+    let output = begun_with(&rt, path.as_str(), b"")?;
+    let is_part = fs::exists(&rt, &part);
     files.abandon(path.as_str(), output);
+    assert!(rt; is_part?);
     assert!(rt; !fs::exists(&rt, &part)?);
     fs::remove_dir_all(&rt, &folder)?;
     Ok(())
@@ -128,10 +123,11 @@ fn a_link_stays_and_its_target_is_replaced(rt: HostRuntime) -> Result<(), Fail> 
     symlink(&rt, "second", &link)?;
     symlink(&rt, "target", &path_in(&rt, &folder, "second")?)?;
     for text in ["a text where there was none", "a new text"] {
-        let mut output = files.begin(rt.alloc(), link.as_str())?;
-        output.write_all(text.as_bytes())?;
-        assert!(rt; fs::exists(&rt, &path_in(&rt, &folder, "target.part")?)?);
+        let part = path_in(&rt, &folder, "target.part")?;
+        let output = begun_with(&rt, link.as_str(), text.as_bytes())?;
+        let is_part = fs::exists(&rt, &part);
         files.finish(link.as_str(), output)?;
+        assert!(rt; is_part?);
         assert!(rt;
             fs::read(&rt, &target)?.as_slice() == text.as_bytes(),
             "at {text}"
@@ -140,7 +136,7 @@ fn a_link_stays_and_its_target_is_replaced(rt: HostRuntime) -> Result<(), Fail> 
     }
     let around = path_in(&rt, &folder, "around")?;
     symlink(&rt, "around", &around)?;
-    let begun = files.begin(rt.alloc(), around.as_str()).err();
+    let begun = refusal(&rt, around.as_str());
     assert_eq!(rt; begun, Some(WriteFault::WriteFailed));
     fs::remove_dir_all(&rt, &folder)?;
     Ok(())

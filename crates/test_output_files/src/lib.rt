@@ -8,6 +8,8 @@ mod hindrances;
 #[cfg(test)]
 mod host_files;
 #[cfg(test)]
+mod outputs;
+#[cfg(test)]
 mod reading;
 #[cfg(test)]
 mod write_fault;

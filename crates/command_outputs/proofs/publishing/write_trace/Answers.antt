@@ -6,7 +6,7 @@ use Rattle.command_outputs.proofs.publishing.write_trace.Goals as goal
 
 pub returns-in-Ok-clause-put : goal.returns-in-Ok-clause-put
 returns-in-Ok-clause-put g c =
-    published g.F.Output.Write.contents c.publish.result c.args.destination c.in-Some-destination.destination c.args.recorder c.in-Some.recorder c.into_writer.result
+    published g.F.Output.Write.contents c.publish.result c.args.destination c.in-Some.destination c.args.recorder c.in-Some-recorder.recorder c.into_writer.result
     (λ destination text. IsPut (Tells g.F.Output.Write.contents) destination text (g.F.Files.content c.publish.new.files) (g.W.Write.contents c.args.writer.now) (g.W.Write.contents c.publish.new.writer))
-    c.in-Some-destination.is c.in-Some.is
+    c.in-Some.is c.in-Some-recorder.is
     (rw (sym c.into_writer.ensures) at c.in-Ok.ensures.whole) c.publish.ensures.put

@@ -10,7 +10,7 @@ pub returns-in_err-trace-clause-answer : goal.returns-in_err-trace-clause-answer
 returns-in_err-trace-clause-answer g c =
     λ symbols names.
     concludes_unbegun (Tells g.F.Output.Write.contents) c.args.records.now symbols (point_of c.args.opened.start).setup
-    (g.F.Files.content c.args.files.now) (g.F.Files.content c.begin.new.files) (g.W.Write.contents c.args.stdout.now.writer) _ _
+    (g.F.Files.content c.args.files.now) (g.F.Files.content c.begin.new.files) (g.W.Write.contents c.args.stdout.now.writer) c.args.stdout.now.failures _ _
     c.in_err-trace.ensures.kept c.in_err-trace.ensures.failed c.from_residual.ensures.1
 
 pub returns-in_err-write_records-in-Ok-race_text-clause-answer : goal.returns-in_err-write_records-in-Ok-race_text-clause-answer
@@ -18,8 +18,8 @@ returns-in_err-write_records-in-Ok-race_text-clause-answer g c =
     λ symbols names.
     concludes_left_out (AreTold g.F.Output.Write.contents) (Tells g.F.Output.Write.contents) c.args.records.now symbols (point_of c.args.opened.start).setup c.in-Ok.end
     (string_bytes c.in-Ok-race_text.races) c.run_start-result.result.recorders
-    (record { files = g.F.Files.content c.args.files.now; output = g.W.Write.contents c.args.stdout.now.writer })
-    (record { files = g.F.Files.content c.write_records.new.files; output = g.W.Write.contents c.write_records.new.writer })
+    (record { files = g.F.Files.content c.args.files.now; output = g.W.Write.contents c.args.stdout.now.writer; failures = c.args.stdout.now.failures })
+    (record { files = g.F.Files.content c.write_records.new.files; output = g.W.Write.contents c.write_records.new.writer; failures = c.run_start-result.new.stdout.failures })
     (g.F.Files.content c.begin.new.files) (g.W.Write.contents c.run_start-result.new.stdout.writer)
     (rw c.in-Ok.is at c.run_start-result.ensures.ended)
     (wanted_races c.args.records.now symbols c.args.opened (string_bytes c.in-Ok-race_text.races) c.requires.wanted c.requires.same names c.in-Ok-race_text.ensures.races)
@@ -31,8 +31,8 @@ returns-in_ok-write_records-in-Ok-race_text-clause-answer g c =
     λ symbols names.
     concludes_well (AreTold g.F.Output.Write.contents) (Tells g.F.Output.Write.contents) c.args.records.now symbols (point_of c.args.opened.start).setup c.in-Ok.end
     (string_bytes c.in-Ok-race_text.races) c.run_start-result.result.recorders
-    (record { files = g.F.Files.content c.args.files.now; output = g.W.Write.contents c.args.stdout.now.writer })
-    (record { files = g.F.Files.content c.write_records.new.files; output = g.W.Write.contents c.write_records.new.writer })
+    (record { files = g.F.Files.content c.args.files.now; output = g.W.Write.contents c.args.stdout.now.writer; failures = c.args.stdout.now.failures })
+    (record { files = g.F.Files.content c.write_records.new.files; output = g.W.Write.contents c.write_records.new.writer; failures = c.run_start-result.new.stdout.failures })
     (g.F.Files.content c.begin.new.files) (g.W.Write.contents c.run_start-result.new.stdout.writer)
     (rw c.in-Ok.is at c.run_start-result.ensures.ended)
     (wanted_races c.args.records.now symbols c.args.opened (string_bytes c.in-Ok-race_text.races) c.requires.wanted c.requires.same names c.in-Ok-race_text.ensures.races)
@@ -45,8 +45,8 @@ returns-in-Err-race_text-clause-answer g c =
     λ symbols names.
     concludes_refused (AreTold g.F.Output.Write.contents) (Tells g.F.Output.Write.contents) c.args.records.now symbols (point_of c.args.opened.start).setup c.in-Ok.end
     c.run_start-result.result.recorders
-    (record { files = g.F.Files.content c.args.files.now; output = g.W.Write.contents c.args.stdout.now.writer })
-    (record { files = g.F.Files.content c.abandon_all.new.files; output = g.W.Write.contents c.run_start-result.new.stdout.writer })
+    (record { files = g.F.Files.content c.args.files.now; output = g.W.Write.contents c.args.stdout.now.writer; failures = c.args.stdout.now.failures })
+    (record { files = g.F.Files.content c.abandon_all.new.files; output = g.W.Write.contents c.run_start-result.new.stdout.writer; failures = c.run_start-result.new.stdout.failures })
     c.in-Err-race_text.failure (rw c.in-Ok.is at c.run_start-result.ensures.ended) c.in-Err-race_text.ensures.failed (rw c.in-Ok.is at c.run_start-result.ensures.sent)
     (but_parts_twice c.args.records.now (g.F.Files.content c.args.files.now) (g.F.Files.content c.begin.new.files) (g.F.Files.content c.abandon_all.new.files)
     c.in_ok-trace.ensures.kept c.abandon_all.ensures.kept)
@@ -55,7 +55,7 @@ pub returns-in-Err-clause-answer : goal.returns-in-Err-clause-answer
 returns-in-Err-clause-answer g c =
     λ symbols names.
     inl (
-      inr (rw c.in-Err.is at c.run_start-result.ensures.stopped),
+      inr ((rw c.in-Err.is at c.run_start-result.ensures.stopped) (g.F.Files.content c.args.files.now) (g.F.Files.content c.abandon_all-in-Err.new.files)),
       but_parts_twice c.args.records.now (g.F.Files.content c.args.files.now) (g.F.Files.content c.begin.new.files) (g.F.Files.content c.abandon_all-in-Err.new.files)
           c.in_ok-trace.ensures.kept c.abandon_all-in-Err.ensures.kept,
     )

@@ -1,4 +1,4 @@
-use Rattle.std.proofs.Common.{inl, inr, refl}
+use Rattle.std.proofs.Common.{◌∙◌, ◌+◌, ap, inl, inr, refl}
 use Rattle.std.proofs.KnownBytes.{Appends-kept}
 use Rattle.token.specs.RunInTurn.{point_of}
 use Rattle.command_outputs.specs.Recorders.{AreTold}
@@ -10,13 +10,17 @@ use Rattle.command_run.proofs.running.run_start.Goals.{in-Ok+in-Ok-finish, in-Ok
 pub returns-clause-stopped : goal.returns-clause-stopped
 returns-clause-stopped g c = elim c.match-result.branch [
   | in-Ok+in-Ok-finish w ↦ rw w.result-is tt
-  | in-Ok+in-Err-finish w ↦ rw (w.result-is, w.stdout-is) (
-    inr (inl refl),
+  | in-Ok+in-Err-finish w ↦ rw (w.result-is, w.stdout-is) λ files files'. (
+    inr (inl (refl, ap (λ failures. failures + 1) (w.finish.ensures.others.0 ∙ rw w.in-Ok.is at c.run_wanted-run.ensures.failures))),
     all_sent (AreTold g.O.Write.contents) (point_of c.args.start).setup w.in-Ok.end c.run_wanted-run.result.recorder _ _
         (rw w.in-Ok.is at c.run_wanted-run.ensures.ended) (Appends-kept _ _ _ _ (rw w.in-Ok.is at c.run_wanted-run.ensures.sent) w.finish.ensures.bytes),
   )
-  | in-Err w ↦ rw (w.result-is, w.stdout-is, w.failure_of_interruption.ensures)
-      (stopped_by c.args.records.now.trace c.args.records.now.timeline w.unwritten_destination-unwritten.result (point_of c.args.start).setup w.in-Err.interruption _ _ w.unwritten_destination-unwritten.ensures (rw w.in-Err.is at c.run_wanted-run.ensures.sent))
+  | in-Err w ↦ rw (w.result-is, w.stdout-is) λ files files'.
+      stopped_by c.args.records.now.trace c.args.records.now.timeline w.unwritten_destination-unwritten.result (point_of c.args.start).setup w.in-Err.interruption
+      w.failure_of_interruption.result
+      (record { files = files; output = g.W.Write.contents c.args.stdout.now.writer; failures = c.args.stdout.now.failures })
+      (record { files = files'; output = g.W.Write.contents c.run_wanted-run.new.stdout.writer; failures = c.run_wanted-run.new.stdout.failures })
+      w.unwritten_destination-unwritten.ensures.among w.failure_of_interruption.ensures (rw w.in-Err.is at c.run_wanted-run.ensures.failures) (rw w.in-Err.is at c.run_wanted-run.ensures.sent)
 ]
 
 -- the last flush kept what was put out
