@@ -14,7 +14,7 @@ WIDTH, WHOLE = 78, {"break_long_words": False, "break_on_hyphens": False}
 # The column of a table whose cells need no name.
 PLAIN = "meaning"
 # Where the program's version is, and the day of that version.
-VERSION, DATE = "crates/command_requests/src/command_line.rt", "2026-11-26"
+VERSION, DATE = "crates/command_requests/src/commands.rt", "2026-11-26"
 
 HEAD = r'''.\" Written by tools/dt write pages from docs/CLI.md.
 .TH DTHREADS 1 "{date}" "dthreads {version}" "User Commands"

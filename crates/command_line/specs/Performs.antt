@@ -7,10 +7,11 @@ use Rattle.run_limits.specs.Limits as limit
 use Rattle.output_files.specs.Content.{Content}
 use Rattle.runtime.specs.declared.config.Config.{Config}
 use Rattle.token.specs.declared.outcome.RunOutcome.{RunOutcome}
+use Rattle.command_requests.specs.Asked.{IsAsked}
 use Rattle.command_requests.specs.Names.{Sameness}
 use Rattle.command_requests.specs.Reading.{AreRead, IsUnreadAt}
 use Rattle.command_requests.specs.Status.{failure_status}
-use Rattle.command_requests.specs.Unasked.{IsUnaskedStatus, KeepsUnlessHelp}
+use Rattle.command_requests.specs.Unasked.{IsUnasked, KeepsUnlessHelp}
 use Rattle.command_requests.specs.declared.failure.Failure.{Failure}
 use Rattle.command_requests.specs.declared.numbers.Numbers.{Numbers}
 use Rattle.command_requests.specs.declared.request.Request.{Request}
@@ -77,8 +78,9 @@ PerformsOne tells found (Disasm file) after status =
     × (after.files ≡ found.host.files)
 PerformsOne tells found (Debug file named numbers turn) after status = after.files ≡ found.host.files
 
--- Some request was performed; or none was made, nothing but help or the version was printed, and no file has changed.
-abbrev pub Performs : Type 0 → Found → Host → ℕ → Type 0
-Performs tells found after status =
-    ((request : Request) × PerformsOne tells found request after status)
-    ⊎ (IsUnaskedStatus status × KeepsUnlessHelp status found.host.output after.output × (after.files ≡ found.host.files))
+-- The request that the words ask for, of which the first is the program's name, was performed; or they ask for none, nothing but help or the
+-- version was printed, and no file has changed.
+abbrev pub Performs : Type 0 → List (List ℕ) → Found → Host → ℕ → Type 0
+Performs tells words found after status =
+    ((request : Request) × IsAsked words request × PerformsOne tells found request after status)
+    ⊎ (IsUnasked words status × KeepsUnlessHelp status found.host.output after.output × (after.files ≡ found.host.files))

@@ -1,5 +1,5 @@
 //! Performs the arguments of a command line over any files and streams, and gives the status.
-ghost use Rattle.std.specs.Prelude.{◌⊎◌, ◌+◌, ◌-◌, ◌^◌, ◌<◌};
+ghost use Rattle.std.specs.Prelude.{◌⊎◌, ◌+◌, ◌-◌, ◌^◌, ◌<◌, map};
 ghost use Rattle.output_files.specs.Content.{Tells};
 ghost use Rattle.output_files.specs.Taken.{TakesAtMost};
 ghost use Rattle.run_limits.specs.Limits as limit;
@@ -34,7 +34,7 @@ pub fn perform<H: Threads + Wait + Sync, S: AsStr, F: Files, R: Read + Send, W: 
     stderr: &mut E,
 ) -> u8
     requires { stdout.old.failures < 2 ^ 64 - 1 }
-    ensures { Performs (Tells F.Output.contents)
+    ensures { Performs (Tells F.Output.contents) (map S.text arguments.now)
         (found_of (host_of F.content W.contents files.old stdout.old) (F.is_same files.old) (R.remaining stdin.old))
         (host_of F.content W.contents files.new stdout.new) result }
 {

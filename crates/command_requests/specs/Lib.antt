@@ -1,3 +1,5 @@
+pub mod Asked
+pub mod Commands
 pub mod Destination
 pub mod Names
 pub mod Reading

@@ -1,9 +1,27 @@
 -- What arguments that make no request come to.
-use Rattle.std.specs.Prelude.{◌≡◌, ◌≢◌, ◌⊎◌, ℕ, Option, List}
+use Rattle.std.specs.Prelude.{◌≡◌, ◌≢◌, ◌⊎◌, ℕ, Option, List, ◌∷◌}
+use Rattle.clap.specs.Faults.{fault_of}
+use Rattle.clap.specs.Kinds.{IsAmong, Kinds}
+use Rattle.clap.specs.Words.{Text}
+use Rattle.clap.specs.declared.error.kind.ErrorKind.{ErrorKind}
+use Rattle.clap.specs.declared.error.kind.ErrorKind.TheVariants.{DisplayHelp, DisplayVersion, MissingSubcommand, OutOfMemory}
+use Rattle.command_requests.specs.Commands.{program}
 
--- a status after arguments that make no request: help or the version was printed or couldn't be, memory ran out, or the arguments are wrong
-abbrev pub IsUnaskedStatus : ℕ → Type 0
-IsUnaskedStatus status = (status ≡ 0) ⊎ ((status ≡ 124) ⊎ ((status ≡ 125) ⊎ (status ≡ 2)))
+-- the status after an error of this kind: memory ran out; help or the version was printed, or couldn't be; or the arguments are wrong
+pub record IsStatusOf (kind : ErrorKind) (status : ℕ) : Type 0 where
+  pub memory : kind ≡ OutOfMemory → status ≡ 125
+  pub help : kind ≡ DisplayHelp → (status ≡ 0) ⊎ (status ≡ 124)
+  pub version : kind ≡ DisplayVersion → (status ≡ 0) ⊎ (status ≡ 124)
+  pub wrong : kind ≢ OutOfMemory → kind ≢ DisplayHelp → kind ≢ DisplayVersion → status ≡ 2
+
+-- the kinds of error that words may make, of which the first is the program's name: those of the parser, or that a command or what it needs
+-- isn't there
+abbrev pub faults : List Text → Kinds
+faults words = MissingSubcommand ∷ fault_of program words
+
+-- The status after words that make no request: memory ran out, or they are refused, and it is the status after an error that they make.
+abbrev pub IsUnasked : List Text → ℕ → Type 0
+IsUnasked words status = (kind : ErrorKind) × ((kind ≡ OutOfMemory) ⊎ IsAmong kind (faults words)) × IsStatusOf kind status
 
 -- standard output is as it was, unless help or the version was to be printed
 abbrev pub KeepsUnlessHelp : ℕ → (old new : Option (List ℕ)) → Type 0

@@ -1,8 +1,9 @@
 //! What the arguments of a command line ask for, or the line and the status if they ask for nothing.
-ghost use Rattle.std.specs.Prelude.{◌≡◌, IfErr, IfOk};
-ghost use Rattle.command_requests.specs.Unasked.{IsUnaskedStatus, KeepsUnlessHelp};
+ghost use Rattle.std.specs.Prelude.{◌≡◌, IfErr, IfOk, map};
+ghost use Rattle.command_requests.specs.Asked.{IsAsked};
+ghost use Rattle.command_requests.specs.Unasked.{IsUnasked, KeepsUnlessHelp};
 
-use crate::command_line::parse;
+use crate::parsing::parse;
 use crate::refusing::refuse;
 use crate::request::Request;
 use std::alloc::Global;
@@ -17,8 +18,9 @@ pub fn asked<'a, S: AsStr, W: Write, E: Write>(
     stdout: &mut W,
     stderr: &mut E,
 ) -> Result<Request<'a>, u8>
-    ensures asked { IfOk result (λ _. stdout.new ≡ stdout.old) }
-    ensures status { IfErr result IsUnaskedStatus }
+    ensures asked { IfOk result (IsAsked (map S.text arguments.entry.now)) }
+    ensures kept { IfOk result (λ _. stdout.new ≡ stdout.old) }
+    ensures status { IfErr result (IsUnasked (map S.text arguments.entry.now)) }
     ensures output { IfErr result (λ status. KeepsUnlessHelp status (W.contents stdout.old) (W.contents stdout.new)) }
 {
     match parse(alloc, arguments) {

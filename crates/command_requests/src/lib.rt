@@ -3,12 +3,14 @@
 
 mod arguments;
 mod asking;
-mod command_line;
+mod commands;
 mod destination;
 mod failing;
 mod failure;
 mod naming;
 mod numbers;
+mod parameters;
+mod parsing;
 mod printing;
 mod records;
 mod refusing;

@@ -1,7 +1,7 @@
 //! What is told of arguments that make no request.
-ghost use Rattle.std.specs.Prelude.{◌≡◌, ◌≢◌, ◌⊎◌};
+ghost use Rattle.std.specs.Prelude.{◌≡◌};
 ghost use Rattle.clap.specs.Values.{kind_of};
-ghost use Rattle.command_requests.specs.Unasked.{IsUnaskedStatus, KeepsUnlessHelp};
+ghost use Rattle.command_requests.specs.Unasked.{IsStatusOf, KeepsUnlessHelp};
 
 use crate::failing::fail;
 use crate::failure::Failure;
@@ -16,12 +16,7 @@ const WRONG_ARGUMENTS: u8 = 2;
 
 /// Answers arguments that make no request: with help where they ask for it, and else with what is wrong.
 pub(crate) fn refuse<W: Write, E: Write>(error: &Error, stdout: &mut W, stderr: &mut E) -> u8
-    ensures memory { kind_of error.now ≡ ErrorKind.OutOfMemory → result ≡ 125 }
-    ensures help { (kind_of error.now ≡ ErrorKind.DisplayHelp) → (result ≡ 0) ⊎ (result ≡ 124) }
-    ensures version { (kind_of error.now ≡ ErrorKind.DisplayVersion) → (result ≡ 0) ⊎ (result ≡ 124) }
-    ensures wrong { kind_of error.now ≢ ErrorKind.OutOfMemory → kind_of error.now ≢ ErrorKind.DisplayHelp
-        → kind_of error.now ≢ ErrorKind.DisplayVersion → result ≡ WRONG_ARGUMENTS }
-    ensures status { IsUnaskedStatus result }
+    ensures status { IsStatusOf (kind_of error.now) result }
     ensures output { KeepsUnlessHelp result (W.contents stdout.old) (W.contents stdout.new) }
 {
     if error.kind() == ErrorKind::OutOfMemory {

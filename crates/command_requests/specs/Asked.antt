@@ -1,0 +1,74 @@
+-- What the words of a command line ask for, by the values that the parser finds for the arguments of a command.
+use Rattle.std.specs.Prelude.{◌≡◌, ◌^◌, ◌<◌, ℕ, List, [], Option, Some, None, codes, option_map}
+use Rattle.std.specs.Borrow.{Bor}
+use Rattle.std.specs.Str.Parse.{IsNumeral, digits_value, without_leading_plus}
+use Rattle.clap.specs.Faults.{fault_of}
+use Rattle.clap.specs.Words.{Row, Text, first_of, one_of, subcommand_of}
+use Rattle.command_requests.specs.Commands.{program}
+use Rattle.command_requests.specs.Destination.{destination_of}
+use Rattle.command_requests.specs.declared.destination.Destination.{Destination}
+use Rattle.command_requests.specs.declared.numbers.Numbers.{Numbers}
+use Rattle.command_requests.specs.declared.records.Records.{Records}
+use Rattle.command_requests.specs.declared.request.Request.{Request}
+use Rattle.command_requests.specs.declared.request.Request.TheVariants.{Run, Debug, Disasm, Replay}
+
+-- the text is a number of so many bits in decimal digits
+abbrev pub IsNumber : ℕ → Text → Type 0
+IsNumber bits text = IsNumeral 10 (without_leading_plus text) × (digits_value 10 (without_leading_plus text) < 2 ^ bits)
+
+-- the number that a text says, where there is one that says one
+abbrev pub IsRead : ℕ → Option Text → Option ℕ → Type 0
+IsRead bits None None = Unit {0}
+IsRead bits None (Some number) = ⊥
+IsRead bits (Some text) None = ¬ IsNumber bits text
+IsRead bits (Some text) (Some number) = IsNumber bits text × (number ≡ digits_value 10 (without_leading_plus text))
+
+-- the destination that a text names, where there is one
+abbrev pub IsNamed : Option Text → Option Destination → Type 0
+IsNamed None None = Unit {0}
+IsNamed None (Some destination) = ⊥
+IsNamed (Some text) None = ⊥
+IsNamed (Some text) (Some destination) = (argument : Bor (List ℕ)) × (argument.now ≡ text) × (destination ≡ destination_of argument)
+
+-- the text that was found for an argument
+abbrev pub IsText : List Row → Text → Option (Bor (List ℕ)) → Type 0
+IsText rows id text = option_map (λ text. text.now) text ≡ first_of id rows
+
+pub record AreNumbers (rows : List Row) (numbers : Numbers) : Type 0 where
+  pub bound : IsRead 64 (one_of (codes "bound") rows) (Some numbers.bound)
+  pub quantum : IsRead 64 (one_of (codes "quantum") rows) numbers.quantum
+
+pub record AreRecords (rows : List Row) (records : Records) : Type 0 where
+  pub trace : IsNamed (first_of (codes "trace") rows) records.trace
+  pub timeline : IsNamed (first_of (codes "timeline") rows) records.timeline
+  pub report : IsNamed (first_of (codes "report") rows) records.report
+  pub races : IsNamed (first_of (codes "races") rows) records.races
+  pub core : IsNamed (first_of (codes "core") rows) records.core
+  pub digest : IsNamed (first_of (codes "digest") rows) records.digest
+
+-- a file, and the file of its input if one is named
+pub record AreFiles (rows : List Row) (file : Bor (List ℕ)) (input : Option (Bor (List ℕ))) : Type 0 where
+  pub file_is : IsText rows (codes "FILE") (Some file)
+  pub input_is : IsText rows (codes "input") input
+
+-- a command of this name that was given these values is this request
+abbrev pub Asks : Text → List Row → Request → Type 0
+Asks name rows (Run file input numbers records) =
+    (name ≡ codes "run") × AreFiles rows file input × AreNumbers rows numbers × IsRead 32 (one_of (codes "workers") rows) (Some numbers.workers)
+    × AreRecords rows records
+Asks name rows (Debug file input numbers turn) =
+    (name ≡ codes "debug") × AreFiles rows file input × AreNumbers rows numbers × (numbers.workers ≡ 1)
+    × IsRead 64 (one_of (codes "turn") rows) (Some turn)
+Asks name rows (Disasm file) = (name ≡ codes "disasm") × IsText rows (codes "FILE") (Some file)
+Asks name rows (Replay file schedule input numbers) =
+    (name ≡ codes "replay") × AreFiles rows file input × IsText rows (codes "SCHEDULE") (Some schedule) × AreNumbers rows numbers
+    × IsRead 32 (one_of (codes "workers") rows) (Some numbers.workers)
+
+-- a command that was found, with the values of its arguments, is this request
+abbrev pub AsksFor : Option (Text × List Row) → Request → Type 0
+AsksFor None request = ⊥
+AsksFor (Some found) request = Asks found.0 found.1 request
+
+-- These words, of which the first is the program's name, ask for this: they are not refused, and the command in them is this request.
+abbrev pub IsAsked : List Text → Request → Type 0
+IsAsked words request = (fault_of program words ≡ []) × AsksFor (subcommand_of program words) request

@@ -1,0 +1,90 @@
+-- What each command takes, in the parser's words: its arguments with their values and defaults.
+use Rattle.std.specs.Prelude.{◌≡◌, ◌++◌, ◌^◌, List, [], ◌∷◌, Some, pos, true, false, codes}
+use Rattle.clap.specs.Simple.{new_shape}
+use Rattle.clap.specs.Words.{App, Rule, Shape, Text, app_of, new_rule, rule_of}
+use Rattle.clap.specs.declared.builder.arg.Arg.{Arg}
+use Rattle.clap.specs.declared.builder.command.Command.{Command}
+use Rattle.clap.specs.declared.builder.command.Command.TheViews.{out-Command}
+use Rattle.clap.specs.declared.builder.value_parser.ValueParser.{ValueParser}
+use Rattle.clap.specs.declared.builder.value_parser.ValueParser.TheVariants.{Signed, Unsigned}
+use Rattle.run_limits.specs.Limits as limit
+
+-- an argument that is known by its place and must be there
+abbrev pub placed : Text → Rule
+placed id = record (new_rule id) { required = true }
+
+-- an option with a value
+abbrev pub option : Text → Rule
+option id = record (new_rule id) { long = Some id; value_names = 1 }
+
+-- an option whose value is a number in a range
+abbrev pub number : Text → ValueParser → Rule
+number id range = record (option id) { parser = Some range }
+
+-- how many instructions, or which turn
+abbrev pub count : ValueParser
+count = Unsigned 1 (2 ^ 40)
+
+abbrev pub file : Rule
+file = placed (codes "FILE")
+
+abbrev pub schedule : Rule
+schedule = placed (codes "SCHEDULE")
+
+abbrev pub input : Rule
+input = option (codes "input")
+
+abbrev pub turn : Rule
+turn = record (number (codes "turn") count) { defaults = codes "1" ∷ [] }
+
+abbrev pub workers : Rule
+workers = number (codes "workers") (Signed (pos 1) (pos limit.workers))
+
+abbrev pub bound : Rule
+bound = record (number (codes "bound") count) { defaults = codes "1000000000" ∷ [] }
+
+abbrev pub quantum : Rule
+quantum = number (codes "quantum") count
+
+-- how many instructions are executed
+abbrev pub limits : List Rule
+limits = bound ∷ quantum ∷ []
+
+-- the texts that a run leaves beside its outcome
+abbrev pub records : List Rule
+records =
+    option (codes "trace") ∷ option (codes "timeline") ∷ option (codes "report") ∷ option (codes "races") ∷ option (codes "core") ∷ option (codes "digest") ∷ []
+
+-- a command that takes these too
+abbrev pub with_rules : Shape → List Rule → Shape
+with_rules shape [] = shape
+with_rules shape (rule ∷ rest) = with_rules (record shape { rules = shape.rules ++ rule ∷ [] }) rest
+
+abbrev pub run : Shape
+run = with_rules (new_shape (codes "run")) (file ∷ input ∷ (record workers { defaults = codes "4" ∷ [] }) ∷ limits ++ records)
+
+abbrev pub debug : Shape
+debug = with_rules (new_shape (codes "debug")) (file ∷ input ∷ turn ∷ limits)
+
+abbrev pub disasm : Shape
+disasm = with_rules (new_shape (codes "disasm")) (file ∷ [])
+
+abbrev pub replay : Shape
+replay = with_rules (new_shape (codes "replay")) (file ∷ schedule ∷ input ∷ (record workers { required = true }) ∷ limits)
+
+-- the program, which takes one of its commands, --help and --version
+abbrev pub program : App
+program = record {
+  top = record (new_shape (codes "dthreads")) { has_version = true; subcommand_required = true; disable_help_subcommand = true; is_leaf = false };
+  subs = run ∷ debug ∷ disasm ∷ replay ∷ [];
+}
+
+-- the argument is this, for its command alone
+pub record Is (rule : Rule) (arg : Arg) : Type 0 where
+  pub rule_is : rule_of arg ≡ rule
+  pub local : arg.global ≡ false
+
+-- the command is this, and has no commands
+pub record Takes (shape : Shape) (command : Command) : Type 0 where
+  pub shape_is : app_of command ≡ record { top = shape; subs = [] }
+  pub local : (out-Command command).has_globals ≡ false

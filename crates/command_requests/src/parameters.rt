@@ -1,0 +1,84 @@
+//! The arguments that the commands take.
+ghost use Rattle.std.specs.Prelude.{◌≡◌};
+ghost use Rattle.command_requests.specs.Commands as spec;
+ghost use Rattle.command_requests.specs.Commands.{Is};
+
+use clap::{Arg, value_parser};
+use run_limits::{MAX_BOUND, MAX_WORKERS};
+use std::alloc::Global;
+
+pub(crate) fn file<'a>(alloc: Global) -> Arg<'a>
+    ensures { Is spec.file result }
+{
+    Arg::new(alloc, "FILE")
+        .required(true)
+        .help("The program, an ELF file")
+}
+
+pub(crate) fn input<'a>(alloc: Global, help: &'a str) -> Arg<'a>
+    ensures { Is spec.input result }
+{
+    Arg::new(alloc, "input")
+        .long("input")
+        .value_name("FILE")
+        .help(help)
+}
+
+pub(crate) fn turn<'a>(alloc: Global) -> Arg<'a>
+    ensures { Is spec.turn result }
+{
+    Arg::new(alloc, "turn")
+        .long("turn")
+        .value_name("N")
+        .value_parser(value_parser!(u64).range(1..=MAX_BOUND as i64))
+        .default_value("1")
+        .help("The turn at whose start gdb finds the program")
+}
+
+pub(crate) fn schedule<'a>(alloc: Global) -> Arg<'a>
+    ensures { Is spec.schedule result }
+{
+    Arg::new(alloc, "SCHEDULE")
+        .required(true)
+        .help("The events, one in each line")
+}
+
+pub(crate) fn workers<'a>(alloc: Global) -> Arg<'a>
+    ensures { Is spec.workers result }
+{
+    Arg::new(alloc, "workers")
+        .long("workers")
+        .value_name("N")
+        .value_parser(value_parser!(u32).range(1..=i64::from(MAX_WORKERS)))
+        .help("How many workers there are, 1 to 64")
+}
+
+pub(crate) fn bound<'a>(alloc: Global) -> Arg<'a>
+    ensures { Is spec.bound result }
+{
+    Arg::new(alloc, "bound")
+        .long("bound")
+        .value_name("N")
+        .value_parser(value_parser!(u64).range(1..=MAX_BOUND as i64))
+        .default_value("1000000000")
+        .help("How many instructions a thread may execute, 1 to 2^40")
+}
+
+pub(crate) fn quantum<'a>(alloc: Global) -> Arg<'a>
+    ensures { Is spec.quantum result }
+{
+    Arg::new(alloc, "quantum")
+        .long("quantum")
+        .value_name("N")
+        .value_parser(value_parser!(u64).range(1..=MAX_BOUND as i64))
+        .help("After how many instructions a thread's turn ends, 1 to 2^40 [default: none]")
+}
+
+pub(crate) fn output<'a>(alloc: Global, name: &'a str, help: &'a str) -> Arg<'a>
+    ensures { Is (spec.option name.entry.now) result }
+{
+    Arg::new(alloc, name)
+        .long(name)
+        .value_name("FILE")
+        .help(help)
+}
