@@ -1,5 +1,5 @@
 """Guest programs for tests of host threads."""
-from dt_commands.random_guests import A0, A7, CODE, CREATE, DATA, EXIT, JOIN, LOCK, S0, SYNC, THREAD_EXIT, UNLOCK, ZERO, call, file_of, imm, load_number, store
+from dt_commands.random_guests import A0, A7, CODE, CREATE, DATA, EXIT, JOIN, LOCK, S0, SYNC, THREAD_EXIT, UNLOCK, ZERO, branch_back, call, file_of, imm, load_number, store
 
 # After so many words come those of the threads.
 FIRST = 1000
@@ -19,9 +19,10 @@ def endless(threads):
     return file_of(created([0] * threads) + call(SYNC) + TO_ITSELF, FIRST, TO_ITSELF)
 
 
-def waiting():
-    """Thread 0 waits for thread 1, which loops without end."""
-    return file_of(created([0]) + call(JOIN, 1), FIRST, TO_ITSELF)
+def waiting(rounds):
+    """Thread 0 counts so many rounds and waits for thread 1, which loops without end in the same phase."""
+    counting = [*load_number(S0, rounds), imm(S0, S0, -1, 0), branch_back(S0, 1)]
+    return file_of(created([0]) + counting + call(JOIN, 1), FIRST, TO_ITSELF)
 
 
 def gaps():

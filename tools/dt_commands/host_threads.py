@@ -17,8 +17,9 @@ ROWS = [(1, 5, 1), (2, 2, 2), (2, 5, 2), (3, 5, 3), (4, 3, 3), (64, 1, 1), (64, 
 PATIENCE, LOOKS = 20, 200
 # How many instructions a thread executes while others wait, and how many seconds of processor time are no wait's.
 BOUND, SPARE = "300000000", 0.3
-# With how many workers these runs are made.
-WAITING = [2, 64]
+# With how many workers these runs are made, and how many rounds the thread that waits counts before: so many that a worker has drawn the
+# other thread's job by then, whose end the caller then waits for.
+WAITING = [(2, 1), (64, 1), (2, 5_000_000), (64, 5_000_000)]
 
 
 def host_threads(process):
@@ -63,16 +64,17 @@ def processor_seconds():
 def wait_fails(room):
     """Looks at the processor time of runs in which all but one thread wait. Returns how many took more than their time."""
     file, failed = f"{room}/waiting.elf", 0
-    with open(file, "wb") as it:
-        it.write(fixed_guests.waiting())
-    for workers in WAITING:
+    for workers, rounds in WAITING:
+        with open(file, "wb") as it:
+            it.write(fixed_guests.waiting(rounds))
         before, begun = processor_seconds(), time.monotonic()
         words = [guest_runs.program(), "run", file, "--workers", str(workers), "--bound", BOUND]
         subprocess.run(words, stdin=subprocess.DEVNULL, stdout=subprocess.DEVNULL, stderr=subprocess.DEVNULL)
         passed, spent = time.monotonic() - begun, processor_seconds() - before
         is_idle = spent <= passed + SPARE
         failed += not is_idle
-        print(f"{workers} workers, one thread with work: {spent:.2f} s of processor time in {passed:.2f} s{'' if is_idle else ': somebody waits busily'}", flush=True)
+        found = f"{spent:.2f} s of processor time in {passed:.2f} s{'' if is_idle else ': somebody waits busily, or does the work once more'}"
+        print(f"{workers} workers, one thread with work after {rounds} rounds of another: {found}", flush=True)
     return failed
 
 
