@@ -58,6 +58,7 @@ pub record Found : Type 0 where
   pub is_same : Sameness
   pub input : Option (List ℕ)
 
+-- a host found so, with what there is to read
 abbrev pub found_of : Host → Sameness → Option (List ℕ) → Found
 found_of host is_same input = record { host = host; is_same = is_same; input = input }
 

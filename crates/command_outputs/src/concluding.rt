@@ -1,9 +1,10 @@
 //! How an answer is told: a line on standard error, where there is one, and a status.
-ghost use Rattle.std.specs.Prelude.{◌≡◌};
-ghost use Rattle.command_outputs.specs.Status.{answer_status, outcome_status};
+ghost use Rattle.std.specs.Prelude.{◌≡◌, OnOk};
+ghost use Rattle.std.specs.Io.KnownBytes.{Appends};
+ghost use Rattle.command_outputs.specs.Status.{answer_status, outcome_line, outcome_status};
 
 use command_requests::{Failure, fail};
-use hart::Trap;
+use run_digest::OutcomeText;
 use std::io;
 use std::io::Write;
 use token::RunOutcome;
@@ -33,19 +34,13 @@ pub fn status_of(outcome: RunOutcome) -> u8
 }
 
 /// Writes the line of an outcome that has one.
-fn write_outcome<E: Write>(outcome: RunOutcome, stderr: &mut E) -> io::Result<()> {
+fn write_outcome<E: Write>(outcome: RunOutcome, stderr: &mut E) -> io::Result<()>
+    ensures { OnOk result (Appends (E.contents stderr.old) (E.contents stderr.new) (outcome_line outcome)) }
+{
     match outcome {
         RunOutcome::Exit(_) | RunOutcome::Finished(_) => Ok(()),
-        RunOutcome::Trap { thread, pc, trap } => write_trap(thread, pc, trap, stderr),
-        RunOutcome::Deadlock => writeln!(stderr, "deadlock"),
+        RunOutcome::Trap { .. } | RunOutcome::Deadlock => {
+            writeln!(stderr, "{}", OutcomeText(outcome))
+        }
     }
-}
-
-fn write_trap<E: Write>(thread: u32, pc: u32, trap: Trap, stderr: &mut E) -> io::Result<()> {
-    let cause = trap.cause.number();
-    let value = trap.value;
-    writeln!(
-        stderr,
-        "trap thread={thread} pc={pc:08x} cause={cause} value={value:08x}"
-    )
 }

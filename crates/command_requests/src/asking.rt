@@ -25,6 +25,6 @@ pub fn asked<'a, S: AsStr, W: Write, E: Write>(
 {
     match parse(alloc, arguments) {
         Ok(request) => Ok(request),
-        Err(error) => Err(refuse(&error, stdout, stderr)),
+        Err(error) => Err(refuse(alloc, &error, stdout, stderr)),
     }
 }

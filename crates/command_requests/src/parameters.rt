@@ -3,6 +3,7 @@ ghost use Rattle.std.specs.Prelude.{◌≡◌};
 ghost use Rattle.command_requests.specs.Commands as spec;
 ghost use Rattle.command_requests.specs.Commands.{Is};
 
+use clap::builder::ValueParser;
 use clap::{Arg, value_parser};
 use run_limits::{MAX_BOUND, MAX_WORKERS};
 use std::alloc::Global;
@@ -27,10 +28,7 @@ pub(crate) fn input<'a>(alloc: Global, help: &'a str) -> Arg<'a>
 pub(crate) fn turn<'a>(alloc: Global) -> Arg<'a>
     ensures { Is spec.turn result }
 {
-    Arg::new(alloc, "turn")
-        .long("turn")
-        .value_name("N")
-        .value_parser(value_parser!(u64).range(1..=MAX_BOUND as i64))
+    number(alloc, "turn", count())
         .default_value("1")
         .help("The turn at whose start gdb finds the program")
 }
@@ -46,20 +44,14 @@ pub(crate) fn schedule<'a>(alloc: Global) -> Arg<'a>
 pub(crate) fn workers<'a>(alloc: Global) -> Arg<'a>
     ensures { Is spec.workers result }
 {
-    Arg::new(alloc, "workers")
-        .long("workers")
-        .value_name("N")
-        .value_parser(value_parser!(u32).range(1..=i64::from(MAX_WORKERS)))
-        .help("How many workers there are, 1 to 64")
+    let range = value_parser!(u32).range(1..=i64::from(MAX_WORKERS));
+    number(alloc, "workers", range).help("How many workers there are, 1 to 64")
 }
 
 pub(crate) fn bound<'a>(alloc: Global) -> Arg<'a>
     ensures { Is spec.bound result }
 {
-    Arg::new(alloc, "bound")
-        .long("bound")
-        .value_name("N")
-        .value_parser(value_parser!(u64).range(1..=MAX_BOUND as i64))
+    number(alloc, "bound", count())
         .default_value("1000000000")
         .help("How many instructions a thread may execute, 1 to 2^40")
 }
@@ -67,11 +59,9 @@ pub(crate) fn bound<'a>(alloc: Global) -> Arg<'a>
 pub(crate) fn quantum<'a>(alloc: Global) -> Arg<'a>
     ensures { Is spec.quantum result }
 {
-    Arg::new(alloc, "quantum")
-        .long("quantum")
-        .value_name("N")
-        .value_parser(value_parser!(u64).range(1..=MAX_BOUND as i64))
-        .help("After how many instructions a thread's turn ends, 1 to 2^40 [default: none]")
+    number(alloc, "quantum", count()).help(
+        "After how many instructions a thread's turn ends, 1 to 2^40 [default: none]",
+    )
 }
 
 pub(crate) fn output<'a>(alloc: Global, name: &'a str, help: &'a str) -> Arg<'a>
@@ -81,4 +71,21 @@ pub(crate) fn output<'a>(alloc: Global, name: &'a str, help: &'a str) -> Arg<'a>
         .long(name)
         .value_name("FILE")
         .help(help)
+}
+
+/// An option whose value is a number in a range.
+fn number<'a>(alloc: Global, id: &'a str, range: ValueParser<'a>) -> Arg<'a>
+    ensures { Is (spec.number id.entry.now range.entry) result }
+{
+    Arg::new(alloc, id)
+        .long(id)
+        .value_name("N")
+        .value_parser(range)
+}
+
+/// How many instructions, or which turn.
+fn count<'a>() -> ValueParser<'a>
+    ensures { result ≡ spec.count }
+{
+    value_parser!(u64).range(1..=MAX_BOUND as i64)
 }

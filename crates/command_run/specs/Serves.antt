@@ -53,6 +53,7 @@ pub record RunRequest : Type 0 where
   pub config : Config
   pub records : Records
 
+-- the run of a file that these arguments ask for
 abbrev pub run_of : Bor (List ℕ) → Sameness → Option (List ℕ) → Config → Records → RunRequest
 run_of file is_same input config records =
     record { path = file.now; names = names_of file records; is_same = is_same; input = input; config = config; records = records }

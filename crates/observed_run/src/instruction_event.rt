@@ -107,16 +107,32 @@ fn access_at(site: Site, address: u32, width: u32) -> Access
     requires { width ≤ 4 }
     ensures { result ≡ spec.access_at site address width }
 {
-    let from = address % 4;
     Access {
         site,
         word: address / 4,
-        bytes: ByteSet {
-            first: is_within(0, from, width),
-            second: is_within(1, from, width),
-            third: is_within(2, from, width),
-            fourth: is_within(3, from, width),
-        },
+        bytes: bytes_from(address % 4, width),
+    }
+}
+
+/// The bytes of a word from a place on, so many.
+#[inline(always)]
+fn bytes_from(from: u32, width: u32) -> ByteSet
+    requires { from + width < 2 ^ 32 }
+    ensures { (address : ℕ) → address % 4 ≡ from → result ≡ spec.bytes_in (address / 4) address width }
+{
+    if from == 0 && width == 4 {
+        return ByteSet {
+            first: true,
+            second: true,
+            third: true,
+            fourth: true,
+        };
+    }
+    ByteSet {
+        first: is_within(0, from, width),
+        second: is_within(1, from, width),
+        third: is_within(2, from, width),
+        fourth: is_within(3, from, width),
     }
 }
 

@@ -1,4 +1,8 @@
 //! An output to a host's file: written aside, and put in the file's place when it is whole.
+ghost use Rattle.std.specs.Prelude.{IfSome, OnOk};
+ghost use Rattle.std.specs.Io.KnownBytes.{Appends, IsAtEnd};
+ghost use Rattle.output_files.specs.Content.{ReadsOn};
+
 use std::io;
 use std::io::{Read, Seek, Write};
 
@@ -39,8 +43,11 @@ impl<F: Write> Write for HostOutput<F> {
     }
 }
 
-/// Writes all that a file holds to a writer.
-pub(crate) fn copy_text<F: Read + Seek, W: Write>(file: &mut F, writer: &mut W) -> io::Result<()> {
+/// Writes all that a file holds to a writer, and flushes it.
+pub(crate) fn copy_text<F: Read + Seek, W: Write>(file: &mut F, writer: &mut W) -> io::Result<()>
+    ensures whole { OnOk result (ReadsOn F.remaining F.stream_position F.stream_bytes → IfSome (F.stream_bytes file.old) (Appends (W.contents writer.old) (W.contents writer.new))) }
+    ensures end { OnOk result (IsAtEnd (F.remaining file.new)) }
+{
     file.rewind()?;
     io::copy(file, writer)?;
     writer.flush()

@@ -62,7 +62,7 @@ impl Latest {
     pub(crate) fn is_alike(&self, site: Site, bytes: ByteSet) -> bool
         ensures { IsTrue result → IsAlike self.now site bytes }
     {
-        bytes.is_same(self.bytes) && site.is_same(self.site) && site.thread == self.site.thread
+        site.is_same(self.site) && site.thread == self.site.thread && bytes.is_same(self.bytes)
     }
 
     /// Whether it is of this turn, and of this step or a later one.

@@ -1,5 +1,5 @@
 -- What a recorder that hashes the trace has recorded.
-use Rattle.std.specs.Prelude.{◌≡◌, ℕ, Option, Some, None, List, [], ◌++◌}
+use Rattle.std.specs.Prelude.{◌≡◌, ℕ, List, ◌++◌}
 use Rattle.sha2.specs.Hashers.{Holds256}
 use Rattle.token.specs.declared.turn.Turn.{Turn}
 use Rattle.tracer.specs.Recording.{line_at}

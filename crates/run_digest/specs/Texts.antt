@@ -10,18 +10,15 @@ use Rattle.token.specs.declared.outcome.RunOutcome.{RunOutcome}
 use Rattle.token.specs.declared.outcome.RunOutcome.TheVariants.{Exit, Finished, Trap, Deadlock}
 use Rattle.run_digest.specs.Memories.{memory_message}
 
--- where a thread trapped, and why
-unfoldable pub place_text : (thread pc : ℕ) → List ℕ
-place_text thread pc = codes " thread=" ++ decimal thread ++ codes " pc=" ++ hexadecimal 8 pc
-
+-- why a thread trapped
 unfoldable pub trap_text : Trapped → List ℕ
-trap_text trap = codes " cause=" ++ decimal (cause_number trap.cause) ++ codes " value=" ++ hexadecimal 8 trap.value
+trap_text trap = codes "cause=" ++ decimal (cause_number trap.cause) ++ codes " value=" ++ hexadecimal 8 trap.value
 
 -- how a run ended
 unfoldable pub outcome_text : RunOutcome → List ℕ
 outcome_text (Exit status) = codes "exit " ++ decimal status
 outcome_text (Finished status) = codes "finished " ++ decimal status
-outcome_text (Trap thread pc trap) = codes "trap" ++ place_text thread pc ++ trap_text trap
+outcome_text (Trap thread pc trap) = codes "trap thread=" ++ decimal thread ++ codes " pc=" ++ hexadecimal 8 pc ++ codes " " ++ trap_text trap
 outcome_text Deadlock = codes "deadlock"
 
 -- two hexadecimal digits for each byte

@@ -14,10 +14,13 @@
 //! stores and 4 for fetches, added), and its 4096 bytes.
 //!
 //! - [`DigestRecorder`] hashes the trace turn by turn, and makes the lines at the end.
+//! - [`OutcomeText`] shows how a run ended.
 #![tactic(auto)]
 
 mod digest_recorder;
 mod digest_text;
 mod memory_hash;
+mod outcome_text;
 
 pub use digest_recorder::DigestRecorder;
+pub use outcome_text::OutcomeText;

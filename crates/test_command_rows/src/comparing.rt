@@ -1,14 +1,13 @@
 //! What a row wants, compared with what its command lines gave.
 
 use crate::memory_file::is_old;
-use crate::numbers::{number, split, word};
 use crate::scene::Scene;
 use crate::texts::bytes_of;
 use anyhow::{Result, anyhow};
 use std::alloc::{AllocError, Global};
 use std::rt::Files;
 use std::str;
-use test_guest_rows::{Differences, text_at};
+use test_guest_rows::{Differences, small, split, text_at, word};
 
 /// Compares what a line wants, if it is one that does, and notes it after these words unless it is so.
 pub fn compare_line<R: AllocGlobal + Files>(
@@ -32,7 +31,7 @@ pub fn compare_line<R: AllocGlobal + Files>(
             )?;
         }
         "flushes-left" => {
-            let is_so = scene.stdout.writer.good_flushes == number(wanted)?;
+            let is_so = scene.stdout.writer.good_flushes == small(wanted)?;
             found.expect(is_so, how, line)?;
         }
         "files-old" => found.expect(scene.files.are_old(), how, line)?,
@@ -55,7 +54,7 @@ fn compare_bytes<R: AllocGlobal + Files>(
     };
     let (relation, value) = split(rest);
     let is_so = match relation {
-        "length" => bytes.len() == number(value)? as usize,
+        "length" => bytes.len() == small(value)? as usize,
         "word" => has_word(bytes, value)?,
         "old" => is_old(bytes),
         "joins" => bytes == joined(rt.alloc(), scene, value)?.as_slice(),
@@ -86,7 +85,7 @@ fn wanted_bytes<R: AllocGlobal + Files>(rt: &R, text: &str) -> Result<Vec<u8>> {
 /// Whether bytes have a word at an offset, its lowest byte first.
 fn has_word(bytes: &[u8], wanted: &str) -> Result<bool> {
     let (offset, digits) = split(wanted);
-    let rest = bytes.get(number(offset)? as usize..).unwrap_or(&[]);
+    let rest = bytes.get(small(offset)? as usize..).unwrap_or(&[]);
     Ok(rest.starts_with(&word(digits)?.to_le_bytes()))
 }
 

@@ -1,9 +1,9 @@
 //! The programs of rows: files of guest programs, cut or changed.
 
-use crate::numbers::{byte, number, split, word};
 use anyhow::{Result, anyhow};
 use data_guest_programs::{KEPT, file_of};
 use std::alloc::Global;
+use test_guest_rows::{byte, small, split, word};
 
 /// Takes a field of the program, if it is one.
 pub fn take_program_field(
@@ -15,7 +15,7 @@ pub fn take_program_field(
     match name {
         "program" => *program = file_named(alloc, rest)?,
         "words" => *program = file_of_words(alloc, rest)?,
-        "cut" => cut(program, number(rest)? as usize)?,
+        "cut" => cut(program, small(rest)? as usize)?,
         "byte" => change_byte(program, rest)?,
         "word" => change_word(program, rest)?,
         _ => return Ok(false),
@@ -54,13 +54,13 @@ fn cut(file: &mut Vec<u8>, length: usize) -> Result<()> {
 /// Changes the byte at a place.
 fn change_byte(file: &mut Vec<u8>, change: &str) -> Result<()> {
     let (place, digits) = split(change);
-    put(file, number(place)? as usize, &[byte(digits)?])
+    put(file, small(place)? as usize, &[byte(digits)?])
 }
 
 /// Changes the word at a place, whose lowest byte comes first.
 fn change_word(file: &mut Vec<u8>, change: &str) -> Result<()> {
     let (place, digits) = split(change);
-    put(file, number(place)? as usize, &word(digits)?.to_le_bytes())
+    put(file, small(place)? as usize, &word(digits)?.to_le_bytes())
 }
 
 /// Changes the bytes from a place on.

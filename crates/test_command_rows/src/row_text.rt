@@ -1,9 +1,9 @@
 //! The text of a file of rows in `data/`. Reads a text, and no file.
 
-use crate::numbers::{number, split};
 use crate::row::Row;
 use anyhow::{Result, anyhow};
 use std::alloc::Global;
+use test_guest_rows::{small, split};
 
 /// The rows that a text says.
 pub fn rows_of(alloc: Global, text: &str) -> Result<Vec<Row>> {
@@ -41,7 +41,7 @@ fn take_row_line(alloc: Global, row: &mut Row, line: &str) -> Result<()> {
 fn push_values(alloc: Global, values: &mut Vec<String>, words: &str) -> Result<()> {
     for word in words.split_whitespace() {
         match word.split_once("..") {
-            Some((first, last)) => push_numbers(alloc, values, number(first)?, number(last)?)?,
+            Some((first, last)) => push_numbers(alloc, values, small(first)?, small(last)?)?,
             None => values.push(String::from_str(alloc, word)?)?,
         }
     }

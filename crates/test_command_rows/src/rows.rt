@@ -1,7 +1,6 @@
 //! The rows: what is given, done and compared for each, and its line.
 
 use crate::comparing::compare_line;
-use crate::numbers::split;
 use crate::programs::take_program_field;
 use crate::row::Row;
 use crate::row_text::rows_of;
@@ -12,7 +11,7 @@ use std::alloc::{AllocError, Global};
 use std::rt::{Clock, Files};
 use std::sync::Wait;
 use std::thread::Threads;
-use test_guest_rows::{Differences, is_chosen, show, text_at};
+use test_guest_rows::{Differences, is_chosen, show, split, text_at};
 
 /// Prints the line of each row that is chosen: `NAME: ok`, or what differs.
 pub fn show_rows<R: AllocGlobal + Clock + Files + Print + Threads + Wait + Sync>(

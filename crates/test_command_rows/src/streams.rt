@@ -3,12 +3,13 @@
 use crate::given_reader::After;
 use crate::given_writer::GivenWriter;
 use crate::memory_files::MemoryFiles;
-use crate::numbers::{limit, number, split};
+use crate::numbers::limit;
 use crate::scene::Scene;
 use crate::texts::{bytes_of, push_text};
 use anyhow::{Result, anyhow};
 use runtime::WriteSink;
 use std::alloc::Global;
+use test_guest_rows::{small, split};
 
 /// Takes a field of the files besides the program, if it is one.
 pub fn take_file_field(
@@ -22,8 +23,8 @@ pub fn take_file_field(
         "schedule-more" => push_more(&mut files.schedule, rest)?,
         "old" => files.make_old()?,
         "endless" => files.is_endless = true,
-        "room" => files.room = number(rest)? as usize,
-        "good-ends" => files.good_ends = number(rest)?,
+        "room" => files.room = small(rest)? as usize,
+        "good-ends" => files.good_ends = small(rest)?,
         _ => return Ok(false),
     }
     Ok(true)
@@ -32,7 +33,7 @@ pub fn take_file_field(
 /// Appends a text as often as a number before it says.
 fn push_more(bytes: &mut Vec<u8>, line: &str) -> Result<()> {
     let (count, text) = split(line);
-    for _ in 0..number(count)? {
+    for _ in 0..small(count)? {
         push_text(bytes, text)?;
     }
     Ok(())
@@ -55,7 +56,7 @@ fn take_input_field(alloc: Global, scene: &mut Scene, name: &str, rest: &str) ->
         "input" => scene.input = bytes_of(alloc, rest)?,
         "input-fails" => scene.after = After::Failure,
         "input-endless" => scene.after = After::Endless,
-        "input-late" => scene.late = Some(number(rest)? as usize),
+        "input-late" => scene.late = Some(small(rest)? as usize),
         _ => return Err(anyhow!("no field: {name} {rest}")),
     }
     Ok(())

@@ -1,8 +1,8 @@
 //! Texts of the lines in `data/`: `\n`, `\r` and `\xHH` stand for a newline, a carriage return and the byte of these digits.
 
-use crate::numbers::byte;
 use anyhow::{Result, anyhow};
 use std::alloc::Global;
+use test_guest_rows::byte;
 
 /// The bytes that a text says.
 pub fn bytes_of(alloc: Global, text: &str) -> Result<Vec<u8>> {

@@ -22,7 +22,7 @@ mod single_call;
 
 pub use data::{guests, path_of, replays, text_at};
 pub use differences::Differences;
-pub use fields::decimal;
+pub use fields::{byte, decimal, small, split, word};
 pub use guest::Guest;
 pub use guest_run::GuestRun;
 pub use output::Output;
