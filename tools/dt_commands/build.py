@@ -90,7 +90,9 @@ class Libraries:
 
     def __init__(self):
         rt = toolchain.load()
-        rt.share_work(True)
+        if hasattr(rt, "share_work"):
+            # (what a toolchain of that kind keeps of other builds counts here too)
+            rt.share_work(True)
         rt.rtlib.guarded()
         top = rt.rtlib.Crate(COMMAND, TOP, {})
         self.crates = {it.name: it for it in top.below()}
@@ -212,7 +214,7 @@ def build(lane_count):
 
 def say_why():
     """Says why the program is built that is to be started, if the release could have been started in its place."""
-    reason = release.why_another()
+    reason = release.why_other_sources()
     if reason:
         say(f"{reason}. So the program is built first; the release itself can still be started as it is")
 

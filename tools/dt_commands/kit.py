@@ -15,8 +15,16 @@ import threading
 from dt_commands.repository import TOP
 
 # What the tools call: of rt, and of rtlib.
-OF_RT = ("checked", "linked", "listing", "must_fail", "unread", "REFUSED", "AT_LIMIT", "BAD", "UNSURE", "MISSED")
+OF_RT = ("checked", "must_fail", "unread")
 OF_RTLIB = ("Crate", "guarded", "PARTS")
+
+# What a try of one edit comes to.
+REFUSED, LIMIT, BAD, UNSURE, MISSED = "refused", "limit", "bad", "not tried", "not refused"
+# How the files of kept work end that hold what was checked.
+CHECKED = ".oantt"
+
+# The names of these kinds in a toolchain whose `must_fail` answers a kind. In others it answers whether the edit was refused.
+KINDS = {"REFUSED": REFUSED, "AT_LIMIT": LIMIT, "BAD": BAD, "UNSURE": UNSURE, "MISSED": MISSED}
 
 # What the last check of this thread printed, and its status.
 LAST = threading.local()
@@ -95,5 +103,36 @@ def check(made, texts, kept, jobs=1):
 def try_alone(made, file, kept):
     """Returns what `rt must-fail` makes of one edit: its kind, what it says of it, and what its check printed."""
     LAST.said, LAST.status = "", None
-    kind, text = loaded().must_fail(made, file, ["--jobs", "1"], kept)
-    return kind, text.partition(": ")[2] or text, LAST.said
+    answer, text = loaded().must_fail(made, file, ["--jobs", "1"], kept)
+    text = text.partition(": ")[2] or text
+    return kind_of(loaded(), answer, text), text, LAST.said
+
+
+def kind_of(rt, answer, text):
+    """Returns the kind of a try that `must_fail` answered so, with this text."""
+    if answer is True:
+        return REFUSED
+    if answer is False:
+        return MISSED if text.startswith("NOT REFUSED") else BAD
+    return next((kind for name, kind in KINDS.items() if getattr(rt, name, None) == answer), UNSURE)
+
+
+def linked(folder, to):
+    """Makes a copy of kept work. Each checked module is the same file, by a hard link, since no check writes into one."""
+    shutil.copytree(folder, to, copy_function=lambda file, copy: (os.link if file.endswith(CHECKED) else shutil.copy2)(file, copy))
+
+
+def listing(folder):
+    """Returns of each file of a folder which it is, its size and when it was written last, by its path."""
+    files = (f"{at}/{name}" for at, _, names in os.walk(folder) for name in names)
+    return {os.path.relpath(it, folder): stat_of(it) for it in files}
+
+
+def stat_of(file):
+    found = os.lstat(file)
+    return found.st_ino, found.st_size, found.st_mtime_ns
+
+
+def is_unread(line, texts):
+    """Returns whether a line of a check's output says that a text of the crate or of these couldn't be read."""
+    return loaded().unread(line, texts)

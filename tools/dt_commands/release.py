@@ -48,16 +48,20 @@ def is_built(top=TOP):
     return made > max(changed)
 
 
-def why_another(top=TOP, version=None):
-    """Returns why the release is not the program of these sources and this toolchain, or None if it is, or if there is none."""
-    recorded, version = built_from.read(f"{top}/{RECORD}"), version or toolchain.version()
-    if not recorded:
-        return None
-    if recorded[0] != version:
-        return f"{FILE} is of another toolchain: {recorded[0]}"
-    others = built_from.differences(recorded[1], built_from.listed(top))
+def why_other_sources(top=TOP):
+    """Returns why the release is not the program of these sources, or None if it is, or if there is none."""
+    recorded = built_from.read(f"{top}/{RECORD}")
+    others = built_from.differences(recorded[1], built_from.listed(top)) if recorded else []
     more = f" and {len(others) - 3} more" if len(others) > 3 else ""
     return f"{FILE} is of other sources: {', '.join(others[:3])}{more}" if others else None
+
+
+def why_another(top=TOP, version=None):
+    """Returns why a build of these sources by this toolchain may differ from the release, or None if it mustn't, or if there is none."""
+    recorded, version = built_from.read(f"{top}/{RECORD}"), version or toolchain.version()
+    if recorded and recorded[0] != version:
+        return f"{FILE} is of another toolchain: {recorded[0]}"
+    return why_other_sources(top)
 
 
 def comparison(top=TOP, version=None):

@@ -10,11 +10,10 @@ import tempfile
 import time
 
 from dt_commands import kit
+from dt_commands.kit import BAD, LIMIT, MISSED, REFUSED, UNSURE
 from dt_mutants import verdicts
 from dt_mutants.edits import made
 from dt_mutants.rounds import plan
-
-REFUSED, LIMIT, BAD, UNSURE, MISSED = "refused", "limit", "bad", "not tried", "not refused"
 
 
 def parts_of(edits, spoiling):
@@ -55,13 +54,13 @@ class Trial:
         kept = f"{self.crate.folder}/out/incremental"
         with contextlib.suppress(OSError, shutil.Error):
             if os.path.isdir(kept):
-                kit.loaded().linked(kept, self.seed)
+                kit.linked(kept, self.seed)
         os.makedirs(self.seed, exist_ok=True)
         said, status = kit.check(self.crate, {}, self.seed)
         if status:
             self.failure = f"it isn't proved as it stands, so none of its edits was tried:\n{said[-1500:]}"
             return []
-        self.files = kit.loaded().listing(self.seed)
+        self.files = kit.listing(self.seed)
         return [self.step(it) for it in self.rounds]
 
     @property
@@ -76,7 +75,7 @@ class Trial:
         """Gives the folder of a copy of the seed, for one check."""
         over = tempfile.mkdtemp(prefix="over-", dir=self.room)
         try:
-            kit.loaded().linked(self.seed, f"{over}/kept")
+            kit.linked(self.seed, f"{over}/kept")
             yield f"{over}/kept"
         finally:
             shutil.rmtree(over, ignore_errors=True)
@@ -97,18 +96,16 @@ class Trial:
         return [self.step(it) for it in again]
 
     def has_unread(self, said, texts):
-        return any(kit.loaded().unread(line, texts) for line in said.split("\n"))
+        return any(kit.is_unread(line, texts) for line in said.split("\n"))
 
     def try_alone(self, edit):
         """Tries an edit as `rt must-fail` does: what isn't refused over the seed is tried once more from nothing."""
         begun = time.time()
         with self.over_the_seed() as over:
             kind, text, said = kit.try_alone(self.crate, edit.file, over)
-        rt = kit.loaded()
-        if kind in (rt.MISSED, rt.UNSURE):
+        if kind in (MISSED, UNSURE):
             whole = kit.try_alone(self.crate, edit.file, None)
-            kind, text, said = (kind, text, said) if kind == rt.MISSED and whole[0] == rt.UNSURE else whole
-        kind = {rt.REFUSED: REFUSED, rt.AT_LIMIT: LIMIT, rt.BAD: BAD, rt.MISSED: MISSED}.get(kind, UNSURE)
+            kind, text, said = (kind, text, said) if kind == MISSED and whole[0] == UNSURE else whole
         self.results[edit] = (kind, text)
         if kind == REFUSED and edit.places and not verdicts.refused_by([edit], said, 1):
             self.weak.append(edit)
@@ -117,7 +114,7 @@ class Trial:
 
     def end(self):
         """Ends the try: looks whether a check wrote into what the others read, and removes the copies."""
-        if not self.failure and kit.loaded().listing(self.seed) != self.files:
+        if not self.failure and kit.listing(self.seed) != self.files:
             self.failure = "what its own check left was changed meanwhile: try it again"
         shutil.rmtree(self.room or "", ignore_errors=True)
 

@@ -333,13 +333,11 @@ class Choices(Tree):
         os.utime(f"{self.top}/{built_from.OF_BUILD}", (1, 1))
         self.assertEqual(self.started("run"), "tools/dt build --start --word=:run")
 
-    def test_without_a_toolchain_the_recorded_one_counts(self):
+    def test_a_release_is_started_whichever_toolchain_is_here(self):
         self.release("kit 2")
-        self.assertEqual(self.started("run", has_rt=False), f"{RELEASED} run")
-
-    def test_a_release_of_another_toolchain_is_built_anew(self):
-        self.release("kit 2")
-        self.assertEqual(self.started("run"), "tools/dt build --start --word=:run")
+        for has_rt in (False, True):
+            self.assertEqual(self.started("run", has_rt=has_rt), f"{RELEASED} run")
+            self.assertEqual((self.said, self.status), ("", 0))
 
     def test_a_release_that_does_not_run_here_is_built_anew(self):
         self.release()

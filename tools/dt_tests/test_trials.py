@@ -6,6 +6,7 @@ import types
 import unittest
 from unittest import mock
 
+from dt_commands import kit
 from dt_mutants import trials
 from dt_mutants.edits import edits_of
 
@@ -19,16 +20,17 @@ def source():
 class FakeKit:
     """Judges a text: 'bad' doesn't compile, 'same' is proved, 'hidden' is refused without a word of its function, any other is refused."""
 
-    REFUSED, AT_LIMIT, BAD, UNSURE, MISSED = range(5)
-
     def __init__(self):
         self.checks, self.is_seed_changed = [], False
 
-    def loaded(self):
-        kinds = {it: getattr(self, it) for it in ("REFUSED", "AT_LIMIT", "BAD", "UNSURE", "MISSED")}
-        linked = lambda folder, to: os.makedirs(to, exist_ok=True)
-        listing = lambda folder: {"changed": self.is_seed_changed and len(self.checks) > 1}
-        return types.SimpleNamespace(linked=linked, listing=listing, unread=lambda line, texts: False, **kinds)
+    def linked(self, folder, to):
+        os.makedirs(to, exist_ok=True)
+
+    def listing(self, folder):
+        return {"changed": self.is_seed_changed and len(self.checks) > 1}
+
+    def is_unread(self, line, texts):
+        return False
 
     def check(self, crate, texts, kept):
         text = texts.get("src/lib.rt", source())
@@ -45,8 +47,37 @@ class FakeKit:
     def try_alone(self, crate, file, kept):
         edit = next(it for it in edits_of("small", crate.folder) if it.file == file)
         said, status = self.check(crate, edit.changes, kept)
-        kind = self.BAD if "error[" in said else self.MISSED if status == 0 else self.REFUSED
+        kind = kit.BAD if "error[" in said else kit.MISSED if status == 0 else kit.REFUSED
         return kind, "told", said
+
+
+class Kits(unittest.TestCase):
+    """What the toolchains' tries of one edit come to: some answer a kind, others whether the edit was refused."""
+
+    def test_an_answer_of_yes_or_no_is_told_by_its_text(self):
+        rt = types.SimpleNamespace()
+        for answer, text, kind in (
+            (True, "refused, as it must be: a goal", kit.REFUSED),
+            (False, "NOT REFUSED: the crate is still proved with this edit", kit.MISSED),
+            (False, "BAD EDIT: there is no file src/other.rt", kit.BAD),
+        ):
+            self.assertEqual(kit.kind_of(rt, answer, text), kind)
+
+    def test_a_kind_is_the_one_of_its_name(self):
+        rt = types.SimpleNamespace(REFUSED=0, AT_LIMIT=1, BAD=2, UNSURE=3, MISSED=4)
+        kinds = [kit.kind_of(rt, it, "") for it in range(6)]
+        self.assertEqual(kinds, [kit.REFUSED, kit.LIMIT, kit.BAD, kit.UNSURE, kit.MISSED, kit.UNSURE])
+
+    def test_a_copy_of_kept_work_shares_what_was_checked_alone(self):
+        with tempfile.TemporaryDirectory() as room:
+            os.makedirs(f"{room}/kept/of_kit")
+            for it in ("module.oantt", "rattle-last-used"):
+                open(f"{room}/kept/of_kit/{it}", "w").close()
+            kit.linked(f"{room}/kept", f"{room}/copy")
+            shared = [os.path.samefile(f"{room}/kept/of_kit/{it}", f"{room}/copy/of_kit/{it}") for it in ("module.oantt", "rattle-last-used")]
+            before = kit.listing(f"{room}/kept")
+            os.utime(f"{room}/copy/of_kit/rattle-last-used", (1, 1))
+            self.assertEqual((shared, kit.listing(f"{room}/kept")), ([True, False], before))
 
 
 class Trials(unittest.TestCase):
