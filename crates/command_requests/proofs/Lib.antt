@@ -1,2 +1,5 @@
 pub mod Building
+pub mod Complete
+pub mod Held
+pub mod Kept
 pub mod Rows

@@ -1,11 +1,11 @@
 -- What arguments that make no request come to.
 use Rattle.std.specs.Io.KnownBytes.{Appends}
-use Rattle.std.specs.Prelude.{◌≡◌, ◌≢◌, ◌⊎◌, ℕ, Option, List, ◌∷◌}
+use Rattle.std.specs.Prelude.{◌≡◌, ◌≢◌, ◌⊎◌, ℕ, Option, List}
 use Rattle.clap.specs.Faults.{fault_of}
-use Rattle.clap.specs.Kinds.{IsAmong, Kinds}
+use Rattle.clap.specs.Kinds.{IsAmong}
 use Rattle.clap.specs.Words.{Text}
 use Rattle.clap.specs.declared.error.kind.ErrorKind.{ErrorKind}
-use Rattle.clap.specs.declared.error.kind.ErrorKind.TheVariants.{DisplayHelp, DisplayVersion, MissingSubcommand, OutOfMemory}
+use Rattle.clap.specs.declared.error.kind.ErrorKind.TheVariants.{DisplayHelp, DisplayVersion, OutOfMemory}
 use Rattle.command_requests.specs.Commands.{program}
 use Rattle.command_requests.specs.declared.failure.Failure.{Failure}
 use Rattle.command_requests.specs.declared.failure.Failure.TheVariants as failures
@@ -22,14 +22,9 @@ pub record IsStatusOf (kind : ErrorKind) (status : ℕ) : Type 0 where
   pub version : kind ≡ DisplayVersion → IsAfterPrint status
   pub wrong : kind ≢ OutOfMemory → kind ≢ DisplayHelp → kind ≢ DisplayVersion → status ≡ 2
 
--- the kinds of error that words may make, of which the first is the program's name: those of the parser, or that a command or what it needs
--- isn't there
-abbrev pub faults : List Text → Kinds
-faults words = MissingSubcommand ∷ fault_of program words
-
 -- The status after words that make no request: memory ran out, or they are refused, and it is the status after an error that they make.
 abbrev pub IsUnasked : List Text → ℕ → Type 0
-IsUnasked words status = (kind : ErrorKind) × ((kind ≡ OutOfMemory) ⊎ IsAmong kind (faults words)) × IsStatusOf kind status
+IsUnasked words status = (kind : ErrorKind) × ((kind ≡ OutOfMemory) ⊎ IsAmong kind (fault_of program words)) × IsStatusOf kind status
 
 -- standard output holds a text after what it held
 abbrev pub IsFollowed : (old new : Option (List ℕ)) → Type 0

@@ -2,7 +2,7 @@ use Rattle.std.proofs.Common.{codes}
 use Rattle.std.specs.Str.Parse.{ExplainsUnsignedError, HasUnsignedDigitsIfOk, ParsesUnsigned}
 use Rattle.clap.specs.Words.{found_of}
 use Rattle.command_requests.proofs.Rows.{is_read}
-use Rattle.command_requests.proofs.parsing.workers_of.Goals as goal
+use Rattle.command_requests.proofs.parsing.workers_found.Goals as goal
 
 pub returns : goal.returns
 returns c = is_read (λ text result. ParsesUnsigned 32 10 text result × ExplainsUnsignedError 10 text result × HasUnsignedDigitsIfOk text result) 32 (found_of c.args.matches.now)
