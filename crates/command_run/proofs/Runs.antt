@@ -30,8 +30,10 @@ use Rattle.command_outputs.specs.Records.{AreTextsOf, AreUnwritten, AreWritten, 
 use Rattle.command_outputs.specs.Recorders.{AreFor, AreSame, Writes}
 use Rattle.symbols.specs.Symbol.{SymbolLists}
 use Rattle.symbols.specs.Symbols.{symbols_of}
-use Rattle.command_run.specs.Observing.{AreSameRun, IsObserved, IsRaceText}
-use Rattle.command_run.specs.declared.opened.Observed.{Observed}
+use Rattle.command_run.specs.Observing.{IsRaceText}
+use Rattle.observed_run.specs.Runs.{AreRacesOf}
+use Rattle.races.specs.Texts.{text_of}
+use Rattle.races.specs.declared.race.Race.{Race}
 use Rattle.command_run.specs.declared.opened.Opened.{Opened}
 use Rattle.command_run.specs.Serves.{left_after, AreOneFile, AreOpenedFrom, AreRun, AreWantedRaces, Concludes, Host, IsBegun, IsStopped, IsUnrun, LeavesTexts, RunRequest, RunsInto}
 use Rattle.command_requests.specs.declared.destination.Destination.{Destination}
@@ -226,28 +228,6 @@ pub runs_to : (tells : Type 0) (request : RunRequest) (before after : Host) (ope
 runs_to tells request before after opened answer are concluded =
     inl (begun (before.files request.path) request.input request.config opened (λ symbols setup. Concludes tells request.records symbols before after setup answer) are concluded)
 
--- what the races are found by is the run itself, from its beginning
-pub observed_same : (config : Config) (opened : Opened) (elf input : List ℕ) → AreOpenedFrom config opened elf input → AreSameRun opened
-observed_same config opened elf input are = by_observed opened.observed are.observed
-  where
-    by_observed : (observed : Option Observed) → IfSome observed (IsObserved config elf input)
-        → IfSome observed (λ observed. ((point_of observed.start).setup ≡ (point_of opened.start).setup) × ((point_of observed.start).done ≡ 0))
-    by_observed None is = _
-    by_observed (Some observed) is = (is.setup ∙ sym are.start.1, is.done)
-
-pub from_beginning : (opened : Opened) → AreSameRun opened → IfSome opened.observed (λ observed. (point_of observed.start).done ≡ 0)
-from_beginning opened same = by_observed opened.observed same
-  where
-    by_observed : (observed : Option Observed) → IfSome observed (λ observed. ((point_of observed.start).setup ≡ (point_of opened.start).setup) × ((point_of observed.start).done ≡ 0))
-        → IfSome observed (λ observed. (point_of observed.start).done ≡ 0)
-    by_observed None is = _
-    by_observed (Some observed) is = is.1
-
-pub observed_symbols : (config : Config) (elf input : List ℕ) (observed : Option Observed) → IfSome observed (IsObserved config elf input)
-    → IfSome observed (λ observed. observed.symbols ≡ symbols_of elf)
-observed_symbols config elf input None is = _
-observed_symbols config elf input (Some observed) is = is.symbols
-
 none_wanted : IsSome {T = Destination} None → ⊥
 none_wanted is = cc
 
@@ -255,19 +235,15 @@ unlike : false ≡ true → ⊥
 unlike same = cc
 
 -- the text that was made is that of the wanted races
-pub wanted_races : (records : Records) (symbols : SymbolLists) (opened : Opened) (text : List ℕ) → is_some opened.observed ≡ is_some records.races
-    → AreSameRun opened → IfSome opened.observed (λ observed. observed.symbols ≡ symbols)
-    → IfSome opened.observed (λ observed. IsRaceText observed.symbols (point_of observed.start).setup text) → AreWantedRaces records symbols (point_of opened.start).setup text
-wanted_races records symbols opened text = by_both records.races opened.observed
+pub wanted_races : (records : Records) (symbols : SymbolLists) (own : Option SymbolLists) (setup : Setup) (races : List Race) (text : List ℕ) → is_some own ≡ is_some records.races
+    → IfSome own (λ own. own ≡ symbols) → (is_some records.races ≡ true → AreRacesOf setup races) → IfSome own (λ own. text ≡ text_of own races) → AreWantedRaces records symbols setup text
+wanted_races records symbols own setup races text = by_both records.races own
   where
-    by_both : (races : Option Destination) (observed : Option Observed) → is_some observed ≡ is_some races
-        → IfSome observed (λ observed. ((point_of observed.start).setup ≡ (point_of opened.start).setup) × ((point_of observed.start).done ≡ 0))
-        → IfSome observed (λ observed. observed.symbols ≡ symbols)
-        → IfSome observed (λ observed. IsRaceText observed.symbols (point_of observed.start).setup text) → IsSome races → IsRaceText symbols (point_of opened.start).setup text
-    by_both None observed same setups names is wanted = absurd (none_wanted wanted)
-    by_both (Some to) None same setups names is wanted = absurd (unlike same)
-    by_both (Some to) (Some it) same setups names is wanted =
-        subst (λ (names : SymbolLists). IsRaceText names (point_of opened.start).setup text) names (subst (λ (given : Setup). IsRaceText it.symbols given text) setups.0 is)
+    by_both : (to : Option Destination) (own : Option SymbolLists) → is_some own ≡ is_some to → IfSome own (λ own. own ≡ symbols) → (is_some to ≡ true → AreRacesOf setup races)
+        → IfSome own (λ own. text ≡ text_of own races) → IsSome to → IsRaceText symbols setup text
+    by_both None own same names are is wanted = absurd (none_wanted wanted)
+    by_both (Some to) None same names are is wanted = absurd (unlike same)
+    by_both (Some to) (Some own) same names are is wanted = (races, are refl, is ∙ ap (λ (names : SymbolLists). text_of names races) names)
 
 -- no run of the file began
 pub runs_unbegun : (tells : Type 0) (request : RunRequest) (before after : Host) (failure : Failure) (answer : Result RunOutcome Failure)

@@ -29,7 +29,7 @@ use Rattle.command_requests.specs.declared.target.Target.TheVariants.{StandardOu
 use Rattle.command_requests.specs.declared.records.Records.{Records}
 use Rattle.command_run.specs.declared.opened.Opened.{Opened}
 use Rattle.command_run.specs.Failure.{failure_of_refusal}
-use Rattle.command_run.specs.Observing.{IsObserved, IsRaceText}
+use Rattle.command_run.specs.Observing.{IsRaceText}
 use Rattle.symbols.specs.Symbol.{SymbolLists}
 use Rattle.symbols.specs.Symbols.{symbols_of}
 
@@ -72,10 +72,10 @@ AreRun content input Is =
 abbrev pub IsOpenedFrom : Config → RunInTurn → List ℕ → List ℕ → Type 0
 IsOpenedFrom config start elf input = IsAccepted elf input config × ((point_of start).setup ≡ setup_from elf input config)
 
--- and so is what its races are found by, if they are wanted
+-- and the names that its races are told by, if they are wanted, are those of the file's symbols
 pub record AreOpenedFrom (config : Config) (opened : Opened) (elf input : List ℕ) : Type 0 where
   pub start : IsOpenedFrom config opened.start elf input
-  pub observed : IfSome opened.observed (IsObserved config elf input)
+  pub symbols : IfSome opened.symbols (λ symbols. symbols ≡ symbols_of elf)
 
 -- why no run of the file at a path begins
 abbrev pub IsUnrun : List ℕ → Option (List ℕ) → Option (List ℕ) → Config → Failure → Type 0

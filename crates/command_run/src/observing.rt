@@ -1,57 +1,74 @@
-//! What the races of a run are found by, and their text.
-ghost use Rattle.std.specs.Prelude.{◌≡◌, IfErr, IfOk, IfSome, is_some};
+//! The races of a run: by which engine it runs if they are wanted, and their text.
+ghost use Rattle.std.specs.Prelude.{◌≡◌, ◌-◌, ◌^◌, ◌<◌, [], IfErr, IfOk, IfSome, is_some, true};
 ghost use Rattle.std.specs.String.{string_bytes};
+ghost use Rattle.observed_run.specs.Runs.{AreRacesOf};
+ghost use Rattle.races.specs.Texts.{text_of};
+ghost use Rattle.runtime.specs.Recorded.{ComesTo};
+ghost use Rattle.symbols.specs.Symbols.{symbols_of};
 ghost use Rattle.token.specs.RunInTurn.{point_of};
-ghost use Rattle.command_run.specs.Observing.{IsObserved, IsRaceText};
-ghost use Rattle.command_run.specs.Serves.{IsRefused};
 
-use crate::opened::Observed;
-use crate::running::open_bytes;
 use command_requests::{Destination, Failure};
-use observed_run::races_of_run;
-use races::races_text;
-use runtime::Config;
-use std::alloc::Global;
+use observed_run::{ObservedRun, run_observed};
+use races::{Race, races_text};
+use runtime::{OpenGate, Recorder, Sink, Start, run_opened};
+use std::alloc::{AllocError, Global};
 use std::sync::Wait;
+use std::thread::Threads;
 use symbols::Symbols;
-use token::TurnFault;
 
-/// What the races of a run are found by, if they have a destination.
-pub(crate) fn open_observed<'a>(
+/// The symbols of a file, if the races have a destination.
+pub(crate) fn wanted_symbols(
     alloc: Global,
     elf: &[u8],
-    input: &[u8],
-    config: &Config,
-    races: Option<Destination<'a>>,
-) -> Result<Option<Observed>, Failure<'a>>
-    ensures wanted { IfOk result (λ observed. is_some observed ≡ is_some races.entry) }
-    ensures observed { IfOk result (λ observed. IfSome observed (IsObserved config.now elf.now input.now)) }
-    ensures failed { IfErr result (IsRefused elf.now input.now config.now) }
+    races: Option<Destination<'_>>,
+) -> Result<Option<Symbols>, AllocError>
+    ensures wanted { IfOk result (λ symbols. is_some symbols ≡ is_some races.entry) }
+    ensures symbols { IfOk result (λ symbols. IfSome symbols (λ symbols. symbols ≡ symbols_of elf.now)) }
 {
-    let Some(_) = races else {
-        return Ok(None);
-    };
-    let start = open_bytes(alloc, elf, input, config)?;
-    let symbols = Symbols::read(alloc, elf)?;
-    Ok(Some(Observed { start, symbols }))
+    match races {
+        Some(_) => Ok(Some(Symbols::read(alloc, elf)?)),
+        None => Ok(None),
+    }
 }
 
-/// The text of a run's races, if they are wanted. The run is executed once more for them, by the calling host thread alone.
-pub(crate) fn race_text<'a, R: Wait>(
-    rt: &R,
+/// Does all turns of a run: if its races are wanted, by the calling host thread alone, which finds them; else by so many host
+/// threads at most.
+pub(crate) fn run_by<H: Threads + Wait + Sync, S: Sink, K: Recorder>(
+    rt: &H,
     alloc: Global,
-    observed: Option<Observed>,
+    start: Start,
+    workers: u32,
+    observes: bool,
+    sink: &mut S,
+    recorder: K,
+) -> ObservedRun<K>
+    requires done { (point_of start).done ≡ 0 }
+    requires output { (point_of start).state.output ≡ [] }
+    requires failures { S.failed sink.old < 2 ^ 64 - 1 }
+    requires none { K.records recorder [] [] }
+    ensures comes { ComesTo K.records K.writes S.taken S.failed (point_of start).setup result.run sink.old sink.new }
+    ensures races { observes ≡ true → IfOk result.run.result (λ end. AreRacesOf (point_of start).setup result.races.items) }
+{
+    if observes {
+        return run_observed(rt, alloc, start, sink, recorder);
+    }
+    ObservedRun {
+        run: run_opened(rt, alloc, start, workers, &OpenGate, sink, recorder),
+        races: Vec::new(alloc),
+    }
+}
+
+/// The text of a run's races, if they are wanted.
+pub(crate) fn race_text<'a>(
+    alloc: Global,
+    symbols: Option<Symbols>,
+    races: Vec<Race>,
 ) -> Result<String, Failure<'a>>
-    requires { IfSome observed (λ observed. (point_of observed.start).done ≡ 0) }
-    ensures races { IfOk result (λ text. IfSome observed (λ observed. IsRaceText observed.symbols (point_of observed.start).setup (string_bytes text))) }
+    ensures races { IfOk result (λ text. IfSome symbols (λ symbols. string_bytes text ≡ text_of symbols races.items)) }
     ensures failed { IfErr result (λ failure. failure ≡ Failure.OutOfMemory) }
 {
-    let Some(Observed { start, symbols }) = observed else {
-        return Ok(String::new(alloc));
-    };
-    match races_of_run(rt, alloc, start) {
-        Ok(races) => Ok(races_text(alloc, &races, &symbols)?),
-        Err(TurnFault::OutOfMemory) => Err(Failure::OutOfMemory),
-        Err(TurnFault::WriteFailed) => unreachable!(),
+    match symbols {
+        Some(symbols) => Ok(races_text(alloc, &races, &symbols)?),
+        None => Ok(String::new(alloc)),
     }
 }

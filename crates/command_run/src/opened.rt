@@ -1,21 +1,12 @@
-//! A run that was opened, with what its races are found by.
+//! A run that was opened, with the names that its races are told by.
 use runtime::Start;
 use symbols::Symbols;
 
-/// A run of which no turn is done, and what its races are found by, if they are wanted.
+/// A run of which no turn is done, and the symbols of its file if its races are wanted.
 #[derive(Drop)]
 pub(crate) struct Opened {
     /// The run.
     pub(crate) start: Start,
-    /// What its races are found by.
-    pub(crate) observed: Option<Observed>,
-}
-
-/// What the races of a run are found by.
-#[derive(Drop)]
-pub(crate) struct Observed {
-    /// The run once more, of which no turn is done.
-    pub(crate) start: Start,
     /// The symbols of its file.
-    pub(crate) symbols: Symbols,
+    pub(crate) symbols: Option<Symbols>,
 }

@@ -6,7 +6,6 @@ ghost use Rattle.run_limits.specs.Limits as limit;
 ghost use Rattle.command_outputs.specs.Records.{KeepsButParts, NamesNone};
 ghost use Rattle.symbols.specs.Symbol.{SymbolLists};
 ghost use Rattle.token.specs.RunInTurn.{point_of};
-ghost use Rattle.command_run.specs.Observing.{AreSameRun};
 ghost use Rattle.command_run.specs.Serves.{Concludes, RunsInto, host_of, run_of};
 
 use crate::observing::race_text;
@@ -57,29 +56,31 @@ fn run_opened_file<'a, H: Threads + Wait + Sync, F: Files, W: Write>(
     files: &mut F,
     stdout: &mut WriteSink<W>,
 ) -> Result<RunOutcome, Failure<'a>>
+    requires done { (point_of opened.start).done ≡ 0 }
     requires output { (point_of opened.start).state.output ≡ [] }
     requires failures { stdout.old.failures < 2 ^ 64 - 1 }
-    requires wanted { is_some opened.observed ≡ is_some records.now.races }
-    requires same { AreSameRun opened }
-    ensures answer { (symbols : SymbolLists) → IfSome opened.observed (λ observed. observed.symbols ≡ symbols)
+    requires wanted { is_some opened.symbols ≡ is_some records.now.races }
+    ensures answer { (symbols : SymbolLists) → IfSome opened.symbols (λ own. own ≡ symbols)
         → Concludes (Tells F.Output.contents) records.now symbols
         (host_of F.content W.contents files.old stdout.old) (host_of F.content W.contents files.new stdout.new)
         (point_of opened.start).setup result }
     ensures unnamed { NamesNone records.now → files.new ≡ files.old }
 {
     one_history();
-    let Opened { start, observed } = opened;
+    let Opened { start, symbols } = opened;
     let Outputs {
         trace,
         timeline,
         made,
     } = begin(alloc, records, files)?;
     let recorders = TextRecorders::new(alloc, records, trace, timeline);
-    let RunAttempt { result, recorders } = run_start(
-        rt, alloc, start, workers, records, recorders, stdout,
-    );
+    let RunAttempt {
+        result,
+        races,
+        recorders,
+    } = run_start(rt, alloc, start, workers, records, recorders, stdout);
     match result {
-        Ok(end) => match race_text(rt, alloc, observed) {
+        Ok(end) => match race_text(alloc, symbols, races) {
             Ok(races) => {
                 let outcome = end.outcome;
                 let ended = Ended {

@@ -9,19 +9,20 @@ ghost use Rattle.runtime.specs.Sending.{CountsFailures, SendsSoFar};
 ghost use Rattle.runtime.specs.declared.interruption.Interruption.TheVariants as stop;
 ghost use Rattle.token.specs.RunInTurn.{point_of};
 ghost use Rattle.command_outputs.specs.Recorders.{AreFor, AreSame, AreTold, Writes};
-ghost use Rattle.command_run.specs.Observing.{AreSameRun};
+ghost use Rattle.observed_run.specs.Runs.{AreRacesOf};
 ghost use Rattle.command_run.specs.Serves.{AreRun, AreOpenedFrom, IsOpenedFrom, IsRefused, IsStopped, IsUnrun};
 
-use crate::observing::open_observed;
+use crate::observing::{run_by, wanted_symbols};
 use crate::opened::Opened;
 use crate::run_failure::{failure_of_interruption, failure_of_refusal};
 use command_outputs::TextRecorders;
 use command_requests::{Destination, Failure, Records, Target};
 use elf32_reader::FILE_LIMIT;
+use observed_run::ObservedRun;
 use output_files::{Files, read_upto};
+use races::Race;
 use runtime::{
-    Both, Config, Interruption, MAX_INPUT, OpenFault, OpenGate, RecordedRun, RunEnd, Start,
-    WriteSink, open_run, run_opened,
+    Both, Config, MAX_INPUT, OpenFault, RecordedRun, RunEnd, Start, WriteSink, open_run,
 };
 use std::alloc::Global;
 use std::io::{Read, Write};
@@ -34,12 +35,14 @@ use token::{IsWanted, Wanted};
 pub struct RunAttempt<'a, O> {
     /// How it ended, and what it left.
     pub result: Result<RunEnd, Failure<'a>>,
+    /// Its races, if they were wanted.
+    pub races: Vec<Race>,
     /// The recorders, which were told of each turn.
     pub recorders: TextRecorders<O>,
 }
 
-/// The run of the program of a file on the bytes of `stdin`, of which no turn is done, and what its races are found by, if they
-/// have a destination.
+/// The run of the program of a file on the bytes of `stdin`, of which no turn is done, and the file's symbols if the races have a
+/// destination.
 pub(crate) fn open_file<'a, F: Files, R: Read>(
     alloc: Global,
     file: &'a str,
@@ -49,9 +52,9 @@ pub(crate) fn open_file<'a, F: Files, R: Read>(
     stdin: &mut R,
 ) -> Result<Opened, Failure<'a>>
     ensures input { TakesAtMost (limit.input + 1) (R.remaining stdin.old) (R.remaining stdin.new) }
-    ensures wanted { IfOk result (λ opened. is_some opened.observed ≡ is_some races.entry) }
+    ensures wanted { IfOk result (λ opened. is_some opened.symbols ≡ is_some races.entry) }
     ensures opened { IfOk result (λ opened. AreRun (F.content files.now file.now) (R.remaining stdin.old) (AreOpenedFrom config.now opened)) }
-    ensures same { IfOk result AreSameRun }
+    ensures done { IfOk result (λ opened. (point_of opened.start).done ≡ 0) }
     ensures output { IfOk result (λ opened. (point_of opened.start).state.output ≡ []) }
     ensures failed { IfErr result (IsUnrun file.now (F.content files.now file.now) (R.remaining stdin.old) config.now) }
 {
@@ -66,7 +69,7 @@ pub(crate) fn open_file<'a, F: Files, R: Read>(
     open_all(alloc, elf.as_slice(), input.as_slice(), config, races)
 }
 
-/// The run of the program that the bytes of a file are, and what its races are found by, if they have a destination.
+/// The run of the program that the bytes of a file are, and the file's symbols if the races have a destination.
 fn open_all<'a>(
     alloc: Global,
     elf: &[u8],
@@ -74,15 +77,15 @@ fn open_all<'a>(
     config: &Config,
     races: Option<Destination<'a>>,
 ) -> Result<Opened, Failure<'a>>
-    ensures wanted { IfOk result (λ opened. is_some opened.observed ≡ is_some races.entry) }
+    ensures wanted { IfOk result (λ opened. is_some opened.symbols ≡ is_some races.entry) }
     ensures opened { IfOk result (λ opened. AreOpenedFrom config.now opened elf.now input.now) }
-    ensures same { IfOk result AreSameRun }
+    ensures done { IfOk result (λ opened. (point_of opened.start).done ≡ 0) }
     ensures output { IfOk result (λ opened. (point_of opened.start).state.output ≡ []) }
     ensures failed { IfErr result (IsRefused elf.now input.now config.now) }
 {
     let start = open_bytes(alloc, elf, input, config)?;
-    let observed = open_observed(alloc, elf, input, config, races)?;
-    Ok(Opened { start, observed })
+    let symbols = wanted_symbols(alloc, elf, races)?;
+    Ok(Opened { start, symbols })
 }
 
 /// The run of the program that the bytes of a file are, of which no turn is done.
@@ -104,8 +107,9 @@ pub fn open_bytes<'a>(
     }
 }
 
-/// Does all turns of a run by so many host threads at most, puts its output out, and tells the recorders of its texts
-/// each turn. Its trace and its timeline go to their destinations, where there are. A lost flush counts as a failure of `stdout`.
+/// Does all turns of a run, puts its output out, and tells the recorders of its texts each turn. If its races are wanted, they are
+/// found, and the calling host thread does it all; else so many host threads at most do. The trace and the timeline go to their
+/// destinations, if there are any. A lost flush counts as a failure of `stdout`.
 pub fn run_start<'a, H: Threads + Wait + Sync, O: Write, W: Write>(
     rt: &H,
     alloc: Global,
@@ -115,19 +119,22 @@ pub fn run_start<'a, H: Threads + Wait + Sync, O: Write, W: Write>(
     recorders: TextRecorders<O>,
     stdout: &mut WriteSink<W>,
 ) -> RunAttempt<'a, O>
+    requires done { (point_of start).done ≡ 0 }
     requires output { (point_of start).state.output ≡ [] }
     requires failures { stdout.old.failures < 2 ^ 64 - 1 }
     requires none { AreTold O.contents recorders [] [] }
     requires wanted { AreFor records.now recorders }
     ensures ended { IfOk result.result (λ end. Ends (AreTold O.contents) (point_of start).setup end result.recorders) }
+    ensures races { IfOk result.result (λ end. is_some records.now.races ≡ true → AreRacesOf (point_of start).setup result.races.items) }
     ensures same { AreSame recorders result.recorders }
     ensures sent { IfOk result.result (λ end. Appends (W.contents stdout.old.writer) (W.contents stdout.new.writer) end.output.items) }
     ensures stopped { IfErr result.result (λ failure. (files files' : Content) → IsStopped records.now.trace records.now.timeline (point_of start).setup
         (record { files = files; output = W.contents stdout.old.writer; failures = stdout.old.failures })
         (record { files = files'; output = W.contents stdout.new.writer; failures = stdout.new.failures }) failure) }
 {
-    let run = run_wanted::<Brand, Brand, Brand, Brand, _, _, _>(
-        rt, alloc, start, workers, recorders, stdout,
+    let observes = records.races.is_some();
+    let ObservedRun { run, races } = run_wanted::<Brand, Brand, Brand, Brand, _, _, _>(
+        rt, alloc, start, workers, observes, recorders, stdout,
     );
     let RecordedRun { result, recorder } = run;
     let result = match result {
@@ -145,6 +152,7 @@ pub fn run_start<'a, H: Threads + Wait + Sync, O: Write, W: Write>(
     };
     RunAttempt {
         result,
+        races,
         recorders: recorder,
     }
 }
@@ -179,9 +187,11 @@ fn run_wanted<
     alloc: Global,
     start: Start,
     workers: u32,
+    observes: bool,
     recorders: TextRecorders<O>,
     stdout: &mut WriteSink<W>,
-) -> RecordedRun<TextRecorders<O>, Interruption>
+) -> ObservedRun<TextRecorders<O>>
+    requires done { (point_of start).done ≡ 0 }
     requires output { (point_of start).state.output ≡ [] }
     requires failures { stdout.old.failures < 2 ^ 64 - 1 }
     requires none { AreTold O.contents recorders [] [] }
@@ -189,11 +199,12 @@ fn run_wanted<
     requires timeline { is_some recorders.timeline ≡ L.is_wanted }
     requires sharing { is_some recorders.sharing ≡ S.is_wanted }
     requires digest { is_some recorders.digest ≡ D.is_wanted }
-    ensures ended { IfOk result.result (λ end. Ends (AreTold O.contents) (point_of start).setup end result.recorder) }
-    ensures same { AreSame recorders result.recorder }
-    ensures sent { SendsSoFar (point_of start).setup result.result (W.contents stdout.old.writer) (W.contents stdout.new.writer) }
-    ensures failures { CountsFailures stop.WriteFailed result.result stdout.old.failures stdout.new.failures }
-    ensures writes { IfErr result.result (λ interruption. interruption ≡ stop.RecordFailed → Writes recorders) }
+    ensures ended { IfOk result.run.result (λ end. Ends (AreTold O.contents) (point_of start).setup end result.run.recorder) }
+    ensures races { observes ≡ true → IfOk result.run.result (λ end. AreRacesOf (point_of start).setup result.races.items) }
+    ensures same { AreSame recorders result.run.recorder }
+    ensures sent { SendsSoFar (point_of start).setup result.run.result (W.contents stdout.old.writer) (W.contents stdout.new.writer) }
+    ensures failures { CountsFailures stop.WriteFailed result.run.result stdout.old.failures stdout.new.failures }
+    ensures writes { IfErr result.run.result (λ interruption. interruption ≡ stop.RecordFailed → Writes recorders) }
 {
     let TextRecorders {
         trace,
@@ -211,9 +222,8 @@ fn run_wanted<
             },
         },
     };
-    let RecordedRun { result, recorder } = run_opened(
-        rt, alloc, start, workers, &OpenGate, stdout, all,
-    );
+    let ObservedRun { run, races } = run_by(rt, alloc, start, workers, observes, stdout, all);
+    let RecordedRun { result, recorder } = run;
     let Both { first, second } = recorder;
     let Both {
         first: timeline,
@@ -223,13 +233,14 @@ fn run_wanted<
         first: sharing,
         second: digest,
     } = second;
-    RecordedRun {
-        result,
-        recorder: TextRecorders {
-            trace: first.into_recorder(),
-            timeline: timeline.into_recorder(),
-            sharing: sharing.into_recorder(),
-            digest: digest.into_recorder(),
-        },
+    let recorder = TextRecorders {
+        trace: first.into_recorder(),
+        timeline: timeline.into_recorder(),
+        sharing: sharing.into_recorder(),
+        digest: digest.into_recorder(),
+    };
+    ObservedRun {
+        run: RecordedRun { result, recorder },
+        races,
     }
 }

@@ -1,4 +1,5 @@
 pub mod Ending
+pub mod Going
 pub mod Sliced
 pub mod Told
 pub mod Turning

@@ -1,26 +1,27 @@
 -- The events of a run, turn by turn.
-use Rattle.std.specs.Prelude.{◌≡◌, ℕ, ◌+◌, ◌%◌, ◌^◌, Option, Some, List, [], ◌++◌, IsSome}
+use Rattle.std.specs.Prelude.{◌≡◌, ℕ, ◌+◌, ◌%◌, ◌^◌, ◌⊎◌, Option, Some, List, [], ◌++◌, IsSome}
 use Rattle.guest_memory.specs.Memory.{Memory}
 use Rattle.races.specs.Races.{AreRaces}
 use Rattle.races.specs.Recording.{Records}
 use Rattle.races.specs.Steps.{steps_in}
 use Rattle.races.specs.declared.event.Event.{Event}
 use Rattle.races.specs.declared.race.Race.{Race}
+use Rattle.races.specs.declared.recorder.RaceRecorder.{RaceRecorder}
 use Rattle.segment.specs.declared.segment.Segment.{Segment}
 use Rattle.segment.specs.declared.segment_end.SegmentEnd.{SegmentEnd}
 use Rattle.token.specs.Point.{Point, IsNeededAt, moved, need_at, step_at}
 use Rattle.token.specs.RunInTurn.{point_of}
-use Rattle.token.specs.Serial.{StandsAfter}
+use Rattle.token.specs.Serial.{IsLonger, StandsAfter}
 use Rattle.token.specs.Setup.{Setup}
 use Rattle.token.specs.History.{History}
 use Rattle.token.specs.Turns.{Step}
 use Rattle.token.specs.declared.need.Need.{Need}
 use Rattle.token.specs.declared.need.Need.TheVariants as need
+use Rattle.token.specs.declared.run_in_turn.RunInTurn.{RunInTurn}
 use Rattle.observed_run.specs.Calls.{AreOfEnd, blocked_in, held_by, let_go}
 use Rattle.observed_run.specs.Events.{byte_of, events_upto, steps_before}
 use Rattle.observed_run.specs.Told.{IsTold}
 use Rattle.observed_run.specs.declared.actor.Actor.{Actor}
-use Rattle.observed_run.specs.declared.run.ObservedRun.{ObservedRun}
 
 -- who has the next turn
 abbrev pub thread_by : Need → ℕ
@@ -75,15 +76,19 @@ pub record AreRacesOf (setup : Setup) (races : List Race) : Type 0 where
 abbrev pub IsLegalPoint : Point → Type 0
 IsLegalPoint point = (history : History) × StandsAfter point history
 
--- The run has moved from one point to another, and its recorder was told the events of the turns between.
-abbrev pub Leads : (old new : ObservedRun) → Type 0
-Leads old new =
-    (start : Point) (events : List Event) → AreEvents start (point_of old.serial) events → Records old.recorder events
-    → (more : List Event) × AreEvents start (point_of new.serial) more × Records new.recorder more
+-- The run has moved from one point to another, and its recorder of races was told the events of the turns between.
+abbrev pub Leads : (run run' : RunInTurn) (races races' : RaceRecorder) → Type 0
+Leads run run' races races' =
+    (start : Point) (events : List Event) → AreEvents start (point_of run) events → Records races events
+    → (more : List Event) × AreEvents start (point_of run') more × Records races' more
 
--- the recorder was told what follows the segment of a turn
-abbrev pub TellsLast : (old new : ObservedRun) → (thread : ℕ) → Option SegmentEnd → Type 0
-TellsLast old new thread end =
+-- the recorder of races was told what follows the segment of a turn
+abbrev pub TellsLast : RunInTurn → (races races' : RaceRecorder) → (thread : ℕ) → Option SegmentEnd → Type 0
+TellsLast run races races' thread end =
     (last : List Event)
-    × AreLast (actor_of (point_of old.serial).done thread) (point_of old.serial) thread end (step_at (point_of old.serial) end) last
-    × IsTold old.recorder new.recorder last
+    × AreLast (actor_of (point_of run).done thread) (point_of run) thread end (step_at (point_of run) end) last
+    × IsTold races races' last
+
+-- a turn that failed may have been done
+abbrev pub MayMove : Point → Point → Type 0
+MayMove old new = (new ≡ old) ⊎ IsLonger old new

@@ -8,7 +8,7 @@ use abi::limits::OBJECTS;
 use condvar_barrier::Objects;
 use std::alloc::{AllocError, Global};
 use thread_table::{Status, Threads};
-use token::{NoRecord, Serial};
+use token::{Recorder, Serial};
 
 /// What the events of a turn need of the run before it.
 #[derive(Drop)]
@@ -21,9 +21,9 @@ pub(crate) struct Before {
 
 impl Before {
     /// That of the present turn, which is a thread's.
-    pub(crate) fn of(
+    pub(crate) fn of<K: Recorder>(
         alloc: Global,
-        serial: &Serial<NoRecord>,
+        serial: &Serial<K>,
         thread: u32,
     ) -> Result<Self, AllocError>
         ensures blocked { IfOk result (λ before. before.blocked.items ≡ spec.blocked_in (point_of serial.now).state.threads) }

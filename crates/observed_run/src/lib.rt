@@ -6,6 +6,8 @@ mod before;
 mod call_events;
 mod instruction_event;
 mod observed_loop;
+mod observed_run;
+mod observer;
 mod observing;
 mod ranges;
 mod retyped;
@@ -13,4 +15,5 @@ mod run;
 mod telling;
 mod told_near;
 
-pub use run::races_of_run;
+pub use observed_run::ObservedRun;
+pub use run::run_observed;

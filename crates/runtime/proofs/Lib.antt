@@ -1,3 +1,4 @@
+pub mod Concluded
 pub mod Needs
 pub mod OneReport
 pub mod Prefixes

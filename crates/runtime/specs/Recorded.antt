@@ -5,12 +5,16 @@ use Rattle.paged_memory.specs.Snapshot.{cells_of}
 use Rattle.token.specs.Change.{Change}
 use Rattle.token.specs.History.{History, changes_of, outcome, present, turns_of}
 use Rattle.token.specs.Legal.{IsLegal}
+use Rattle.token.specs.RunInTurn.{point_of}
 use Rattle.token.specs.Setup.{Setup}
+use Rattle.token.specs.declared.outcome.RunOutcome.{RunOutcome}
+use Rattle.token.specs.declared.run_in_turn.RunInTurn.{RunInTurn}
 use Rattle.token.specs.declared.turn.Turn.{Turn}
 use Rattle.runtime.specs.Answer.{HasAnswer}
 use Rattle.runtime.specs.Faults.{refusal_of}
 use Rattle.runtime.specs.Run.{IsAccepted, Refuses, setup_from}
 use Rattle.runtime.specs.Sending.{CountsFailures, SendsSoFar}
+use Rattle.runtime.specs.Turns.{GoesOnSunk, Sunk}
 use Rattle.runtime.specs.declared.config.Config.{Config}
 use Rattle.runtime.specs.declared.interruption.Interruption.{Interruption}
 use Rattle.runtime.specs.declared.interruption.Interruption.TheVariants as stop
@@ -63,3 +67,9 @@ pub record ComesTo {R S : Type 0} (records : Recording R) (writes : Type 0) (tak
   pub writes_if : IfErr run.result (λ interruption. interruption ≡ stop.RecordFailed → writes)
   pub sent : SendsSoFar setup run.result (taken sink) (taken sink')
   pub failures : CountsFailures stop.WriteFailed run.result (failed sink) (failed sink')
+
+-- What a run comes to whose turns ended so, from a start without output on.
+abbrev pub IsConclusion : {R : Type 0} → Recording R → (writes : Type 0) → Result RunOutcome Interruption → RunInTurn → RecordedRun R Interruption → Type 0
+IsConclusion records writes ended serial run =
+    (start : RunInTurn) (before after : Sunk) → (point_of start).state.output ≡ [] → GoesOnSunk writes Some ended start serial before after
+    → ComesTo records writes (λ it. it.taken) (λ it. it.failed) (point_of start).setup run before after

@@ -29,3 +29,15 @@ pub record GoesOn {T S : Type 0} (writes : Type 0) (taken : S → Option (List �
   pub sent : SendsOn result (point_of run).state.output (point_of run').state.output (taken sink) (taken sink')
   pub failures : CountsFailures WriteFailed result (failed sink) (failed sink')
   pub writes_if : IfErr result (λ interruption. interruption ≡ RecordFailed → writes)
+
+-- what a sink took, if it tells it, and how often it failed
+pub record Sunk : Type 0 where
+  pub taken : Option (List ℕ)
+  pub failed : ℕ
+
+abbrev pub sunk : {S : Type 0} → (taken : S → Option (List ℕ)) → (failed : S → ℕ) → S → Sunk
+sunk taken failed sink = record { taken = taken sink; failed = failed sink }
+
+-- turns were done, told by what the sink took and how often it failed
+abbrev pub GoesOnSunk : {T : Type 0} → (writes : Type 0) → (T → Option RunOutcome) → Result T Interruption → (run run' : RunInTurn) → (sunk sunk' : Sunk) → Type 0
+GoesOnSunk writes outcome_in result run run' before after = GoesOn writes (λ it. it.taken) (λ it. it.failed) outcome_in result run run' before after

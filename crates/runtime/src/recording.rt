@@ -1,9 +1,9 @@
 //! Runs with a recorder.
-ghost use Rattle.std.specs.Prelude.{◌≡◌, ◌-◌, ◌^◌, ◌<◌, ◌≤◌, []};
+ghost use Rattle.std.specs.Prelude.{◌≡◌, ◌-◌, ◌^◌, ◌<◌, ◌≤◌, [], Err, IfErr};
 ghost use Rattle.token.specs.RunInTurn.{point_of};
 ghost use Rattle.run_limits.specs.Limits as limit;
 ghost use Rattle.runtime.specs.Faults as spec;
-ghost use Rattle.runtime.specs.Recorded.{AnswersRecorded, ComesTo};
+ghost use Rattle.runtime.specs.Recorded.{AnswersRecorded, ComesTo, IsConclusion};
 ghost use Rattle.runtime.specs.Run.{OpensRun, setup_from};
 ghost use Rattle.runtime.specs.Sending.{CountsFailures, SendsEnd};
 
@@ -23,7 +23,7 @@ use std::alloc::Global;
 use std::marker::Brand;
 use std::sync::Wait;
 use std::thread::Threads;
-use token::{Recorder, Serial, Start, one_history};
+use token::{Recorder, RunOutcome, Serial, Start, one_history};
 
 /// Runs a file on an input, sends the output to a sink, and tells a recorder of each turn. The recorder has
 /// recorded no turn before. The output's bytes are offered once their turn is recorded.
@@ -131,8 +131,21 @@ fn record_serial<R: Threads + Wait + Sync, G: Gate + Sync, S: Sink, K: Recorder>
     ensures { ComesTo K.records K.writes S.taken S.failed (point_of serial).setup result sink.old sink.new }
 {
     let mut serial = serial;
+    let ended = take_turns::<Brand, _, _, _, _>(rt, alloc, &mut serial, workers, gate, sink);
+    conclude(alloc, serial, ended)
+}
+
+/// What a run with a recorder comes to whose turns were done and ended so, or were interrupted.
+pub fn conclude<K: Recorder>(
+    alloc: Global,
+    serial: Serial<K>,
+    ended: Result<RunOutcome, Interruption>,
+) -> RecordedRun<K, Interruption>
+    ensures comes { IsConclusion K.records K.writes ended serial result }
+    ensures interrupted { IfErr ended (λ interruption. result.result ≡ Err interruption) }
+{
     one_history();
-    match take_turns::<Brand, _, _, _, _>(rt, alloc, &mut serial, workers, gate, sink) {
+    match ended {
         Ok(outcome) => match end_of(alloc, &serial, outcome) {
             Ok(end) => RecordedRun {
                 result: Ok(end),

@@ -1,10 +1,12 @@
 //! The text of the races of a run.
 use anyhow::{Result, anyhow};
 use elf32_reader::read;
-use observed_run::races_of_run;
+use observed_run::run_observed;
 use races::races_text;
 use run_limits::MAX_BOUND;
+use runtime::{NoRecord, WriteSink};
 use std::alloc::Global;
+use std::io::sink;
 use std::sync::Wait;
 use symbols::Symbols;
 use test_guest_rows::{Guest, GuestRun};
@@ -36,8 +38,9 @@ pub(crate) fn file_text<R: Wait>(
     let bound = bound.unwrap_or(MAX_BOUND).clamp(1, MAX_BOUND);
     let quantum = quantum.map(|quantum| quantum.clamp(1, MAX_BOUND));
     let start = Start::open(alloc, &image, input, bound, quantum)?;
-    let Ok(races) = races_of_run(rt, alloc, start) else {
+    let observed = run_observed(rt, alloc, start, &mut WriteSink::new(sink()), NoRecord);
+    if observed.run.result.is_err() {
         return Err(anyhow!("out of memory"));
-    };
-    Ok(races_text(alloc, &races, &Symbols::read(alloc, file)?)?)
+    }
+    Ok(races_text(alloc, &observed.races, &Symbols::read(alloc, file)?)?)
 }

@@ -12,7 +12,7 @@ returns-clause-stopped g c = elim c.match-result.branch [
   | in-Ok+in-Ok-finish w ↦ rw w.result-is tt
   | in-Ok+in-Err-finish w ↦ rw (w.result-is, w.stdout-is) λ files files'. (
     inr (inl (refl, ap (λ failures. failures + 1) (w.finish.ensures.others.0 ∙ rw w.in-Ok.is at c.run_wanted-run.ensures.failures))),
-    all_sent (AreTold g.O.Write.contents) (point_of c.args.start).setup w.in-Ok.end c.run_wanted-run.result.recorder _ _
+    all_sent (AreTold g.O.Write.contents) (point_of c.args.start).setup w.in-Ok.end c.run_wanted-run.result.run.recorder _ _
         (rw w.in-Ok.is at c.run_wanted-run.ensures.ended) (Appends-kept _ _ _ _ (rw w.in-Ok.is at c.run_wanted-run.ensures.sent) w.finish.ensures.bytes),
   )
   | in-Err w ↦ rw (w.result-is, w.stdout-is) λ files files'.

@@ -9,11 +9,11 @@ use Rattle.observed_run.specs.Calls.{blocked_in, let_go}
 use Rattle.observed_run.specs.Runs.{actor_of}
 use Rattle.observed_run.specs.Told.{IsTold}
 use Rattle.observed_run.proofs.Turning.{last_is, moved_state}
-use Rattle.observed_run.proofs.run.ObservedRun.turn.Goals as goal
+use Rattle.observed_run.proofs.observer.Observer.turn.Goals as goal
 
 pub returns-clause-told : goal.returns-clause-told
-returns-clause-told c =
-    let point = point_of c.args.self.now.serial in
+returns-clause-told g c =
+    let point = point_of c.args.serial.now in
     let end = option_map (λ end. end.now) c.args.end in
     let step = step_at point end in
     let after = ap (λ (p : Point). p.state.threads) c.in_ok-turn.ensures.moved ∙ ap (λ (s : State). s.threads) (moved_state point step) in
@@ -23,7 +23,7 @@ returns-clause-told c =
     ∙ ap (let_go (blocked_in point.state.threads)) (c.threads.ensures ∙ after) in
     let stops = ap (λ (turn : Turn). turn.stop) c.in_ok-turn.ensures.turn in (
       c.in_ok-events.events.items,
-      last_is (actor_of point.done c.args.thread) c.actor-actor.result point c.args.thread end step c.as_slice.result.now c.as_slice-2.result.now c.in_ok-turn.turn.stop c.in_ok-events.events.items
-          c.actor-actor.ensures held goes stops c.in_ok-events.ensures,
-      subst (λ (events : List Event). IsTold c.args.self.now.recorder c.tell_all.new.recorder events) c.deref.ensures.value c.in_ok-tell_all.ensures,
+      last_is (actor_of point.done c.args.thread) c.actor_in-actor.result point c.args.thread end step c.as_slice.result.now c.as_slice-2.result.now c.in_ok-turn.turn.stop c.in_ok-events.events.items
+          c.actor_in-actor.ensures held goes stops c.in_ok-events.ensures,
+      subst (λ (events : List Event). IsTold c.args.self.now.races c.tell_all.new.recorder events) c.deref.ensures.value c.in_ok-tell_all.ensures,
     )

@@ -1,0 +1,141 @@
+//! Does the turns of a run and tells a recorder of races their events.
+ghost use Rattle.std.specs.Prelude.{◌≡◌, ◌-◌, ◌^◌, ◌<◌, IfErr, IfOk, IsSome, OnErr, OnOk, Some, option_map};
+ghost use Rattle.token.specs.Point.{IsNeededAt, moved, step_at};
+ghost use Rattle.token.specs.RunInTurn.{point_of};
+ghost use Rattle.token.specs.Serial.{IsLonger};
+ghost use Rattle.token.specs.declared.turn_fault.TurnFault.TheVariants.{WriteFailed};
+ghost use Rattle.runtime.specs.Turns.{GoesOn, Moves};
+ghost use Rattle.observed_run.specs.Runs as spec;
+ghost use Rattle.observed_run.specs.Runs.{IsLegalPoint, Leads, MayMove, TellsLast};
+
+use crate::actor::{Actor, byte_of};
+use crate::before::Before;
+use crate::call_events::{Ended, end_events, let_go};
+use crate::observing::observe;
+use crate::telling::tell_all;
+use races::RaceRecorder;
+use runtime::{Interruption, Sink, send};
+use std::alloc::Global;
+use std::sync::Wait;
+use token::{Need, Recorder, RunOutcome, SegmentEnd, Serial, TurnFault};
+
+/// Does turns by the calling host thread alone, and tells a recorder of races their events.
+#[derive(Drop)]
+pub(crate) struct Observer {
+    pub(crate) alloc: Global,
+    /// Who is told the events.
+    pub(crate) races: RaceRecorder,
+}
+
+impl Observer {
+    /// Does all turns, sends the output of each to a sink before the next one, and answers how the run ended.
+    pub(crate) fn go_to_end<R: Wait, K: Recorder, S: Sink>(
+        &mut self,
+        rt: &R,
+        serial: &mut Serial<K>,
+        sink: &mut S,
+    ) -> Result<RunOutcome, Interruption>
+        requires { S.failed sink.old < 2 ^ 64 - 1 }
+        ensures goes { GoesOn K.writes S.taken S.failed Some result serial.old serial.new sink.old sink.new }
+        ensures leads { OnOk result (Leads serial.old serial.new self.old.races self.new.races) }
+        ensures legal { OnOk result (IsLegalPoint (point_of serial.old)) }
+        ensures ended { OnOk result (IsSome (point_of serial.new).ended) }
+    {
+        for _ in rt.forever() {
+            if let Some(outcome) = self.send_turn(serial, sink)? {
+                return Ok(outcome);
+            }
+        }
+        unreachable!()
+    }
+
+    /// Does the next turn and sends what it wrote, or answers how the run ended.
+    fn send_turn<K: Recorder, S: Sink>(
+        &mut self,
+        serial: &mut Serial<K>,
+        sink: &mut S,
+    ) -> Result<Option<RunOutcome>, Interruption>
+        requires { S.failed sink.old < 2 ^ 64 - 1 }
+        ensures goes { GoesOn K.writes S.taken S.failed (λ ends. ends) result serial.old serial.new sink.old sink.new }
+        ensures leads { OnOk result (Leads serial.old serial.new self.old.races self.new.races) }
+        ensures legal { OnOk result (IsLegalPoint (point_of serial.old)) }
+    {
+        if let Some(outcome) = self.take_turn(serial)? {
+            return Ok(Some(outcome));
+        }
+        match send(serial.fresh(), sink) {
+            Ok(()) => Ok(None),
+            Err(_) => Err(Interruption::WriteFailed),
+        }
+    }
+
+    /// Does the next turn, or answers how the run ended.
+    fn take_turn<K: Recorder>(
+        &mut self,
+        serial: &mut Serial<K>,
+    ) -> Result<Option<RunOutcome>, TurnFault>
+        ensures leads { OnOk result (Leads serial.old serial.new self.old.races self.new.races) }
+        ensures legal { OnOk result (IsLegalPoint (point_of serial.old)) }
+        ensures moved { IfOk result (λ ends. Moves ends (point_of serial.old) (point_of serial.new)) }
+        ensures may { OnErr result (MayMove (point_of serial.old) (point_of serial.new)) }
+        ensures failed { IfErr result (λ fault. fault ≡ WriteFailed → K.writes) }
+    {
+        match serial.need() {
+            Need::Ended(outcome) => Ok(Some(outcome)),
+            Need::Segment(work) => {
+                let actor = actor_in(serial, work.thread);
+                let end = observe(&mut self.races, actor, work.segment, serial.base())?;
+                self.turn(serial, work.thread, Some(&end))?;
+                Ok(None)
+            }
+            Need::Keeper(work) => {
+                let actor = actor_in(serial, work.thread);
+                let end = observe(&mut self.races, actor, work.segment, serial.now())?;
+                self.turn(serial, work.thread, Some(&end))?;
+                Ok(None)
+            }
+            Need::Wake { thread } => {
+                self.turn(serial, thread, None)?;
+                Ok(None)
+            }
+        }
+    }
+
+    /// Does the next turn, which is a thread's, and tells what its call or its wake orders.
+    fn turn<K: Recorder>(
+        &mut self,
+        serial: &mut Serial<K>,
+        thread: u32,
+        end: Option<&SegmentEnd>,
+    ) -> Result<(), TurnFault>
+        requires { IsNeededAt (point_of serial.old) (option_map (λ end. end.now) end) }
+        ensures moved { OnOk result (point_of serial.new ≡ moved (point_of serial.old) (step_at (point_of serial.old) (option_map (λ end. end.now) end.entry))) }
+        ensures longer { OnOk result (IsLonger (point_of serial.old) (point_of serial.new)) }
+        ensures may { OnErr result (MayMove (point_of serial.old) (point_of serial.new)) }
+        ensures failed { IfErr result (λ fault. fault ≡ WriteFailed → K.writes) }
+        ensures told { OnOk result (TellsLast serial.old self.old.races self.new.races thread (option_map (λ end. end.now) end.entry)) }
+    {
+        let alloc = self.alloc;
+        let actor = actor_in(serial, thread);
+        let before = Before::of(alloc, serial, thread)?;
+        let turn = serial.turn(end)?;
+        let passed = let_go(alloc, &before, serial.threads())?;
+        let ended = Ended {
+            actor,
+            held: before.held.as_slice(),
+            passed: passed.as_slice(),
+        };
+        let events = end_events(alloc, &ended, end, turn.stop)?;
+        Ok(tell_all(&mut self.races, &events)?)
+    }
+}
+
+/// A thread in the next turn of a run.
+fn actor_in<K: Recorder>(serial: &Serial<K>, thread: u32) -> Actor
+    ensures { result ≡ spec.actor_of (point_of serial.now).done thread }
+{
+    Actor {
+        thread: byte_of(thread),
+        turn: serial.done().wrapping_add(1),
+    }
+}
