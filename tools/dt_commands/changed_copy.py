@@ -1,14 +1,14 @@
 """The copy of the repository in which changes are tried: without proofs, and with a switch that says which change is on.
 
 Each replaced place asks the switch. A change of a test gets a test of its own, which puts it on and then does what its row's test does;
-the program reads which change is on.
+a program reads which change is on.
 """
 import os
 import re
 import shutil
 import subprocess
 
-from dt_commands.changes import PROGRAM, read
+from dt_commands.changes import PROGRAMS, read
 from dt_commands.repository import TOP
 
 SWITCH = "tried_change"
@@ -32,9 +32,9 @@ pub fn set(number: u32) {
 }
 """
 
-# What the program of the copy does first: the number of the change is its standard input.
+# What a program of the copy does first: the number of the change is its standard input.
 SET_BY_INPUT = f"""    for line in rt.lines(rt.alloc()) {{
-        {SWITCH}::set(decimal(line?.as_str())? as u32);
+        {SWITCH}::set(test_guest_rows::decimal(line?.as_str())? as u32);
     }}
 """
 
@@ -123,7 +123,7 @@ def copy(found, folder):
             if file.endswith(".rt"):
                 start = read(f"{TOP}/{file}").index(old)
                 places.setdefault(file, []).append((start, start + len(old), number, new))
-        if change.program_row():
+        if change.program_row()[0]:
             continue
         file, test = change.test()
         head, body = function_of(read(f"{TOP}/{file}"), test)
@@ -134,5 +134,6 @@ def copy(found, folder):
         write(f"{folder}/{file}", with_guards(read(f"{TOP}/{file}"), those))
     for file, those in tests.items():
         write(f"{folder}/{file}", read(f"{folder}/{file}") + "".join(those))
-    main, head = f"{folder}/crates/{PROGRAM}/src/main.rt", "fn main(rt: HostRuntime) -> Result<()> {\n"
-    write(main, read(main).replace(head, head + SET_BY_INPUT))
+    head = "fn main(rt: HostRuntime) -> Result<()> {\n"
+    for main in (f"{folder}/crates/{it}/src/main.rt" for it in PROGRAMS):
+        write(main, read(main).replace(head, head + SET_BY_INPUT))

@@ -1,9 +1,9 @@
 """The changes of tools/changes: each states one sentence of the guest machine wrongly, in a definition and in the code alike.
 
 A file tools/changes/NAME.change has lines `part:` and `sentence:`, a line `row:` with the test that must fail (`MODULE::TEST` of
-test_parts or test_conformance, or `test_guest_runs::ROW`, one row of that program or all that begin with these words), mostly one `case:`
-with what the failed row's message says, and edits as those of must-fail have them: lines `file:`, `old:` and `new:`. The old text is once
-in the file. In a source it is an expression, whole statements, an arm of a match, or the head of an `if` or a `while`.
+test_conformance, or `PROGRAM::ROW`, one row of test_parts or test_guest_runs or all that begin with these words), mostly one `case:` with
+what the failed row's message says, and edits as those of must-fail have them: lines `file:`, `old:` and `new:`. The old text is once in
+the file. In a source it is an expression, whole statements, an arm of a match, or the head of an `if` or a `while`.
 """
 import os
 
@@ -11,8 +11,10 @@ from dt_commands.repository import TOP
 
 FOLDER = f"{TOP}/tools/changes"
 PARTS = ["Harts", "Traps", "Memory", "Bound and quantum", "Files", "Calls", "Phases and turns", "Texts"]
-ROWS = ["test_parts", "test_conformance"]
-PROGRAM = "test_guest_runs"
+# The crates whose tests are rows.
+ROWS = ["test_conformance"]
+# The programs that print a line a row, each with the words that it is given before the names of rows.
+PROGRAMS = {"test_parts": [], "test_guest_runs": ["brief"]}
 
 
 def read(file):
@@ -40,9 +42,9 @@ class Change:
             raise SystemExit(f"{name}: a part, a sentence, a row or an edit lacks")
 
     def program_row(self):
-        """Returns the name of the row if it is one of the program, else an empty text."""
+        """Returns the program that has the row, and the row's name, or two empty texts if it is a test."""
         module, _, row = self.row.partition("::")
-        return row if module == PROGRAM else ""
+        return (module, row) if module in PROGRAMS else ("", "")
 
     def test(self):
         """Returns the source file of the row's test, and the test's name."""

@@ -5,7 +5,7 @@ BEGINNING = """# Each sentence of the guest machine, and its row
 
 For auditors: what ties the definitions to the documents. `tools/dt write pages` writes this page from `tools/changes`, in the order of [GUEST.md](GUEST.md), and from `tools/named-bodies`.
 
-The prover compares code with definitions. Whether the definitions say what the RISC-V ISA and the guest machine say is tested by rows: words, calls and whole runs with their results, worked out by hand. A sentence is *pinned* if changing it, in definition and code together, makes a named test fail. Each line below is such a change, a file of `tools/changes`; the row is a test of {rows} or a row of `test_guest_runs`, with the case that it reports.
+The prover compares code with definitions. Whether the definitions say what the RISC-V ISA and the guest machine say is tested by rows: words, calls and whole runs with their results, worked out by hand. A sentence is *pinned* if changing it, in definition and code together, makes a named test fail. Each line below is such a change, a file of `tools/changes`; the row is a test of {tests} or a row of {programs}, with the case that it reports.
 
 By hand, `tools/dt sweep changes` tries all {count} changes without proofs, and prints each that survives. That a changed definition and its code still prove together is not tried.
 
@@ -32,7 +32,8 @@ def row_of(change):
 def page():
     """Returns the whole page."""
     every = [changes.Change(it) for it in changes.names()]
-    text = BEGINNING.format(count=len(every), rows=" or ".join(f"`{it}`" for it in changes.ROWS))
+    tests, programs = (" or ".join(f"`{it}`" for it in crates) for crates in (changes.ROWS, changes.PROGRAMS))
+    text = BEGINNING.format(count=len(every), tests=tests, programs=programs)
     for part in changes.PARTS:
         text += f"\n## {part}\n\n| Sentence | Row | Change |\n|---|---|---|\n"
         for change in every:

@@ -9,13 +9,14 @@ import re
 from . import sources
 from .repository import TOP
 
-# Fakes that tests put in the place of a reader or a writer, and the program that tells refusals by itself.
+# Fakes that tests put in the place of a reader or a writer, and the programs that tell refusals by themselves.
 FAKES = {
     "crates/test_command_rows/src/memory_files.rt",
     "crates/test_alloc_failures/src/failed.rt",
     "crates/test_alloc_failures/src/programs.rt",
     "crates/test_alloc_failures/src/quiet.rt",
     "crates/test_alloc_failures/src/worlds.rt",
+    "crates/test_parts/src/files.rt",
 }
 
 # Lines that hand on the only error that the call before them has, an `AllocError`, or that a run which writes nothing can have; and those

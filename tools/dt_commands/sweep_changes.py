@@ -1,8 +1,8 @@
 """Tries the changes of tools/changes.
 
 A change states one sentence of the guest machine wrongly, in definition and code alike, so proofs pass: a row of test_parts,
-test_conformance or test_guest_runs has to refuse it. All changes are built at once, into a copy without proofs. Its tests are run with each change of a test,
-and its program once for each change of a row of the program, on these rows alone. Nothing is proved. It needs a C compiler.
+test_conformance or test_guest_runs has to refuse it. All changes are built at once, into a copy without proofs. Its tests are run with each
+change of a test, and each program once for each change of a row of it, on these rows alone. Nothing is proved. It needs a C compiler.
 """
 import os
 import re
@@ -11,7 +11,7 @@ import tempfile
 
 from dt_commands import changes
 from dt_commands.changed_copy import copy, write
-from dt_commands.changes import PROGRAM, ROWS
+from dt_commands.changes import PROGRAMS, ROWS
 from dt_commands.progress import Progress
 
 
@@ -32,11 +32,13 @@ def attempt_tests(crate, seconds):
     return {it[0]: it[1:] for it in re.findall(r"^test (\S+) \.\.\. (\S+)(.*?)(?=^test )", said, re.M | re.S)}, said
 
 
-def write_cases(cases, numbered):
-    """Writes the cases of the program: one for each change, by its number, on its row, and case 0 with no change on all these rows."""
+def write_cases(cases, words, numbered):
+    """Writes the cases of a program that is given these words first: one for each change, by its number, on its row, and case 0 with no
+    change on all these rows.
+    """
     for number, rows in [(0, sorted(set(numbered.values()))), *((it, [row]) for it, row in numbered.items())]:
         write(f"{cases}/change_{number}", f"{number}\n")
-        write(f"{cases}/change_{number}.args", "\n".join(["brief", *rows]) + "\n")
+        write(f"{cases}/change_{number}.args", "\n".join([*words, *rows]) + "\n")
 
 
 def cases_in(said):
@@ -52,15 +54,16 @@ def cases_in(said):
     return ended
 
 
-def attempt_rows(found, folder, seconds):
-    """Runs the program of the copy for each change of its rows, and for none on all these rows. Returns of each, by its number, how it
+def attempt_rows(program, found, folder, seconds):
+    """Runs a program of the copy for each change of its rows, and for none on all these rows. Returns of each, by its number, how it
     ended and what its rows said, and all that was printed.
     """
-    numbered = {number: it.program_row() for number, it in enumerate(found, 1) if it.program_row()}
+    asked = {number: it.program_row() for number, it in enumerate(found, 1)}
+    numbered = {number: row for number, (of, row) in asked.items() if of == program}
     if not numbered:
         return {}, ""
-    crate, cases = f"{folder}/crates/{PROGRAM}", f"{folder}/cases"
-    write_cases(cases, numbered)
+    crate, cases = f"{folder}/crates/{program}", f"{folder}/cases-{program}"
+    write_cases(cases, PROGRAMS[program], numbered)
     words = [it for name in sorted(os.listdir(f"{crate}/data")) for it in ("--data", f"{name}=data/{name}")]
     said = rt_try(crate, ["--cases", cases, *words], seconds)
     ended = cases_in(said)
@@ -71,30 +74,32 @@ def attempt_rows(found, folder, seconds):
 
 def crates_of(found):
     """Returns the crates that have a test of these changes."""
-    files = [it.test()[0] for it in found if not it.program_row()]
+    files = [it.test()[0] for it in found if not it.program_row()[0]]
     return [crate for crate in ROWS if any(file.startswith(f"crates/{crate}/") for file in files)]
 
 
 def attempt(found, seconds):
     """Returns of each change, and of each test and row with none, how it ended and what it said."""
-    with tempfile.TemporaryDirectory(prefix="sweep-changes-") as folder, Progress("crates with rows", len(ROWS) + 1) as progress:
+    ended, broken, tests, said = {}, [], {}, ""
+    steps = len(ROWS) + len(PROGRAMS)
+    with tempfile.TemporaryDirectory(prefix="sweep-changes-") as folder, Progress("crates with rows", steps) as progress:
         copy(found, folder)
-        tests, said = {}, ""
         for progress.done, progress.at in enumerate(crates_of(found)):
             ended_there, said_there = attempt_tests(f"{folder}/crates/{progress.at}", seconds)
             tests.update(ended_there)
             said += said_there
-        progress.done, progress.at = len(ROWS), PROGRAM
-        rows, said_too = attempt_rows(found, folder, seconds)
-    ended = {number: rows[number] for number in rows}
+        for progress.done, progress.at in enumerate(PROGRAMS, len(ROWS)):
+            rows, said_there = attempt_rows(progress.at, found, folder, seconds)
+            how, message = rows.pop(0, ("ok", ""))
+            broken += [f"{progress.at}: {message}"] if how != "ok" else []
+            ended.update(rows)
+            said += said_there
     for number, change in enumerate(found, 1):
-        if not change.program_row():
+        if not change.program_row()[0]:
             module = change.row.rsplit("::", 1)[0]
             ended[number] = tests.get(f"{module}::change_{number}", ("not run", ""))
-    broken = [it for it, (how, _) in tests.items() if "::change_" not in it and how != "ok"]
-    if rows and rows[0][0] != "ok":
-        broken.append(f"{PROGRAM}: {rows[0][1]}")
-    return said + said_too, ended, broken
+    broken += [it for it, (how, _) in tests.items() if "::change_" not in it and how != "ok"]
+    return said, ended, broken
 
 
 def tried(found, options):

@@ -13,8 +13,6 @@ mod memory_files;
 mod memory_output;
 mod numbers;
 mod programs;
-mod row;
-mod row_text;
 mod rows;
 mod scene;
 mod streams;

@@ -1,9 +1,9 @@
 //! The programs of rows: files of guest programs, cut or changed.
 
 use anyhow::{Result, anyhow};
-use data_guest_programs::{KEPT, file_of};
+use data_guest_programs::file_of;
 use std::alloc::Global;
-use test_guest_rows::{byte, small, split, word};
+use test_guest_rows::{byte, program_named, small, split, word};
 
 /// Takes a field of the program, if it is one.
 pub fn take_program_field(
@@ -13,7 +13,7 @@ pub fn take_program_field(
     rest: &str,
 ) -> Result<bool> {
     match name {
-        "program" => *program = file_named(alloc, rest)?,
+        "program" => *program = program_named(rest)?.file(alloc)?,
         "words" => *program = file_of_words(alloc, rest)?,
         "cut" => cut(program, small(rest)? as usize)?,
         "byte" => change_byte(program, rest)?,
@@ -21,16 +21,6 @@ pub fn take_program_field(
         _ => return Ok(false),
     }
     Ok(true)
-}
-
-/// The file of the guest program of this name.
-fn file_named(alloc: Global, name: &str) -> Result<Vec<u8>> {
-    for program in &KEPT {
-        if program.name == name {
-            return Ok(program.file(alloc)?);
-        }
-    }
-    Err(anyhow!("no program: {name}"))
 }
 
 /// The file of a program of these instruction words.

@@ -2,8 +2,6 @@
 
 use crate::comparing::compare_line;
 use crate::programs::take_program_field;
-use crate::row::Row;
-use crate::row_text::rows_of;
 use crate::scene::Scene;
 use crate::streams::{take_file_field, take_stream_field};
 use anyhow::Result;
@@ -11,7 +9,7 @@ use std::alloc::{AllocError, Global};
 use std::rt::{Clock, Files};
 use std::sync::Wait;
 use std::thread::Threads;
-use test_guest_rows::{Differences, is_chosen, show, split, text_at};
+use test_guest_rows::{Differences, LinedRow, is_chosen, lined_rows_of, show, split, text_at};
 
 /// Prints the line of each row that is chosen: `NAME: ok`, or what differs.
 pub fn show_rows<R: AllocGlobal + Clock + Files + Print + Threads + Wait + Sync>(
@@ -33,7 +31,7 @@ fn show_file<R: AllocGlobal + Clock + Files + Print + Threads + Wait + Sync>(
     chosen: &[String],
 ) -> Result<()> {
     let text = text_at(rt, file)?;
-    for row in &rows_of(rt.alloc(), text.as_str())? {
+    for row in &lined_rows_of(rt.alloc(), text.as_str())? {
         if is_chosen(chosen, row.name.as_str()) {
             show_row(rt, row)?;
         }
@@ -44,7 +42,7 @@ fn show_file<R: AllocGlobal + Clock + Files + Print + Threads + Wait + Sync>(
 /// Prints the line of a row.
 fn show_row<R: AllocGlobal + Clock + Files + Print + Threads + Wait + Sync>(
     rt: &R,
-    row: &Row,
+    row: &LinedRow,
 ) -> Result<()> {
     let mut found = Differences::new(rt.alloc());
     let compared = compare_row(rt, row, &mut found);
@@ -54,7 +52,7 @@ fn show_row<R: AllocGlobal + Clock + Files + Print + Threads + Wait + Sync>(
 /// Makes a row for each of its values, and notes what isn't as wanted.
 fn compare_row<R: AllocGlobal + Clock + Files + Threads + Wait + Sync>(
     rt: &R,
-    row: &Row,
+    row: &LinedRow,
     found: &mut Differences,
 ) -> Result<()> {
     if row.values.is_empty() {
@@ -69,7 +67,7 @@ fn compare_row<R: AllocGlobal + Clock + Files + Threads + Wait + Sync>(
 /// Makes a row for a value.
 fn compare_at<R: AllocGlobal + Clock + Files + Threads + Wait + Sync>(
     rt: &R,
-    row: &Row,
+    row: &LinedRow,
     value: &str,
     found: &mut Differences,
 ) -> Result<()> {
@@ -80,7 +78,7 @@ fn compare_at<R: AllocGlobal + Clock + Files + Threads + Wait + Sync>(
 /// Takes the lines of a row one by one, with this value in the place of `{}`.
 fn compare_once<R: AllocGlobal + Clock + Files + Threads + Wait + Sync>(
     rt: &R,
-    row: &Row,
+    row: &LinedRow,
     value: &str,
     how: &str,
     found: &mut Differences,

@@ -1,10 +1,9 @@
 //! Loads and stores.
 
-use crate::fixtures::assert_status;
+use crate::fixtures::{assert_status, memory_of};
 use data_guest_programs::{CODE, DATA, ECALL, load};
 use hart::{Hart, Stop, run_to_stop};
 use std::test::Fail;
-use test_parts::fixtures::memory_of;
 
 /// `sw x6,0(x5)`.
 const STORE: u32 = 0x0062_A023;

@@ -1,10 +1,9 @@
 //! Branches and jumps, and instructions that write no register.
 
-use crate::fixtures::assert_status;
+use crate::fixtures::{assert_status, memory_of};
 use data_guest_programs::{CODE, EXIT};
 use hart::{Hart, Stepped, step};
 use std::test::Fail;
-use test_parts::fixtures::memory_of;
 
 /// A branch on x5 and x6, over the instruction after it, what x5 and x6 hold, and whether it is taken.
 static BRANCHES: [(u32, u32, u32, bool); 34] = [

@@ -1,10 +1,13 @@
 //! How programs of a few words are run.
 
 use data_guest_programs::{EXIT, file_of, operands};
+use elf32_reader::read;
+use paged_memory::WholeMemory;
 use runtime::{Config, MAX_BOUND, OpenGate, RunFault, RunOutcome, run};
 use std::alloc::{AllocError, Global};
 use std::process::Abort;
 use std::sync::Wait;
+use std::test::Fail;
 use std::thread::Threads;
 
 /// As many instructions as a run may have, no quantum, and one worker.
@@ -34,6 +37,12 @@ pub fn ending(
 /// The answer of a run that ends so.
 pub fn ends(outcome: RunOutcome) -> Ending {
     Ok(outcome)
+}
+
+/// The memory of a file of these words.
+pub fn memory_of(alloc: Global, words: &[u32]) -> Result<WholeMemory, Fail> {
+    let file = file_of(alloc, words)?;
+    Ok(WholeMemory::of_image(alloc, &read(alloc, &file)?)?)
 }
 
 /// How the program ends that puts two words into x5 and x6 and then has these words.

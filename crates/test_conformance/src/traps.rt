@@ -1,7 +1,7 @@
 //! Instructions that trap. Each stands at 0x00010010, with 9 in x5; the tables give the word, what x6 holds,
 //! and the trap's value.
 
-use crate::fixtures::{answer_on, ends};
+use crate::fixtures::{answer_on, ends, memory_of};
 use data_guest_programs::{CODE, DATA};
 use hart::{Cause, Hart, Stepped, Trap, step};
 use paged_memory::WholeMemory;
@@ -11,7 +11,6 @@ use std::process::Abort;
 use std::sync::Wait;
 use std::test::Fail;
 use std::thread::Threads;
-use test_parts::fixtures::memory_of;
 
 /// Jumps and taken branches to no multiple of 4.
 static TARGETS_MISALIGNED: [(u32, u32, u32); 10] = [

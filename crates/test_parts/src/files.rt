@@ -1,284 +1,195 @@
-//! Tests of the reader: each refusal of a file, and the image of a good one.
-use data_guest_programs::{CODE, DATA, ProgramHeader, SEVEN, file_of_headers};
-use elf32_reader::*;
-use guest_memory::Perm;
+//! The file of a row, and lines on it.
+
+use crate::images::take_image_line;
+use crate::numbers::{numbers_of, write_bytes};
+use anyhow::Result;
+use data_guest_programs::{ProgramHeader, file_of, file_of_headers, load, operands};
+use elf32_reader::{ElfFault, Image, read};
 use std::alloc::{AllocError, Global};
-use std::test::Fail;
+use test_guest_rows::{program_named, small, split, word};
 
-const READ_EXECUTE: Perm = Perm {
-    read: true,
-    write: false,
-    execute: true,
-};
-
-/// One word of the file changed: its offset, the word, and the refusal's number, or 0 where it is read.
-static ONE_CHANGE: [(usize, u32, u8); 77] = [
-    // The identification: magic number, class, data encoding, version.
-    (0, 0x464C_457E, 3),
-    (0, 0x464C_447F, 3),
-    (0, 0x464D_457F, 3),
-    (0, 0x474C_457F, 3),
-    (4, 0x0001_0100, 4),
-    (4, 0x0001_0102, 4),
-    (4, 0x0001_0001, 5),
-    (4, 0x0001_0201, 5),
-    (4, 0x0000_0101, 6),
-    (4, 0x0002_0101, 6),
-    (4, 0xFF01_0101, 0),
-    // Nothing after the version is looked at.
-    (8, 0xFFFF_FFFF, 0),
-    (12, 0xFFFF_FFFF, 0),
-    (20, 0, 6),
-    (20, 2, 6),
-    (20, 257, 6),
-    // Type and machine, in one word.
-    (16, 0x00F3_0001, 7),
-    (16, 0x00F3_0003, 7),
-    (16, 0x00F2_0002, 8),
-    (16, 0x00F4_0002, 8),
-    // The entry.
-    (24, 0x0001_0001, 20),
-    (24, 0x0001_0002, 20),
-    (24, 0x0001_0004, 0),
-    (24, 0x0001_0FFC, 0),
-    (24, 0x0001_1000, 20),
-    (24, 0x0000_FFFC, 20),
-    (24, 0x0002_0000, 20),
-    // The table's offset. At 64 both headers have the type 0.
-    (28, 64, 20),
-    (28, 65, 12),
-    (28, 0xFFFF_FFC0, 12),
-    (28, 0xFFFF_FFE0, 12),
-    // The offset of the sections isn't looked at.
-    (32, 0xFFFF_FFFF, 0),
-    (36, 1, 9),
-    (36, 0x8000_0000, 9),
-    // The sizes of the header and of a program header.
-    (40, 0x0020_0033, 10),
-    (40, 0x0020_0035, 10),
-    (40, 0x001F_0034, 10),
-    (40, 0x0021_0034, 10),
-    // The number of program headers, and the size of a section header.
-    (44, 0, 20),
-    (44, 1, 0),
-    (44, 3, 12),
-    (44, 64, 12),
-    (44, 65, 11),
-    (44, 0xFFFF_0002, 0),
-    (48, 0xFFFF_FFFF, 0),
-    // The first segment.
-    (52, 0, 20),
-    (52, 2, 13),
-    (52, 3, 13),
-    (56, 115, 0),
-    (56, 117, 15),
-    (56, 0xFFFF_FFF8, 15),
-    (60, 0x0000_FFFC, 16),
-    (60, 0x0001_0FF4, 0),
-    (60, 0x0001_FFF5, 18),
-    (64, 0xFFFF_FFFF, 0),
-    (68, 11, 0),
-    (68, 13, 14),
-    (72, 11, 14),
-    (76, 1, 0),
-    (76, 3, 17),
-    (76, 4, 20),
-    (76, 7, 17),
-    (76, 0xFFFF_FFFD, 0),
-    (80, 3, 0),
-    // The second segment, which has no byte in the file.
-    (84, 3, 13),
-    (84, 0x6FFF_FFFF, 0),
-    (88, 128, 0),
-    (88, 129, 15),
-    (92, 0x0001_0800, 18),
-    (92, 0x0001_0FFF, 18),
-    (92, 0x0001_1000, 0),
-    (100, 4097, 14),
-    (104, 0x03FF_F000, 0),
-    (104, 0x03FF_F001, 19),
-    (104, 0x1FFE_0000, 19),
-    (104, 0x1FFE_0001, 16),
-    (104, 0xFFFF_F000, 16),
+/// The refusals, in the order of their numbers.
+static FAULTS: [ElfFault; 21] = [
+    ElfFault::TooLarge,
+    ElfFault::Truncated,
+    ElfFault::NotElf,
+    ElfFault::NotClass32,
+    ElfFault::NotLittleEndian,
+    ElfFault::BadVersion,
+    ElfFault::NotExec,
+    ElfFault::NotRiscV,
+    ElfFault::BadFlags,
+    ElfFault::BadHeaderSize,
+    ElfFault::TooManySegments,
+    ElfFault::TableOutside,
+    ElfFault::Interpreter,
+    ElfFault::SegmentSizes,
+    ElfFault::SegmentOutsideFile,
+    ElfFault::SegmentOutsideWindow,
+    ElfFault::WritableCode,
+    ElfFault::SegmentOrder,
+    ElfFault::TooManyPages,
+    ElfFault::BadEntry,
+    ElfFault::OutOfMemory,
 ];
 
-/// Two words changed.
-static TWO_CHANGES: [(usize, u32, usize, u32, u8); 17] = [
-    // The segment ends at the end of the image window, and one byte after it.
-    (92, 0x1FFF_F000, 104, 0x1000, 0),
-    (92, 0x1FFF_F000, 104, 0x1001, 16),
-    (92, 0x1FFF_FFFF, 104, 1, 0),
-    (92, 0x2000_0000, 104, 1, 16),
-    (92, 0xFFFF_F000, 104, 0x1000, 16),
-    // A segment with no byte in memory is ignored, but for its sizes.
-    (104, 0, 92, 0, 0),
-    (104, 0, 92, 0x0001_0000, 0),
-    (104, 0, 88, 0xFFFF_FFFF, 0),
-    (104, 0, 108, 7, 0),
-    (104, 0, 100, 1, 14),
-    // The bytes of the file at its end.
-    (100, 12, 88, 116, 0),
-    (100, 13, 88, 116, 15),
-    // The lower number first.
-    (16, 0x00F2_0003, 36, 1, 7),
-    (36, 1, 44, 65, 9),
-    (24, 1, 104, 0x1FFE_0000, 19),
-    (100, 4097, 88, 0xFFFF_FFFF, 14),
-    // The first program header first.
-    (76, 7, 84, 3, 17),
-];
+/// A file, the words and the program headers of one to come, and the image of the last one that was read.
+#[derive(Drop)]
+pub struct Files {
+    alloc: Global,
+    words: Vec<u32>,
+    headers: Vec<ProgramHeader>,
+    file: Vec<u8>,
+    pub image: Option<Image>,
+}
 
-/// How each refusal is told: its number and its name.
-static TEXTS: [(ElfFault, &str); 21] = [
-    (ElfFault::TooLarge, "1 TooLarge"),
-    (ElfFault::Truncated, "2 Truncated"),
-    (ElfFault::NotElf, "3 NotElf"),
-    (ElfFault::NotClass32, "4 NotClass32"),
-    (ElfFault::NotLittleEndian, "5 NotLittleEndian"),
-    (ElfFault::BadVersion, "6 BadVersion"),
-    (ElfFault::NotExec, "7 NotExec"),
-    (ElfFault::NotRiscV, "8 NotRiscV"),
-    (ElfFault::BadFlags, "9 BadFlags"),
-    (ElfFault::BadHeaderSize, "10 BadHeaderSize"),
-    (ElfFault::TooManySegments, "11 TooManySegments"),
-    (ElfFault::TableOutside, "12 TableOutside"),
-    (ElfFault::Interpreter, "13 Interpreter"),
-    (ElfFault::SegmentSizes, "14 SegmentSizes"),
-    (ElfFault::SegmentOutsideFile, "15 SegmentOutsideFile"),
-    (ElfFault::SegmentOutsideWindow, "16 SegmentOutsideWindow"),
-    (ElfFault::WritableCode, "17 WritableCode"),
-    (ElfFault::SegmentOrder, "18 SegmentOrder"),
-    (ElfFault::TooManyPages, "19 TooManyPages"),
-    (ElfFault::BadEntry, "20 BadEntry"),
-    (ElfFault::OutOfMemory, "21 OutOfMemory"),
-];
-
-/// The bytes with one word changed.
-fn with_word(bytes: &mut [u8], offset: usize, word: u32) {
-    let word = word.to_le_bytes();
-    for (place, byte) in bytes.iter_mut().enumerate() {
-        if offset <= place && place - offset < 4 {
-            *byte = word[place - offset];
+impl Files {
+    /// None yet.
+    pub fn new(alloc: Global) -> Self {
+        Files {
+            alloc,
+            words: Vec::new(alloc),
+            headers: Vec::new(alloc),
+            file: Vec::new(alloc),
+            image: None,
         }
     }
 }
 
-/// The number of a file's refusal, or 0 where it is read.
-fn refusal(alloc: Global, file: &[u8]) -> u8 {
-    match read(alloc, file) {
-        Ok(_) => 0,
-        Err(fault) => fault.number(),
+/// Takes a line on files, if it is one.
+pub fn take_file_line(
+    answer: &mut String,
+    files: &mut Files,
+    verb: &str,
+    rest: &str,
+) -> Result<bool> {
+    match verb {
+        "program" | "file" | "headed" => make_file(files, verb, rest)?,
+        "size" => files.file.resize(small(rest)? as usize, 0)?,
+        "seven" => {
+            make_file(files, "program", "seven")?;
+            change(&mut files.file, rest)?;
+            write_refusal(answer, files)?;
+        }
+        "read" => write_refusal(answer, files)?,
+        "bytes" => write_bytes(answer, &files.file)?,
+        "fault" => write_fault(answer, small(rest)?)?,
+        _ => return take_part_line(answer, files, verb, rest),
     }
+    Ok(true)
 }
 
-/// The number of the refusal of `seven` with words changed, each by its offset.
-fn refusal_with(alloc: Global, changes: &[(usize, u32)]) -> Result<u8, AllocError> {
-    let mut file = SEVEN.file(alloc)?;
-    for (offset, word) in changes {
-        with_word(&mut file, *offset, *word);
+/// Makes a file: of a program, of words alone, or of program headers and words.
+fn make_file(files: &mut Files, verb: &str, name: &str) -> Result<()> {
+    files.file = match verb {
+        "program" => program_named(name)?.file(files.alloc)?,
+        "file" => file_of(files.alloc, &files.words)?,
+        _ => file_of_headers(files.alloc, &files.headers, &files.words)?,
+    };
+    Ok(())
+}
+
+/// Takes a line on the parts of a file to come, or of the image, if it is one.
+fn take_part_line(answer: &mut String, files: &mut Files, verb: &str, rest: &str) -> Result<bool> {
+    match verb {
+        "words" => push_words(&mut files.words, rest)?,
+        "li" => push_load(&mut files.words, numbers_of(rest)?)?,
+        "operands" => push_operands(&mut files.words, numbers_of(rest)?)?,
+        "multiples" => push_multiples(&mut files.words, numbers_of(rest)?)?,
+        "header" => files.headers.push(numbers_of(rest)?)?,
+        "page-headers" => push_headers(&mut files.headers, small(rest)?)?,
+        _ => match &files.image {
+            Some(image) => return Ok(take_image_line(files.alloc, answer, image, verb)?),
+            None => return Ok(false),
+        },
     }
-    Ok(refusal(alloc, &file))
+    Ok(true)
 }
 
-/// The number of the refusal of a file of these program headers and no words.
-fn refusal_of(alloc: Global, headers: &[ProgramHeader]) -> Result<u8, AllocError> {
-    Ok(refusal(alloc, &file_of_headers(alloc, headers, &[])?))
-}
-
-/// The image of `seven`.
-#[test]
-fn reads_seven(rt: HostRuntime) -> Result<(), Fail> {
-    let file = SEVEN.file(rt.alloc())?;
-    let image = read(rt.alloc(), &file)?;
-    assert_eq!(rt; image.entry(), CODE);
-    assert_eq!(rt; image.segments().len(), 2);
-    let rows = [
-        ((CODE, 12, READ_EXECUTE), file.get(116..).ok_or("no code")?),
-        ((DATA, 4096, Perm::READ_WRITE), [].as_slice()),
-    ];
-    for (segment, (head, bytes)) in image.segments().iter().zip(rows) {
-        assert_eq!(rt; (segment.vaddr(), segment.memsz(), segment.flags()), head);
-        assert_eq!(rt; segment.bytes(), bytes);
+/// Appends the words of a list.
+fn push_words(words: &mut Vec<u32>, list: &str) -> Result<()> {
+    for digits in list.split_whitespace() {
+        words.push(word(digits)?)?;
     }
     Ok(())
 }
 
-#[test]
-fn refusals_are_told_by_number_and_name(rt: HostRuntime) -> Result<(), Fail> {
-    for (fault, wanted) in &TEXTS {
-        assert_eq!(rt; fault.to_string(rt.alloc())?.as_str(), *wanted);
+/// Appends the two words that load a register.
+fn push_load(
+    words: &mut Vec<u32>,
+    [register, value, _, _, _, _]: [u32; 6],
+) -> Result<(), AllocError> {
+    words.extend_from_slice(&load(register, value))
+}
+
+/// Appends the four words that load x5 and x6, and three instructions.
+fn push_operands(
+    words: &mut Vec<u32>,
+    [first, second, third, fourth, fifth, _]: [u32; 6],
+) -> Result<(), AllocError> {
+    words.extend_from_slice(&operands(first, second))?;
+    words.extend_from_slice(&[third, fourth, fifth])
+}
+
+/// Appends the first multiples of a number, from 0 on.
+fn push_multiples(
+    words: &mut Vec<u32>,
+    [factor, count, _, _, _, _]: [u32; 6],
+) -> Result<(), AllocError> {
+    for number in 0..count {
+        words.push(number.wrapping_mul(factor))?;
     }
     Ok(())
 }
 
-#[test]
-fn refuses_what_is_changed(rt: HostRuntime) -> Result<(), Fail> {
-    for (offset, word, number) in &ONE_CHANGE {
-        let refused = refusal_with(rt.alloc(), &[(*offset, *word)])?;
-        assert_eq!(rt; refused, *number, "{word:x} at {offset}");
-    }
-    for (first, word, second, other, number) in &TWO_CHANGES {
-        let refused = refusal_with(rt.alloc(), &[(*first, *word), (*second, *other)])?;
-        assert_eq!(rt;
-            refused,
-            *number,
-            "{word:x} at {first}, {other:x} at {second}"
-        );
+/// Appends the headers of segments of a page each, from the page 16 on.
+fn push_headers(headers: &mut Vec<ProgramHeader>, count: u32) -> Result<(), AllocError> {
+    for number in 0..count {
+        let address = number.wrapping_add(16).wrapping_mul(4096);
+        headers.push([1, 0, address, 52, 4096, 5])?;
     }
     Ok(())
 }
 
-#[test]
-fn refuses_what_is_cut_or_too_large(rt: HostRuntime) -> Result<(), Fail> {
-    let mut file = SEVEN.file(rt.alloc())?;
-    for length in 0..128 {
-        let number = match length {
-            0..=51 => 2,
-            52..=115 => 12,
-            _ => 15,
-        };
-        let cut = file.get(..length).ok_or("the file is too short")?;
-        assert_eq!(rt; refusal(rt.alloc(), cut), number, "at {length}");
+/// Writes how a refusal is told: its name, and its number and its name.
+fn write_fault(answer: &mut String, number: u32) -> Result<(), AllocError> {
+    for fault in &FAULTS {
+        if u32::from(fault.number()) == number {
+            write!(answer, "{fault:?}: {fault}")?;
+        }
     }
-    file.resize(67_108_864, 0)?;
-    assert_eq!(rt; refusal(rt.alloc(), &file), 0);
-    file.push(0)?;
-    assert_eq!(rt; refusal(rt.alloc(), &file), 1);
     Ok(())
 }
 
-/// From no to 65 program headers.
-#[test]
-fn counts_segments(rt: HostRuntime) -> Result<(), Fail> {
-    let mut headers = Vec::new(rt.alloc());
-    assert_eq!(rt; refusal_of(rt.alloc(), &headers)?, 20);
-    for page in 16..81_u32 {
-        headers.push([1, 0, page * 4096, 52, 4096, 5])?;
+/// Changes words of a file, each after its place.
+fn change(file: &mut [u8], changes: &str) -> Result<()> {
+    let mut rest = changes;
+    for _ in 0..changes.len() {
+        let (place, others) = split(rest);
+        if place.is_empty() {
+            break;
+        }
+        let (digits, others) = split(others);
+        put(file, small(place)? as usize, word(digits)?);
+        rest = others;
     }
-    assert_eq!(rt; refusal_of(rt.alloc(), &headers)?, 11);
-    headers.pop();
-    let file = file_of_headers(rt.alloc(), &headers, &[])?;
-    assert_eq!(rt; read(rt.alloc(), &file)?.segments().len(), 64);
     Ok(())
 }
 
-#[test]
-fn ignores_empty_segments(rt: HostRuntime) -> Result<(), Fail> {
-    let between = [
-        [1, 0, 0x0001_0000, 4, 8, 5],
-        [1, 0, 0, 0, 0, 7],
-        [1, 0, 0x0001_1000, 4, 8, 6],
-    ];
-    let file = file_of_headers(rt.alloc(), &between, &[])?;
-    let image = read(rt.alloc(), &file)?;
-    assert_eq!(rt; image.segments().len(), 2);
-    assert_eq!(rt; image.segments()[1].bytes(), b"\x7fELF".as_slice());
-    // The pages of the first and the last meet, over the empty one between them.
-    let meeting = [
-        [1, 0, 0x0001_0000, 4, 4097, 5],
-        [1, 0, 0x0002_0000, 0, 0, 6],
-        [1, 0, 0x0001_1800, 4, 8, 6],
-    ];
-    assert_eq!(rt; refusal_of(rt.alloc(), &meeting)?, 18);
-    Ok(())
+/// Changes the word at a place, whose lowest byte comes first.
+fn put(file: &mut [u8], place: usize, word: u32) {
+    for (there, byte) in file.iter_mut().skip(place).zip(word.to_le_bytes()) {
+        *there = byte;
+    }
+}
+
+/// Reads the file, and writes the number of its refusal, or 0 where it is read.
+fn write_refusal(answer: &mut String, files: &mut Files) -> Result<(), AllocError> {
+    match read(files.alloc, &files.file) {
+        Ok(image) => {
+            files.image = Some(image);
+            answer.push('0')
+        }
+        Err(fault) => write!(answer, "{}", fault.number()),
+    }
 }

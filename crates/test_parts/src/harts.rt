@@ -1,49 +1,117 @@
-//! Tests of harts: registers, pc and the numbers of causes.
-use hart::*;
-use std::process::Abort;
+//! Lines on the hart and its calls.
 
-/// Asserts what each register holds: 0, but for those that are listed with their values.
-fn assert_registers(rt: &impl Abort, hart: &Hart, listed: &[(usize, u32)]) {
-    for i in 0..32 {
-        let wanted = listed.iter().find(|row| row.0 == i).map_or(0, |row| row.1);
-        assert_eq!(rt; hart.reg(i), wanted, "x{i}");
+use crate::numbers::numbers_of;
+use abi::Code;
+use anyhow::{Result, anyhow};
+use ecalls::{call_of, finish};
+use hart::{Cause, Hart};
+use std::alloc::AllocError;
+use test_guest_rows::{small, split, word};
+
+/// The causes of traps, in the order of their numbers.
+static CAUSES: [Cause; 9] = [
+    Cause::TargetMisaligned,
+    Cause::FetchDenied,
+    Cause::IllegalInstruction,
+    Cause::Breakpoint,
+    Cause::LoadMisaligned,
+    Cause::LoadDenied,
+    Cause::StoreMisaligned,
+    Cause::StoreDenied,
+    Cause::BoundReached,
+];
+
+/// The codes of calls, in the order of their numbers.
+static CODES: [Code; 10] = [
+    Code::Done,
+    Code::NoSuchCall,
+    Code::BadArgument,
+    Code::BadAddress,
+    Code::Limit,
+    Code::NotHolder,
+    Code::HoldsLock,
+    Code::NoSuchThread,
+    Code::AlreadyHeld,
+    Code::CountDiffers,
+];
+
+/// Takes a line on the hart, if it is one.
+pub fn take_hart_line(
+    answer: &mut String,
+    hart: &mut Hart,
+    verb: &str,
+    rest: &str,
+) -> Result<bool> {
+    match verb {
+        "hart" => *hart = hart_of(numbers_of(rest)?)?,
+        "set" => set(hart, numbers_of(rest)?)?,
+        "pc" => set_pc(hart, word(rest)?)?,
+        "registers" => write_hart(answer, hart)?,
+        "call" => write!(answer, "{:?}", call_of(hart))?,
+        "finish" => write_finished(answer, *hart, rest)?,
+        "causes" => write_causes(answer)?,
+        _ => return Ok(false),
     }
+    Ok(true)
 }
 
-#[test]
-fn starts_a_thread(rt: HostRuntime) {
-    let hart = Hart::new(0x0001_004C, 0x7FFF_FFF0, 5, 255);
-    assert_eq!(rt; hart.pc(), 0x0001_004C);
-    assert_registers(&rt, &hart, &[(2, 0x7FFF_FFF0), (10, 5), (11, 255)]);
+/// A hart that begins at this pc.
+fn hart_of([pc, sp, argument, number, _, _]: [u32; 6]) -> Result<Hart> {
+    if pc % 4 != 0 {
+        return Err(anyhow!("no pc: {pc:x}"));
+    }
+    Ok(Hart::new(pc, sp, argument, number))
 }
 
-#[test]
-fn sets_registers_and_pc(rt: HostRuntime) {
-    let mut hart = Hart::new(0, 0, 0, 0);
-    for i in 0..32 {
-        hart.set_reg(i, 0xFFFF_FFFF);
-        assert_eq!(rt; hart.reg(i), if i == 0 { 0 } else { 0xFFFF_FFFF }, "x{i}");
-        hart.set_reg(i, 0);
+/// Sets a register.
+fn set(hart: &mut Hart, [register, value, _, _, _, _]: [u32; 6]) -> Result<()> {
+    if register >= 32 {
+        return Err(anyhow!("no register: {register}"));
     }
-    hart.set_reg(31, 7);
-    hart.set_pc(0xFFFF_FFFC);
-    assert_registers(&rt, &hart, &[(31, 7)]);
-    assert_eq!(rt; hart.pc(), 0xFFFF_FFFC);
+    hart.set_reg(register as usize, value);
+    Ok(())
 }
 
-#[test]
-fn numbers_causes(rt: HostRuntime) {
-    for (cause, number) in [
-        (Cause::TargetMisaligned, 0),
-        (Cause::FetchDenied, 1),
-        (Cause::IllegalInstruction, 2),
-        (Cause::Breakpoint, 3),
-        (Cause::LoadMisaligned, 4),
-        (Cause::LoadDenied, 5),
-        (Cause::StoreMisaligned, 6),
-        (Cause::StoreDenied, 7),
-        (Cause::BoundReached, 16),
-    ] {
-        assert_eq!(rt; cause.number(), number, "{cause:?}");
+/// Sets pc.
+fn set_pc(hart: &mut Hart, pc: u32) -> Result<()> {
+    if pc % 4 != 0 {
+        return Err(anyhow!("no pc: {pc:x}"));
     }
+    hart.set_pc(pc);
+    Ok(())
+}
+
+/// Writes pc and each register that isn't 0.
+pub fn write_hart(answer: &mut String, hart: &Hart) -> Result<(), AllocError> {
+    write!(answer, "pc={:x}", hart.pc())?;
+    for register in 0..32 {
+        let value = hart.reg(register);
+        if value != 0 {
+            write!(answer, " x{register}={value:x}")?;
+        }
+    }
+    Ok(())
+}
+
+/// Writes a code, and the hart after a call that is finished with it and, if there is one, a value.
+fn write_finished(answer: &mut String, mut hart: Hart, text: &str) -> Result<()> {
+    let (place, value) = split(text);
+    let value = match value {
+        "" => None,
+        digits => Some(word(digits)?),
+    };
+    let Some(code) = CODES.get(small(place)? as usize) else {
+        return Err(anyhow!("no code: {place}"));
+    };
+    finish(&mut hart, *code, value);
+    write!(answer, "{code:?} ")?;
+    Ok(write_hart(answer, &hart)?)
+}
+
+/// Writes the name and the number of each cause.
+fn write_causes(answer: &mut String) -> Result<(), AllocError> {
+    for cause in &CAUSES {
+        write!(answer, "{cause:?} {},", cause.number())?;
+    }
+    Ok(())
 }

@@ -1,135 +1,164 @@
-//! Tests of whole memories and of snapshots made of images.
-use crate::memory_rows::{Access, Cell, assert_loads, assert_no_loads, assert_refuses, store_all};
-use elf32_reader::{Image, Segment};
-use paged_memory::*;
+//! The memories of a row, by their names, and lines that make, ask and compare them.
+
+use crate::accesses::access;
+use crate::files::Files;
+use anyhow::{Result, anyhow};
+use elf32_reader::Image;
+use hart::Hart;
+use paged_memory::{Snapshot, WholeMemory};
 use std::alloc::{AllocError, Global};
-use std::test::Fail;
+use test_guest_rows::split;
+use twins::View;
 
-/// A page that permits nothing.
-const NO_ACCESS: Perm = Perm {
-    read: false,
-    write: false,
-    execute: false,
-};
-
-const READ_EXECUTE: Perm = Perm {
-    read: true,
-    write: false,
-    execute: true,
-};
-
-/// The image of a program of one instruction, `addi x10, x0, 42`, of three bytes of data across a page
-/// border with zeros after them up to the first byte of a third page, and of a page without permissions.
-fn sample(alloc: Global) -> Result<Image, AllocError> {
-    let code = vec![in alloc; 0x13, 0x05, 0xA0, 0x02]?;
-    let data = vec![in alloc; 1, 2, 3]?;
-    let hidden = vec![in alloc; 9]?;
-    let segments = vec![in alloc;
-        Segment::new(0x0001_0000, READ_EXECUTE, code, 4),
-        Segment::new(0x0002_0FFE, Perm::READ_WRITE, data, 0x1003),
-        Segment::new(0x0003_0000, NO_ACCESS, hidden, 1),
-    ]?;
-    Ok(Image::new(0x0001_0000, segments))
+/// A memory and its name.
+#[derive(Drop)]
+pub struct Named<T> {
+    pub name: String,
+    pub memory: T,
 }
 
-/// Addresses in the segments, between them and at the borders of their pages and of the stack.
-static CELLS: [Cell; 19] = [
-    (0x0000_0000, None),
-    (0x0000_FFFF, None),
-    (0x0001_0000, Some((0x13, READ_EXECUTE))),
-    (0x0001_0003, Some((0x02, READ_EXECUTE))),
-    (0x0001_0FFF, Some((0, READ_EXECUTE))),
-    (0x0001_1000, None),
-    (0x0002_0000, Some((0, Perm::READ_WRITE))),
-    (0x0002_0FFE, Some((1, Perm::READ_WRITE))),
-    (0x0002_1000, Some((3, Perm::READ_WRITE))),
-    (0x0002_1001, Some((0, Perm::READ_WRITE))),
-    (0x0002_2FFF, Some((0, Perm::READ_WRITE))),
-    (0x0002_3000, None),
-    (0x0003_0000, Some((9, NO_ACCESS))),
-    (0x2000_0000, None),
-    (0x7FFB_FFFF, None),
-    (0x7FFC_0000, Some((0, Perm::READ_WRITE))),
-    (0x7FFF_FFFF, Some((0, Perm::READ_WRITE))),
-    (0x8000_0000, None),
-    (0xFFFF_FFFF, None),
-];
-
-/// Loads that are permitted.
-static LOADS: [Access; 9] = [
-    (1, 0x0002_0FFD, 0),
-    (1, 0x0002_0FFF, 2),
-    (1, 0x0002_1000, 3),
-    (1, 0x0002_2FFF, 0),
-    (2, 0x0002_0FFE, 0x0201),
-    (2, 0x0002_1000, 0x0003),
-    (4, 0x0001_0000, 0x02A0_0513),
-    (4, 0x0002_0FFC, 0x0201_0000),
-    (4, 0x7FFF_FFFC, 0),
-];
-
-/// Loads by width and address where nothing is mapped, or nothing permitted.
-static DENIED: [(u32, u32); 5] = [
-    (1, 0x0002_3000),
-    (1, 0x0003_0000),
-    (1, 0x8000_0000),
-    (2, 0x0002_3000),
-    (4, 0x0003_0000),
-];
-
-/// Loads by width and address at no multiple of the width.
-static MISALIGNED: [(u32, u32); 3] = [(2, 0x0002_0FFF), (2, 0x0002_3001), (4, 0x0001_0002)];
-
-/// Stores that are permitted.
-static STORES: [Access; 4] = [
-    (1, 0x0002_0000, 0x65),
-    (2, 0x0002_0002, 0x8765),
-    (4, 0x0002_0004, 0x1234_8765),
-    (4, 0x7FFF_FFFC, 0xDEAD_BEEF),
-];
-
-#[test]
-fn maps_the_image_and_the_stack(rt: HostRuntime) -> Result<(), Fail> {
-    let memory = WholeMemory::of_image(rt.alloc(), &sample(rt.alloc())?)?;
-    for (address, cell) in CELLS {
-        let found = memory.byte(address).zip(memory.perm(address));
-        assert_eq!(rt; found, cell, "{address:x}");
-    }
-    Ok(())
+/// Memories of each kind.
+#[derive(Drop)]
+pub struct Memories {
+    pub alloc: Global,
+    pub wholes: Vec<Named<WholeMemory>>,
+    pub snapshots: Vec<Named<Snapshot>>,
+    pub views: Vec<Named<View>>,
+    /// Where a snapshot is looked at if a change of it is refused.
+    pub places: Vec<u32>,
 }
 
-#[test]
-fn loads_and_fetches(rt: HostRuntime) -> Result<(), Fail> {
-    let memory = WholeMemory::of_image(rt.alloc(), &sample(rt.alloc())?)?;
-    assert_loads(&rt, &memory, &LOADS);
-    assert_no_loads(&rt, &memory, AccessFault::Denied, &DENIED);
-    assert_no_loads(&rt, &memory, AccessFault::Misaligned, &MISALIGNED);
-    for (address, word) in [
-        (0x0001_0000, Some(0x02A0_0513)),
-        (0x0001_0FFC, Some(0)),
-        (0x0001_1000, None),
-        (0x0002_0FFC, None),
-        (0x7FFF_FFFC, None),
-    ] {
-        assert_eq!(rt; memory.fetch(address), word, "{address:x}");
+impl Memories {
+    /// None yet.
+    pub fn new(alloc: Global) -> Self {
+        Memories {
+            alloc,
+            wholes: Vec::new(alloc),
+            snapshots: Vec::new(alloc),
+            views: Vec::new(alloc),
+            places: Vec::new(alloc),
+        }
     }
-    Ok(())
 }
 
-#[test]
-fn stores_and_refuses_stores(rt: HostRuntime) -> Result<(), Fail> {
-    let mut memory = WholeMemory::of_image(rt.alloc(), &sample(rt.alloc())?)?;
-    store_all(&rt, &mut memory, &STORES);
-    let stored = [0x65, 0x00, 0x65, 0x87, 0x65, 0x87, 0x34, 0x12, 0x00];
-    for (address, byte) in (0x0002_0000..).zip(stored) {
-        assert_eq!(rt; memory.byte(address), Some(byte), "{address:x}");
+/// The memory of this name, if it is one of these.
+pub fn find<'a, T>(memories: &'a mut [Named<T>], name: &str) -> Option<&'a mut T> {
+    let place = memories
+        .iter()
+        .position(|named| named.name.as_str() == name)?;
+    let named = memories.get_mut(place)?;
+    Some(&mut named.memory)
+}
+
+/// The memory of this name.
+pub fn at<'a, T>(memories: &'a mut [Named<T>], name: &str) -> Result<&'a mut T> {
+    match find(memories, name) {
+        Some(memory) => Ok(memory),
+        None => Err(anyhow!("no memory: {name}")),
     }
-    let refused = [0x0001_0000, 0x0002_3000, 0x0003_0000, 0x8000_0000];
-    assert_refuses(&rt, &mut memory, &refused);
-    assert_loads(
-        &rt,
-        &memory,
-        &[(2, 0x7FFF_FFFE, 0xDEAD), (4, 0x0001_0000, 0x02A0_0513)],
-    );
-    Ok(())
+}
+
+/// Adds a memory of this name.
+fn add<T: Drop>(
+    alloc: Global,
+    memories: &mut Vec<Named<T>>,
+    name: &str,
+    memory: T,
+) -> Result<(), AllocError> {
+    let name = String::from_str(alloc, name)?;
+    Ok(memories.push(Named { name, memory })?)
+}
+
+/// Takes a line that makes a memory, if it is one.
+pub fn take_memory_line(
+    memories: &mut Memories,
+    files: &Files,
+    verb: &str,
+    rest: &str,
+) -> Result<bool> {
+    let (name, of) = split(rest);
+    match verb {
+        "whole" => {
+            let made = WholeMemory::of_image(memories.alloc, image_of(files)?)?;
+            add(memories.alloc, &mut memories.wholes, name, made)?;
+            return Ok(true);
+        }
+        "snapshot" | "view" | "clone" | "open" | "base" => {}
+        _ => return Ok(false),
+    }
+    let made = match verb {
+        "clone" | "open" => at(&mut memories.snapshots, of)?.try_clone()?,
+        "base" => at(&mut memories.views, of)?.base().try_clone()?,
+        _ => Snapshot::of_image(memories.alloc, image_of(files)?)?,
+    };
+    match verb {
+        "view" | "open" => add(memories.alloc, &mut memories.views, name, View::open(made))?,
+        _ => add(memories.alloc, &mut memories.snapshots, name, made)?,
+    }
+    Ok(true)
+}
+
+/// The image that was read.
+fn image_of(files: &Files) -> Result<&Image> {
+    match &files.image {
+        Some(image) => Ok(image),
+        None => Err(anyhow!("no image")),
+    }
+}
+
+/// Takes a line on the memory that it names, or on two: the last kind of line.
+pub fn take_access_line(
+    answer: &mut String,
+    memories: &mut Memories,
+    hart: &mut Hart,
+    verb: &str,
+    rest: &str,
+) -> Result<bool> {
+    let (name, rest) = split(rest);
+    if verb == "same" {
+        compare(answer, memories, hart, name, rest)?;
+        return Ok(true);
+    }
+    ask(answer, memories, hart, verb, name, rest)
+}
+
+/// Asks two memories the same, and writes both answers if they differ. The text is the second name and what is asked.
+fn compare(
+    answer: &mut String,
+    memories: &mut Memories,
+    hart: &mut Hart,
+    one: &str,
+    text: &str,
+) -> Result<()> {
+    let (other, asked) = split(text);
+    let (verb, rest) = split(asked);
+    let mut wanted = String::new(memories.alloc);
+    let is_asked = ask(answer, memories, hart, verb, one, rest)?
+        && ask(&mut wanted, memories, hart, verb, other, rest)?;
+    if !is_asked {
+        return Err(anyhow!("nothing that a memory is asked"));
+    }
+    if answer.as_str() == wanted.as_str() {
+        answer.clear();
+        return Ok(());
+    }
+    Ok(write!(answer, " and {wanted}")?)
+}
+
+/// Asks the memory of a name.
+fn ask(
+    answer: &mut String,
+    memories: &mut Memories,
+    hart: &mut Hart,
+    verb: &str,
+    name: &str,
+    rest: &str,
+) -> Result<bool> {
+    if let Some(memory) = find(&mut memories.wholes, name) {
+        return access(answer, hart, memory, verb, rest);
+    }
+    if let Some(memory) = find(&mut memories.snapshots, name) {
+        return access(answer, hart, memory, verb, rest);
+    }
+    access(answer, hart, at(&mut memories.views, name)?, verb, rest)
 }

@@ -1,12 +1,12 @@
 //! The text of a file of rows in `data/`. Reads a text, and no file.
 
-use crate::row::Row;
+use crate::fields::{small, split};
+use crate::lined_row::LinedRow;
 use anyhow::{Result, anyhow};
 use std::alloc::Global;
-use test_guest_rows::{small, split};
 
 /// The rows that a text says.
-pub fn rows_of(alloc: Global, text: &str) -> Result<Vec<Row>> {
+pub fn lined_rows_of(alloc: Global, text: &str) -> Result<Vec<LinedRow>> {
     let mut rows = Vec::new(alloc);
     for line in text.lines() {
         if !line.is_empty() && !line.starts_with('#') {
@@ -17,9 +17,9 @@ pub fn rows_of(alloc: Global, text: &str) -> Result<Vec<Row>> {
 }
 
 /// Takes a line: the first of a row, or one of the last row.
-fn take_line(alloc: Global, rows: &mut Vec<Row>, line: &str) -> Result<()> {
+fn take_line(alloc: Global, rows: &mut Vec<LinedRow>, line: &str) -> Result<()> {
     if let ("row", name) = split(line) {
-        return Ok(rows.push(Row::new(alloc, name)?)?);
+        return Ok(rows.push(LinedRow::new(alloc, name)?)?);
     }
     match rows.last_mut() {
         Some(row) => take_row_line(alloc, row, line),
@@ -28,7 +28,7 @@ fn take_line(alloc: Global, rows: &mut Vec<Row>, line: &str) -> Result<()> {
 }
 
 /// Takes a line of a row.
-fn take_row_line(alloc: Global, row: &mut Row, line: &str) -> Result<()> {
+fn take_row_line(alloc: Global, row: &mut LinedRow, line: &str) -> Result<()> {
     match split(line) {
         ("for", value) => row.values.push(String::from_str(alloc, value)?)?,
         ("each", words) => push_values(alloc, &mut row.values, words)?,

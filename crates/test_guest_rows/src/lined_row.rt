@@ -1,9 +1,9 @@
-//! A row: lines that are taken one by one.
+//! A row of a file of rows: lines that are taken one by one.
 use std::alloc::{AllocError, Global};
 
 /// What one row has, as its file says it.
 #[derive(Drop)]
-pub struct Row {
+pub struct LinedRow {
     pub name: String,
     /// The row is made once for each of these, or once if there are none.
     pub values: Vec<String>,
@@ -11,10 +11,10 @@ pub struct Row {
     pub lines: Vec<String>,
 }
 
-impl Row {
+impl LinedRow {
     /// A row of this name without a line.
     pub fn new(alloc: Global, name: &str) -> Result<Self, AllocError> {
-        Ok(Row {
+        Ok(LinedRow {
             name: String::from_str(alloc, name)?,
             values: Vec::new(alloc),
             lines: Vec::new(alloc),

@@ -1,0 +1,91 @@
+//! Changes for which a snapshot takes memory. Where that is refused (`rt try --fail-alloc N`), the snapshot stays as it was, and the
+//! change is made when it is asked for again.
+
+use crate::numbers::numbers_of;
+use crate::perms::perm_of;
+use anyhow::{Result, anyhow};
+use guest_memory::{GuestMemory, Perm};
+use paged_memory::Snapshot;
+use test_guest_rows::split;
+
+/// How many pages there are.
+const PAGES: u32 = 0x0010_0000;
+
+/// Changes for which a snapshot takes memory.
+#[derive(Clone, Copy)]
+pub enum Growth {
+    /// Pages of zeros, from a first one on.
+    Map { first: u32, count: u32, perm: Perm },
+    /// Pages taken away, from a first one on.
+    Unmap { first: u32, count: u32 },
+    /// The byte at an address.
+    Store { address: u32, byte: u8 },
+}
+
+impl Growth {
+    /// The change of a line, without the snapshot's name.
+    pub fn of_line(verb: &str, text: &str) -> Result<Self> {
+        let (perm, rest) = if verb == "map" {
+            split(text)
+        } else {
+            ("", text)
+        };
+        let [first, second, _, _, _, _] = numbers_of(rest)?;
+        Ok(match verb {
+            "map" => Growth::Map {
+                first,
+                count: second,
+                perm: perm_of(perm),
+            },
+            "unmap" => Growth::Unmap {
+                first,
+                count: second,
+            },
+            _ => Growth::Store {
+                address: first,
+                byte: (second % 256) as u8,
+            },
+        })
+    }
+
+    /// Makes the change, and answers whether it was made. One past the last page isn't.
+    fn is_made(self, snapshot: &mut Snapshot) -> bool {
+        match self {
+            Growth::Map { first, count, perm } => {
+                if first > PAGES || count > PAGES - first {
+                    return false;
+                }
+                snapshot.map_zero(first, count, perm).is_ok()
+            }
+            Growth::Unmap { first, count } => {
+                if first > PAGES || count > PAGES - first {
+                    return false;
+                }
+                snapshot.unmap(first, count).is_ok()
+            }
+            Growth::Store { address, byte } => snapshot.store8(address, byte).is_ok(),
+        }
+    }
+}
+
+/// Makes a change, once more if it is refused and has changed nothing at these places.
+pub fn grow(snapshot: &mut Snapshot, growth: Growth, places: &[u32]) -> Result<()> {
+    let before = snapshot.try_clone()?;
+    if growth.is_made(snapshot) {
+        return Ok(());
+    }
+    for place in places {
+        if !is_same(&before, snapshot, *place) {
+            return Err(anyhow!("a refused change changed the memory"));
+        }
+    }
+    if growth.is_made(snapshot) {
+        return Ok(());
+    }
+    Err(anyhow!("refused twice"))
+}
+
+/// Whether two snapshots have the same byte at an address, and the same permissions.
+fn is_same(one: &Snapshot, other: &Snapshot, address: u32) -> bool {
+    one.byte(address) == other.byte(address) && one.perm(address) == other.perm(address)
+}
