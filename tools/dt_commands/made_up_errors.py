@@ -12,6 +12,7 @@ from .repository import TOP
 # Fakes that tests put in the place of a reader or a writer, and the programs that tell refusals by themselves.
 FAKES = {
     "crates/test_command_rows/src/memory_files.rt",
+    "crates/test_output_files/src/faults.rt",
     "crates/test_alloc_failures/src/failed.rt",
     "crates/test_alloc_failures/src/programs.rt",
     "crates/test_alloc_failures/src/quiet.rt",

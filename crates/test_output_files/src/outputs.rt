@@ -1,58 +1,145 @@
-//! Outputs of the host's files, for tests: an output that a test doesn't end doesn't compile.
+//! Outputs of the host's files: one at a time is held until a line ends it.
 
-use output_files::{Files, HostFiles, WriteFault};
-use std::io;
+use crate::fakes::LosingWriter;
+use crate::host::mode_of;
+use crate::words::{octal, split};
+use output_files::{Files, HostFiles, HostOutput, WriteFault};
+use std::fs::File;
 use std::io::Write;
-use std::test::Fail;
+use std::{fs, io};
 
-/// An output of the host's files.
-pub(crate) type Output<'r> = <HostFiles<'r, HostRuntime> as Files>::Output;
+/// The output that was begun and isn't ended.
+pub type Held = Option<HostOutput<File>>;
 
-/// The output for the file at a path, with this text in it.
-pub(crate) fn begun_with<'r>(
-    rt: &'r HostRuntime,
-    path: &str,
-    text: &[u8],
-) -> Result<Output<'r>, Fail> {
+/// Begins or ends an output. Whether it went as wanted.
+pub fn output(rt: &HostRuntime, held: &mut Held, verb: &str, rest: &str) -> io::Result<bool> {
     let mut files = HostFiles::new(rt);
-    let mut output = files.begin(rt.alloc(), path)?;
-    match write_out(&mut output, &[text]) {
-        Ok(()) => Ok(output),
-        Err(error) => {
-            files.abandon(path, output);
-            Err(Fail::from(error))
-        }
+    let (path, text) = split(rest);
+    match verb {
+        "refused" => Ok(is_refused(rt, rest)),
+        "begin" => hold(rt, held, files.begin(rt.alloc(), path), text),
+        "aside" => hold(rt, held, files.begin_aside(), rest),
+        "mode" => is_mode(rt, rest),
+        _ => end(rt, held, verb, rest),
     }
 }
 
-/// An output for no file, with these texts in it.
-pub(crate) fn aside_with<'r>(rt: &'r HostRuntime, texts: &[&[u8]]) -> Result<Output<'r>, Fail> {
-    let mut files = HostFiles::new(rt);
-    let mut output = files.begin_aside()?;
-    match write_out(&mut output, texts) {
-        Ok(()) => Ok(output),
-        Err(error) => {
-            files.abandon_aside(output);
-            Err(Fail::from(error))
-        }
-    }
-}
-
-/// Why no output is begun for the file at a path, if none is.
-pub(crate) fn refusal(rt: &HostRuntime, path: &str) -> Option<WriteFault> {
+/// Whether no output is begun for the file at a path, since it can't be written.
+fn is_refused(rt: &HostRuntime, path: &str) -> bool {
     let mut files = HostFiles::new(rt);
     match files.begin(rt.alloc(), path) {
         Ok(output) => {
             files.abandon(path, output);
-            None
+            false
         }
-        Err(fault) => Some(fault),
+        Err(fault) => fault == WriteFault::WriteFailed,
     }
 }
 
-fn write_out<W: Write>(output: &mut W, texts: &[&[u8]]) -> io::Result<()> {
-    for text in texts {
-        output.write_all(text)?;
+/// Writes to an output the pieces of a text, which `|` is between, and holds it.
+fn hold(
+    rt: &HostRuntime,
+    held: &mut Held,
+    begun: Result<HostOutput<File>, WriteFault>,
+    text: &str,
+) -> io::Result<bool> {
+    let Ok(mut output) = begun else {
+        return Ok(false);
+    };
+    let written = write_out(&mut output, text);
+    let_go(rt, held.replace(output));
+    written?;
+    Ok(true)
+}
+
+/// Writes pieces, and flushes what they were written to.
+fn write_out<W: Write>(output: &mut W, text: &str) -> io::Result<()> {
+    for piece in text.split('|') {
+        output.write_all(piece.as_bytes())?;
     }
     output.flush()
+}
+
+/// Takes an output away that no line ended.
+pub fn let_go(rt: &HostRuntime, held: Held) {
+    if let Some(output) = held {
+        HostFiles::new(rt).abandon_aside(output);
+    }
+}
+
+/// Ends the output. Whether it went as wanted.
+fn end(rt: &HostRuntime, held: &mut Held, verb: &str, rest: &str) -> io::Result<bool> {
+    let Some(output) = held.take() else {
+        return Ok(false);
+    };
+    match verb {
+        "finish" => Ok(is_finished(rt, output, rest, Ok(()))),
+        "stuck" => Ok(is_finished(rt, output, rest, Err(WriteFault::WriteFailed))),
+        "copy" => is_copied(rt, output, rest),
+        "lost" => Ok(is_lost(rt, output)),
+        _ => Ok(is_abandoned(rt, output, verb, rest)),
+    }
+}
+
+/// Whether an output is put in its place, or can't be.
+fn is_finished(
+    rt: &HostRuntime,
+    output: HostOutput<File>,
+    path: &str,
+    wanted: Result<(), WriteFault>,
+) -> bool {
+    HostFiles::new(rt).finish(path, output) == wanted
+}
+
+/// Takes an output away: a part, or one for no file.
+fn is_abandoned(rt: &HostRuntime, output: HostOutput<File>, verb: &str, path: &str) -> bool {
+    let mut files = HostFiles::new(rt);
+    if verb == "abandon" {
+        files.abandon(path, output);
+        return true;
+    }
+    files.abandon_aside(output);
+    verb == "drop"
+}
+
+/// Whether an output is copied as this text.
+fn is_copied(rt: &HostRuntime, output: HostOutput<File>, wanted: &str) -> io::Result<bool> {
+    let mut copy = Vec::new(rt.alloc());
+    let copied = HostFiles::new(rt).copy(output, &mut copy);
+    Ok(copied.is_ok() && copy.as_slice() == wanted.as_bytes())
+}
+
+/// Whether the copy of an output to a writer that loses it fails.
+fn is_lost(rt: &HostRuntime, output: HostOutput<File>) -> bool {
+    HostFiles::new(rt).copy(output, &mut LosingWriter) == Err(WriteFault::WriteFailed)
+}
+
+/// Whether the file without a name that this process has opened beside a row's folder has these permissions. Its name began as the
+/// folder's does.
+fn is_mode(rt: &HostRuntime, rest: &str) -> io::Result<bool> {
+    let (folder, digits) = split(rest);
+    let start = folder.strip_suffix("rows").unwrap_or(folder);
+    Ok(nameless_mode(rt, start)? == octal(digits))
+}
+
+/// The permissions of the first file that this process has opened, that has no name any more and whose name began so.
+fn nameless_mode(rt: &HostRuntime, start: &str) -> io::Result<u32> {
+    for number in 3..64u32 {
+        let path = format!(in rt.alloc(); "/proc/self/fd/{number}")?;
+        if is_nameless(rt, path.as_str(), start) {
+            return mode_of(rt, path.as_str());
+        }
+    }
+    Ok(0)
+}
+
+/// Whether a link of an opened file says that it has no name any more, and that its name began so.
+fn is_nameless(rt: &HostRuntime, link: &str, start: &str) -> bool {
+    match fs::read_link(rt, link) {
+        Ok(target) => {
+            let target = target.into_string();
+            target.as_str().starts_with(start) && target.as_str().ends_with(" (deleted)")
+        }
+        Err(_) => false,
+    }
 }
