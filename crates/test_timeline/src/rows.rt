@@ -1,6 +1,7 @@
 //! The positions of a run, one after another, as a run by written events of one worker makes them.
 ghost use Rattle.std.specs.Prelude.{◌<◌, ◌≤◌, ◌^◌, OnOk, IfSome};
 
+use anyhow::{Result, anyhow};
 use data_guest_programs::Program;
 use elf32_reader::{Image, read};
 use guest_memory::GuestMemory;
@@ -8,7 +9,6 @@ use hart::Hart;
 use schedule::Event;
 use schedule_core::World;
 use std::alloc::{AllocError, Global};
-use std::test::Fail;
 use timeline::{Spacing, Timeline};
 use token::{Start, TurnStop};
 
@@ -16,7 +16,7 @@ use token::{Start, TurnStop};
 pub const WORD: u32 = 0x0002_0000;
 
 /// How many instructions a thread executes at most.
-const MOST: u64 = 3000;
+pub const MOST: u64 = 3000;
 
 /// How a program is run.
 #[derive(Clone, Copy, Debug)]
@@ -26,18 +26,18 @@ pub struct Limits {
 }
 
 /// Checks that the numbers are in range.
-fn check(limits: &Limits) -> Result<(), Fail>
+fn check(limits: &Limits) -> Result<()>
     ensures bound { OnOk result (limits.now.bound ≤ 2 ^ 40) }
     ensures some { OnOk result (0 < limits.now.bound) }
     ensures quantum { OnOk result (IfSome limits.now.quantum (λ q. q ≤ 2 ^ 40)) }
     ensures some_quantum { OnOk result (IfSome limits.now.quantum (λ q. 0 < q)) }
 {
     if limits.bound == 0 || MOST < limits.bound {
-        return Err(Fail::from("a bound out of range"));
+        return Err(anyhow!("a bound out of range"));
     }
     match limits.quantum {
         Some(quantum) if quantum == 0 || MOST < quantum => {
-            Err(Fail::from("a quantum out of range"))
+            Err(anyhow!("a quantum out of range"))
         }
         _ => Ok(()),
     }
@@ -66,8 +66,9 @@ pub struct Row {
 }
 
 /// The image of a program.
-pub fn image_of(alloc: Global, program: &Program) -> Result<Image, Fail> {
-    Ok(read(alloc, program.file(alloc)?.as_slice())?)
+fn image_of(alloc: Global, program: &Program) -> Result<Image> {
+    let file = program.file(alloc)?;
+    read(alloc, &file).map_err(|fault| anyhow!("elf refused: {fault}"))
 }
 
 /// The word of memory at an address, as a thread sees it, none if a byte of it isn't mapped.
@@ -86,7 +87,7 @@ pub fn timeline_of(
     program: &Program,
     limits: &Limits,
     spacing: Spacing,
-) -> Result<Timeline, Fail> {
+) -> Result<Timeline> {
     check(limits)?;
     let image = image_of(alloc, program)?;
     let start = Start::open(alloc, &image, b"abc", limits.bound, limits.quantum)?;
@@ -116,15 +117,8 @@ struct Walk {
 }
 
 /// The positions of a run, the first one first.
-pub fn rows_of(alloc: Global, program: &Program, limits: &Limits) -> Result<Vec<Row>, Fail> {
-    check(limits)?;
-    let image = image_of(alloc, program)?;
-    let world = World::open(alloc, &image, b"abc", limits.bound, limits.quantum, 1)?;
-    let mut walk = Walk {
-        world,
-        steps: 0,
-        has_job: false,
-    };
+pub fn rows_of(alloc: Global, program: &Program, limits: &Limits) -> Result<Vec<Row>> {
+    let mut walk = Walk::open(alloc, program, limits)?;
     let mut rows = Vec::new(alloc);
     for _ in 0..1_000_000 {
         rows.push(walk.row())?;
@@ -136,6 +130,18 @@ pub fn rows_of(alloc: Global, program: &Program, limits: &Limits) -> Result<Vec<
 }
 
 impl Walk {
+    /// The run of a program by one worker, of which nothing has happened.
+    fn open(alloc: Global, program: &Program, limits: &Limits) -> Result<Self> {
+        check(limits)?;
+        let image = image_of(alloc, program)?;
+        let world = World::open(alloc, &image, b"abc", limits.bound, limits.quantum, 1)?;
+        Ok(Walk {
+            world,
+            steps: 0,
+            has_job: false,
+        })
+    }
+
     /// The present position.
     fn row(&self) -> Row {
         let own = match self.world.private(0) {
