@@ -2,8 +2,16 @@
 
 ghost use Rattle.std.specs.Prelude.{◌≡◌};
 
+use crate::shown::show;
+use anyhow::Result;
 use claim_table::{DrawSeat, Draws, SeatLog};
-use std::test::Fail;
+use std::alloc::{AllocError, Global};
+
+/// Prints the rows of draws.
+pub fn show_draws<R: Print>(rt: &R, alloc: Global) -> Result<()> {
+    show(rt, "two seats take turns", two_seats_take_turns(alloc)?)?;
+    show(rt, "no job ends each seat", no_job_ends_each_seat(alloc)?)
+}
 
 /// Whether a log tells these numbers, and that its seat has ended.
 fn tells(log: &SeatLog, drawn: &[u32], noted: &[u32], seen: &[u32]) -> bool {
@@ -20,27 +28,34 @@ fn draw_and_note(draws: &Draws, seat: &mut DrawSeat) -> Option<u32>
     Some(number)
 }
 
-#[test]
-fn two_seats_take_turns(rt: HostRuntime) -> Result<(), Fail> {
-    let (draws, mut seats) = Draws::new(rt.alloc(), 3, 2)?;
-    assert!(rt; draws.least(&mut seats[0]).is_none());
-    assert!(rt; draw_and_note(&draws, &mut seats[0]) == Some(0));
-    assert!(rt; draws.draw(&mut seats[1]) == Some(1));
-    assert!(rt; draws.least(&mut seats[1]) == Some(0));
-    assert!(rt; draws.draw(&mut seats[1]) == Some(2));
-    assert!(rt; draws.draw(&mut seats[0]).is_none() && draws.draw(&mut seats[1]).is_none());
-    assert!(rt; draws.draw(&mut seats[1]).is_none());
-    assert!(rt; seats[0].number() == 0 && seats[1].number() == 1);
+/// What two seats get from three jobs.
+const DRAWN: [Option<u32>; 8] = [None, Some(0), Some(1), Some(0), Some(2), None, None, None];
+
+fn two_seats_take_turns(alloc: Global) -> Result<bool, AllocError> {
+    let (draws, mut seats) = Draws::new(alloc, 3, 2)?;
+    let drawn = [
+        draws.least(&mut seats[0]),
+        draw_and_note(&draws, &mut seats[0]),
+        draws.draw(&mut seats[1]),
+        draws.least(&mut seats[1]),
+        draws.draw(&mut seats[1]),
+        draws.draw(&mut seats[0]),
+        draws.draw(&mut seats[1]),
+        draws.draw(&mut seats[1]),
+    ];
+    let numbers = [seats[0].number(), seats[1].number()];
     let logs = draws.gather(seats)?;
-    assert!(rt; tells(&logs[0], &[0], &[0], &[]) && tells(&logs[1], &[1, 2], &[], &[0]));
-    Ok(())
+    Ok(
+        drawn == DRAWN
+            && numbers == [0, 1]
+            && tells(&logs[0], &[0], &[0], &[])
+            && tells(&logs[1], &[1, 2], &[], &[0]),
+    )
 }
 
-#[test]
-fn no_job_ends_each_seat(rt: HostRuntime) -> Result<(), Fail> {
-    let (draws, mut seats) = Draws::new(rt.alloc(), 0, 1)?;
-    assert!(rt; draws.least(&mut seats[0]).is_none() && draws.draw(&mut seats[0]).is_none());
+fn no_job_ends_each_seat(alloc: Global) -> Result<bool, AllocError> {
+    let (draws, mut seats) = Draws::new(alloc, 0, 1)?;
+    let drawn = [draws.least(&mut seats[0]), draws.draw(&mut seats[0])];
     let logs = draws.gather(seats)?;
-    assert!(rt; tells(&logs[0], &[], &[], &[]));
-    Ok(())
+    Ok(drawn == [None, None] && tells(&logs[0], &[], &[], &[]))
 }

@@ -2,7 +2,6 @@
 
 use hart::Stop;
 use parallel_phase::Outcome;
-use std::alloc::{AllocError, Global};
 
 /// What became of a job, without its memory.
 #[derive(Clone, Copy, Debug, PartialEq, Eq)]
@@ -23,11 +22,23 @@ fn fate_of(outcome: &Outcome) -> Fate {
     }
 }
 
-/// What became of some jobs.
-pub fn fates(alloc: Global, outcomes: &[Outcome]) -> Result<Vec<Fate>, AllocError> {
-    let mut all = Vec::new(alloc);
-    for outcome in outcomes {
-        all.push(fate_of(outcome))?;
+/// Whether these became of jobs.
+pub fn are(outcomes: &[Outcome], wanted: &[Fate]) -> bool {
+    for place in 0..wanted.len() {
+        let outcome = outcomes.get(place);
+        if outcome.is_none_or(|outcome| fate_of(outcome) != wanted[place]) {
+            return false;
+        }
     }
-    Ok(all)
+    outcomes.len() == wanted.len()
+}
+
+/// Whether this became of so many jobs.
+pub fn are_all(outcomes: &[Outcome], count: usize, wanted: Fate) -> bool {
+    for outcome in outcomes {
+        if fate_of(outcome) != wanted {
+            return false;
+        }
+    }
+    outcomes.len() == count
 }

@@ -2,21 +2,29 @@
 
 ghost use Rattle.std.specs.Prelude.{◌≡◌, ◌%◌};
 
+use anyhow::{Result, anyhow};
 use data_guest_programs::{CODE, Program};
 use elf32_reader::read;
 use hart::Hart;
 use paged_memory::Snapshot;
 use parallel_phase::Job;
 use std::alloc::Global;
-use std::test::Fail;
 
 /// As many instructions as a thread may execute at most.
 pub const BOUND: u64 = 1 << 40;
 
 /// The memory that a program begins with.
-pub fn base_of(alloc: Global, program: &Program) -> Result<Snapshot, Fail> {
+pub fn base_of(alloc: Global, program: &Program) -> Result<Snapshot> {
     let file = program.file(alloc)?;
-    Ok(Snapshot::of_image(alloc, &read(alloc, &file)?)?)
+    base_of_file(alloc, &file)
+}
+
+/// The memory that the program of a file begins with.
+pub fn base_of_file(alloc: Global, file: &[u8]) -> Result<Snapshot> {
+    match read(alloc, file) {
+        Ok(image) => Ok(Snapshot::of_image(alloc, &image)?),
+        Err(fault) => Err(anyhow!("elf refused: {fault}")),
+    }
 }
 
 /// The address of an instruction of a program, counted from 0.

@@ -1,10 +1,10 @@
 //! Gates that hold workers until others have come.
 
 use crate::patience::Patience;
+use anyhow::Result;
 use phase_jobs::Gate;
 use std::rt::Clock;
 use std::sync::atomic::{AtomicBool, AtomicU32, Ordering};
-use std::test::Fail;
 
 /// A flag that one worker raises and others wait for.
 #[derive(Drop)]
@@ -43,7 +43,7 @@ pub struct Tie<'a, R> {
 }
 
 impl<'a, R: Clock> Tie<'a, R> {
-    pub fn new(rt: &'a R, held: u32) -> Result<Self, Fail> {
+    pub fn new(rt: &'a R, held: u32) -> Result<Self> {
         Ok(Tie {
             patience: Patience::new(rt)?,
             first: Flag::new(),
@@ -103,7 +103,7 @@ pub struct Holding<'a, R> {
 }
 
 impl<'a, R: Clock> Holding<'a, R> {
-    pub fn new(rt: &'a R, workers: u32, jobs: u32, held: u32) -> Result<Self, Fail> {
+    pub fn new(rt: &'a R, workers: u32, jobs: u32, held: u32) -> Result<Self> {
         Ok(Holding {
             patience: Patience::new(rt)?,
             workers,

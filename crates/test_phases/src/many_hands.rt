@@ -1,59 +1,107 @@
 //! Phases that several threads run.
 
-use crate::fates::{Fate, fates};
-use crate::fixtures::{address_of, base_of, job_at};
+ghost use Rattle.std.specs.Prelude.{◌<◌, ◌≤◌, length};
+ghost use Rattle.claim_table.specs.Logs.{most_jobs, most_seats};
+
+use crate::fates::{Fate, are_all};
+use crate::fixtures::{base_of, job_at};
 use crate::gates::{Holding, Tie};
+use crate::shown::show_at;
+use anyhow::Result;
 use data_guest_programs::BAD_WRITE;
 use hart::Stop;
-use parallel_phase::run_phase;
-use phase_jobs::OpenGate;
-use std::test::Fail;
+use paged_memory::Snapshot;
+use parallel_phase::{Job, run_phase};
+use phase_jobs::{Gate, OpenGate};
+use std::alloc::{AllocError, Global};
+use std::rt::Clock;
+use std::thread::Threads;
 
 /// What becomes of a job at the entry of `bad-write`.
 const WRITES: Fate = Fate::Ran(Stop::Ecall, 4, 0x0001_000C);
 
-#[test]
-fn either_worker_draws_the_third_job(rt: HostRuntime) -> Result<(), Fail> {
-    let base = base_of(rt.alloc(), &BAD_WRITE)?;
-    let jobs = [job_at(0, 0); 3];
+/// Prints the rows of phases that several threads run.
+pub fn show_many_hands<R: Clock + Print + Threads + Sync>(rt: &R, alloc: Global) -> Result<()> {
+    let base = base_of(alloc, &BAD_WRITE)?;
+    show_held_jobs(rt, alloc, &base)?;
+    show_held_workers(rt, alloc, &base)?;
+    show_many_jobs(rt, alloc, &base)
+}
+
+/// Prints the rows of three jobs of which one is held.
+fn show_held_jobs<R: Clock + Print + Threads + Sync>(
+    rt: &R,
+    alloc: Global,
+    base: &Snapshot,
+) -> Result<()> {
     for held in [0, 1] {
-        let gate = Tie::new(&rt, held)?;
-        let outcomes = run_phase(&rt, rt.alloc(), &jobs, 2, &gate, &base)?;
-        assert!(rt; !gate.has_failed(), "job {held} held");
-        assert_eq!(rt;
-            fates(rt.alloc(), &outcomes)?.as_slice(),
-            [WRITES; 3].as_slice()
-        );
+        let is_so = either_worker_draws_the_third_job(rt, alloc, base, held)?;
+        show_at(
+            rt,
+            "either worker draws the third job, held job",
+            held,
+            is_so,
+        )?;
     }
     Ok(())
 }
 
-#[test]
-fn each_worker_in_turn_is_held(rt: HostRuntime) -> Result<(), Fail> {
-    let base = base_of(rt.alloc(), &BAD_WRITE)?;
-    let jobs = [job_at(0, 0); 8];
+/// Prints the rows of four workers of which one is held.
+fn show_held_workers<R: Clock + Print + Threads + Sync>(
+    rt: &R,
+    alloc: Global,
+    base: &Snapshot,
+) -> Result<()> {
     for held in 0..4 {
-        let gate = Holding::new(&rt, 4, 8, held)?;
-        let outcomes = run_phase(&rt, rt.alloc(), &jobs, 4, &gate, &base)?;
-        assert!(rt; !gate.has_failed(), "worker {held} held");
-        assert_eq!(rt;
-            fates(rt.alloc(), &outcomes)?.as_slice(),
-            [WRITES; 8].as_slice()
-        );
+        let is_so = a_worker_is_held(rt, alloc, base, held)?;
+        show_at(rt, "each worker in turn is held, worker", held, is_so)?;
     }
     Ok(())
 }
 
-#[test]
-fn as_many_jobs_as_there_may_be(rt: HostRuntime) -> Result<(), Fail> {
-    let base = base_of(rt.alloc(), &BAD_WRITE)?;
+/// Prints the rows of as many jobs as there may be.
+fn show_many_jobs<R: Print + Threads + Sync>(rt: &R, alloc: Global, base: &Snapshot) -> Result<()> {
     let jobs = [job_at(0, 0); 256];
     for workers in [1, 2, 64] {
-        let outcomes = run_phase(&rt, rt.alloc(), &jobs, workers, &OpenGate, &base)?;
-        assert_eq!(rt;
-            fates(rt.alloc(), &outcomes)?.as_slice(),
-            [WRITES; 256].as_slice()
-        );
+        let is_so = all_write(rt, alloc, base, &jobs, workers, &OpenGate)?;
+        show_at(rt, "as many jobs as there may be, workers", workers, is_so)?;
     }
     Ok(())
+}
+
+/// Whether each job writes in a phase of so many workers.
+fn all_write(
+    rt: &(impl Threads + Sync),
+    alloc: Global,
+    base: &Snapshot,
+    jobs: &[Job],
+    workers: u32,
+    gate: &(impl Gate + Sync),
+) -> Result<bool, AllocError>
+    requires { (length jobs.now ≤ most_jobs) × (0 < workers) × (workers ≤ most_seats) }
+{
+    let outcomes = run_phase(rt, alloc, jobs, workers, gate, base)?;
+    Ok(are_all(&outcomes, jobs.len(), WRITES))
+}
+
+fn either_worker_draws_the_third_job<R: Clock + Threads + Sync>(
+    rt: &R,
+    alloc: Global,
+    base: &Snapshot,
+    held: u32,
+) -> Result<bool> {
+    let gate = Tie::new(rt, held)?;
+    let jobs = [job_at(0, 0); 3];
+    Ok(all_write(rt, alloc, base, &jobs, 2, &gate)? && !gate.has_failed())
+}
+
+fn a_worker_is_held<R: Clock + Threads + Sync>(
+    rt: &R,
+    alloc: Global,
+    base: &Snapshot,
+    held: u32,
+) -> Result<bool> {
+    let gate = Holding::new(rt, 4, 8, held)?;
+    let jobs = [job_at(0, 0); 8];
+    Ok(all_write(rt, alloc, base, &jobs, 4, &gate)? && !gate.has_failed())
 }

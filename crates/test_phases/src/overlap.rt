@@ -1,10 +1,10 @@
 //! A gate that holds a worker until a turn is taken.
 use crate::gates::Flag;
 use crate::patience::Patience;
+use anyhow::Result;
 use phase_jobs::Gate;
 use std::rt::Clock;
 use std::sync::atomic::{AtomicU64, Ordering};
-use std::test::Fail;
 
 /// How many turns the first phase of `race` has, and the next one.
 const FIRST: u64 = 4;
@@ -26,7 +26,7 @@ pub struct Overlap<'a, R> {
 }
 
 impl<'a, R: Clock> Overlap<'a, R> {
-    pub fn new(rt: &'a R) -> Result<Self, Fail> {
+    pub fn new(rt: &'a R) -> Result<Self> {
         Ok(Overlap {
             patience: Patience::new(rt)?,
             turns: AtomicU64::new(0),

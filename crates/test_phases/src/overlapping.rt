@@ -2,26 +2,55 @@
 
 use crate::fixtures::BOUND;
 use crate::overlap::Overlap;
+use crate::shown::show;
+use anyhow::{Result, anyhow};
 use data_guest_programs::{RACE, RACE_TRACE};
-use elf32_reader::read;
-use std::test::Fail;
+use elf32_reader::{Image, read};
+use std::alloc::Global;
+use std::rt::Clock;
+use std::sync::Wait;
+use std::thread::Threads;
 use test_phase_by_phase::trace_of;
 use token::Start;
 
 /// How often the run is made whose turns must overlap.
 const TIMES: u32 = 100;
 
-#[test]
-fn turns_are_taken_beside_running_jobs(rt: HostRuntime) -> Result<(), Fail> {
-    let alloc = rt.alloc();
+/// Prints the row of turns that are taken beside running jobs.
+pub fn show_overlapping<R: Clock + Print + Threads + Wait + Sync>(
+    rt: &R,
+    alloc: Global,
+) -> Result<()> {
     let file = RACE.file(alloc)?;
-    let image = read(alloc, &file)?;
+    let is_so = match read(alloc, &file) {
+        Ok(image) => turns_overlap(rt, alloc, &image)?,
+        Err(fault) => return Err(anyhow!("elf refused: {fault}")),
+    };
+    show(rt, "turns are taken beside running jobs", is_so)
+}
+
+/// Whether the turns of each run overlap.
+fn turns_overlap<R: Clock + Threads + Wait + Sync>(
+    rt: &R,
+    alloc: Global,
+    image: &Image,
+) -> Result<bool> {
     for _ in 0..TIMES {
-        let gate = Overlap::new(&rt)?;
-        let start = Start::open(alloc, &image, &[], BOUND, None)?;
-        let trace = trace_of(&rt, alloc, start, 2, &gate)?;
-        assert_eq!(rt; trace.as_str(), RACE_TRACE);
-        assert!(rt; gate.has_met() && !gate.has_failed());
+        if !turns_overlap_once(rt, alloc, image)? {
+            return Ok(false);
+        }
     }
-    Ok(())
+    Ok(true)
+}
+
+/// Whether the turns of a run overlap, and its trace is as ever.
+fn turns_overlap_once<R: Clock + Threads + Wait + Sync>(
+    rt: &R,
+    alloc: Global,
+    image: &Image,
+) -> Result<bool> {
+    let gate = Overlap::new(rt)?;
+    let start = Start::open(alloc, image, &[], BOUND, None)?;
+    let trace = trace_of(rt, alloc, start, 2, &gate)?;
+    Ok(trace.as_str() == RACE_TRACE && gate.has_met() && !gate.has_failed())
 }

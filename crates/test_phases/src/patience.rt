@@ -1,9 +1,9 @@
 //! How long the gates of these tests hold a worker. It reads the clock.
 
 use crate::gates::Flag;
+use anyhow::Result;
 use std::hint::spin_loop;
 use std::rt::Clock;
-use std::test::Fail;
 use std::time::Instant;
 
 /// For how many seconds after its start a gate holds workers. A busy machine may keep a worker from its processor for whole
@@ -19,7 +19,7 @@ pub struct Patience<'a, R> {
 
 impl<'a, R: Clock> Patience<'a, R> {
     /// The time that starts at once.
-    pub fn new(rt: &'a R) -> Result<Self, Fail> {
+    pub fn new(rt: &'a R) -> Result<Self> {
         Ok(Patience {
             rt,
             start: Instant::now(rt)?,

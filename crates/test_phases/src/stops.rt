@@ -5,20 +5,22 @@ ghost use Rattle.claim_table.specs.Logs.{most_seats, new_log};
 ghost use Rattle.parallel_phase.specs.Work.{IsWorkOf};
 ghost use denote.Param.Send.{IsSync};
 
-use crate::fates::{Fate, fates};
-use crate::fixtures::{BOUND, address_of};
+use crate::fates::{Fate, are};
+use crate::fixtures::{BOUND, address_of, base_of_file};
+use crate::shown::{show, show_at};
+use anyhow::Result;
 use claim_table::DrawSeat;
 use data_guest_programs::file_of;
-use elf32_reader::read;
 use hart::{Cause, Hart, Stop, Trap};
 use paged_memory::Snapshot;
-use parallel_phase::{Job, Outcome, Phase, WorkDone, run_phase};
+use parallel_phase::{Job, Phase, WorkDone, run_phase};
 use phase_jobs::OpenGate;
 use std::alloc::{AllocError, Global};
-use std::process::Abort;
-use std::test::Fail;
 use std::thread;
 use std::thread::Threads;
+
+/// How often threads of the caller's own work at the jobs.
+const TIMES: u32 = 20;
 
 /// The code of the jobs. Each begins at one of these instructions.
 const WORDS: [u32; 12] = [
@@ -36,18 +38,62 @@ const WORDS: [u32; 12] = [
     0x0000_0073, // ecall
 ];
 
-/// A job by the instruction that it begins at, and what becomes of it.
-type Row = (u16, u64, Option<u64>, Fate);
+/// A job, and what becomes of it.
+#[derive(Clone, Copy, Debug)]
+struct Row {
+    /// The instruction that it begins at.
+    instruction: u16,
+    /// How many instructions it may execute.
+    left: u64,
+    quantum: Option<u64>,
+    fate: Fate,
+}
 
-/// The jobs, with how many instructions each may execute and its quantum.
-const ROWS: [Row; 13] = [
-    (0, BOUND, None, Fate::Ran(Stop::Ecall, 2, 0x0001_0004)),
-    (11, BOUND, None, Fate::Ran(Stop::Ecall, 1, 0x0001_002C)),
-    (
-        2,
-        BOUND,
-        None,
-        Fate::Ran(
+/// A job that ends by a call.
+const CALL: Row = Row {
+    instruction: 11,
+    left: BOUND,
+    quantum: None,
+    fate: Fate::Ran(Stop::Ecall, 1, 0x0001_002C),
+};
+
+/// A job that ends by its quantum.
+const QUANTUM: Row = Row {
+    instruction: 10,
+    left: BOUND,
+    quantum: Some(70_000),
+    fate: Fate::Ran(Stop::Quantum, 70_000, 0x0001_0028),
+};
+
+/// A job that ends by its bound.
+const BOUNDED: Row = Row {
+    instruction: 10,
+    left: 70_000,
+    quantum: None,
+    fate: Fate::Ran(
+        Stop::Trap(Trap {
+            cause: Cause::BoundReached,
+            value: 0,
+        }),
+        70_000,
+        0x0001_0028,
+    ),
+};
+
+/// The jobs, each at another stop.
+static ROWS: [Row; 13] = [
+    Row {
+        instruction: 0,
+        left: BOUND,
+        quantum: None,
+        fate: Fate::Ran(Stop::Ecall, 2, 0x0001_0004),
+    },
+    CALL,
+    Row {
+        instruction: 2,
+        left: BOUND,
+        quantum: None,
+        fate: Fate::Ran(
             Stop::Trap(Trap {
                 cause: Cause::Breakpoint,
                 value: 0,
@@ -55,12 +101,12 @@ const ROWS: [Row; 13] = [
             0,
             0x0001_0008,
         ),
-    ),
-    (
-        3,
-        BOUND,
-        None,
-        Fate::Ran(
+    },
+    Row {
+        instruction: 3,
+        left: BOUND,
+        quantum: None,
+        fate: Fate::Ran(
             Stop::Trap(Trap {
                 cause: Cause::IllegalInstruction,
                 value: 0,
@@ -68,12 +114,12 @@ const ROWS: [Row; 13] = [
             0,
             0x0001_000C,
         ),
-    ),
-    (
-        4,
-        BOUND,
-        None,
-        Fate::Ran(
+    },
+    Row {
+        instruction: 4,
+        left: BOUND,
+        quantum: None,
+        fate: Fate::Ran(
             Stop::Trap(Trap {
                 cause: Cause::TargetMisaligned,
                 value: 0x0001_0012,
@@ -81,12 +127,12 @@ const ROWS: [Row; 13] = [
             0,
             0x0001_0010,
         ),
-    ),
-    (
-        5,
-        BOUND,
-        None,
-        Fate::Ran(
+    },
+    Row {
+        instruction: 5,
+        left: BOUND,
+        quantum: None,
+        fate: Fate::Ran(
             Stop::Trap(Trap {
                 cause: Cause::FetchDenied,
                 value: 0,
@@ -94,12 +140,12 @@ const ROWS: [Row; 13] = [
             1,
             0,
         ),
-    ),
-    (
-        6,
-        BOUND,
-        None,
-        Fate::Ran(
+    },
+    Row {
+        instruction: 6,
+        left: BOUND,
+        quantum: None,
+        fate: Fate::Ran(
             Stop::Trap(Trap {
                 cause: Cause::LoadMisaligned,
                 value: 1,
@@ -107,12 +153,12 @@ const ROWS: [Row; 13] = [
             0,
             0x0001_0018,
         ),
-    ),
-    (
-        7,
-        BOUND,
-        None,
-        Fate::Ran(
+    },
+    Row {
+        instruction: 7,
+        left: BOUND,
+        quantum: None,
+        fate: Fate::Ran(
             Stop::Trap(Trap {
                 cause: Cause::LoadDenied,
                 value: 0,
@@ -120,12 +166,12 @@ const ROWS: [Row; 13] = [
             0,
             0x0001_001C,
         ),
-    ),
-    (
-        8,
-        BOUND,
-        None,
-        Fate::Ran(
+    },
+    Row {
+        instruction: 8,
+        left: BOUND,
+        quantum: None,
+        fate: Fate::Ran(
             Stop::Trap(Trap {
                 cause: Cause::StoreMisaligned,
                 value: 1,
@@ -133,12 +179,12 @@ const ROWS: [Row; 13] = [
             0,
             0x0001_0020,
         ),
-    ),
-    (
-        9,
-        BOUND,
-        None,
-        Fate::Ran(
+    },
+    Row {
+        instruction: 9,
+        left: BOUND,
+        quantum: None,
+        fate: Fate::Ran(
             Stop::Trap(Trap {
                 cause: Cause::StoreDenied,
                 value: 0,
@@ -146,31 +192,14 @@ const ROWS: [Row; 13] = [
             0,
             0x0001_0024,
         ),
-    ),
-    (
-        10,
-        70_000,
-        None,
-        Fate::Ran(
-            Stop::Trap(Trap {
-                cause: Cause::BoundReached,
-                value: 0,
-            }),
-            70_000,
-            0x0001_0028,
-        ),
-    ),
-    (
-        10,
-        BOUND,
-        Some(70_000),
-        Fate::Ran(Stop::Quantum, 70_000, 0x0001_0028),
-    ),
-    (
-        10,
-        5,
-        Some(5),
-        Fate::Ran(
+    },
+    BOUNDED,
+    QUANTUM,
+    Row {
+        instruction: 10,
+        left: 5,
+        quantum: Some(5),
+        fate: Fate::Ran(
             Stop::Trap(Trap {
                 cause: Cause::BoundReached,
                 value: 0,
@@ -178,65 +207,79 @@ const ROWS: [Row; 13] = [
             5,
             0x0001_0028,
         ),
-    ),
+    },
 ];
 
-/// The job of a row.
-fn job_of(row: &Row) -> Job {
-    let (instruction, left, quantum, _) = *row;
-    Job {
-        hart: Hart::new(address_of(instruction), 0, 0, 0),
-        left,
-        quantum,
-    }
+/// Prints the rows of stops.
+pub fn show_stops<R: Print + Threads + Sync>(rt: &R, alloc: Global) -> Result<()> {
+    let base = base(alloc)?;
+    show_each_stop(rt, alloc, &base)?;
+    let is_so = threads_of_the_callers_own(rt, alloc, &base)?;
+    show(rt, "threads of the caller's own", is_so)
 }
 
 /// The memory of the jobs.
-fn base(alloc: Global) -> Result<Snapshot, Fail> {
+fn base(alloc: Global) -> Result<Snapshot> {
     let file = file_of(alloc, WORDS.as_slice())?;
-    Ok(Snapshot::of_image(alloc, &read(alloc, &file)?)?)
+    base_of_file(alloc, &file)
 }
 
-/// What a seat makes of a job, alone.
-fn alone(alloc: Global, job: Job, base: &Snapshot) -> Result<Option<Outcome>, AllocError> {
-    let (phase, mut seats) = Phase::open(alloc, &[job], 1, base)?;
-    let drawn = phase.one(&mut seats[0], &OpenGate)?;
-    Ok(drawn.map(|drawn| drawn.outcome))
+/// Prints the row of each job.
+fn show_each_stop<R: Print + Threads + Sync>(rt: &R, alloc: Global, base: &Snapshot) -> Result<()> {
+    let mut number: u32 = 0;
+    for row in &ROWS {
+        show_at(rt, "stop", number, is_stop(rt, alloc, base, row)?)?;
+        number = number.wrapping_add(1);
+    }
+    Ok(())
 }
 
-/// Asserts of each row that its job ends so alone, and as the last one after three that don't end the run.
-fn assert_rows(
-    rt: &(impl Abort + Threads + Sync),
+/// The job of a row.
+fn job_of(row: &Row) -> Job {
+    Job {
+        hart: Hart::new(address_of(row.instruction), 0, 0, 0),
+        left: row.left,
+        quantum: row.quantum,
+    }
+}
+
+/// Whether the job of a row ends so alone, and by 1, 2 and 4 workers as the last one after three that don't end the run.
+fn is_stop<R: Threads + Sync>(
+    rt: &R,
     alloc: Global,
     base: &Snapshot,
-    workers: u32,
-) -> Result<(), Fail>
-    requires { (0 < workers) × (workers ≤ most_seats) }
-{
-    let call = job_of(&ROWS[1]);
-    let quantum = job_of(&ROWS[11]);
-    for row in &ROWS {
-        let job = job_of(row);
-        let mut single = Vec::new(alloc);
-        if let Some(outcome) = alone(alloc, job, base)? {
-            single.push(outcome)?;
+    row: &Row,
+) -> Result<bool, AllocError> {
+    for workers in [1, 2, 4] {
+        if !is_last(rt, alloc, base, row, workers)? {
+            return Ok(false);
         }
-        assert_eq!(rt; fates(alloc, &single)?.as_slice(), [row.3].as_slice());
-        let jobs = [call, quantum, call, job];
-        let outcomes = run_phase(rt, alloc, &jobs, workers, &OpenGate, base)?;
-        let wanted = [ROWS[1].3, ROWS[11].3, ROWS[1].3, row.3];
-        assert_eq!(rt; fates(alloc, &outcomes)?.as_slice(), wanted.as_slice());
     }
-    Ok(())
+    is_alone(alloc, base, row)
 }
 
-#[test]
-fn each_stop(rt: HostRuntime) -> Result<(), Fail> {
-    let base = base(rt.alloc())?;
-    for workers in [1, 2, 4] {
-        assert_rows(&rt, rt.alloc(), &base, workers)?;
+/// Whether the job of a row ends so in a phase of its own.
+fn is_alone(alloc: Global, base: &Snapshot, row: &Row) -> Result<bool, AllocError> {
+    let (phase, mut seats) = Phase::open(alloc, &[job_of(row)], 1, base)?;
+    match phase.one(&mut seats[0], &OpenGate)? {
+        Some(drawn) => Ok(are(&[drawn.outcome], &[row.fate])),
+        None => Ok(false),
     }
-    Ok(())
+}
+
+/// Whether the job of a row ends so after three that don't end the run.
+fn is_last<R: Threads + Sync>(
+    rt: &R,
+    alloc: Global,
+    base: &Snapshot,
+    row: &Row,
+    workers: u32,
+) -> Result<bool, AllocError>
+    requires { (0 < workers) × (workers ≤ most_seats) }
+{
+    let jobs = [job_of(&CALL), job_of(&QUANTUM), job_of(&CALL), job_of(row)];
+    let outcomes = run_phase(rt, alloc, &jobs, workers, &OpenGate, base)?;
+    Ok(are(&outcomes, &[CALL.fate, QUANTUM.fate, CALL.fate, row.fate]))
 }
 
 /// The works of all seats, each in a thread of its own where one can be started.
@@ -259,21 +302,34 @@ fn work_side_by_side<R: Threads + Sync>(
     )
 }
 
-#[test]
-fn threads_of_the_callers_own(rt: HostRuntime) -> Result<(), Fail> {
-    let base = base(rt.alloc())?;
-    let jobs = [
-        job_of(&ROWS[1]),
-        job_of(&ROWS[11]),
-        job_of(&ROWS[11]),
-        job_of(&ROWS[10]),
-    ];
-    for _ in 0..20 {
-        let (phase, seats) = Phase::open(rt.alloc(), &jobs, 3, &base)?;
-        let works = work_side_by_side(&rt, &phase, seats)?;
-        let outcomes = phase.collect(works)?;
-        let wanted = [ROWS[1].3, ROWS[11].3, ROWS[11].3, ROWS[10].3];
-        assert_eq!(rt; fates(rt.alloc(), &outcomes)?.as_slice(), wanted.as_slice());
+fn threads_of_the_callers_own<R: Threads + Sync>(
+    rt: &R,
+    alloc: Global,
+    base: &Snapshot,
+) -> Result<bool, AllocError> {
+    for _ in 0..TIMES {
+        if !works_once(rt, alloc, base)? {
+            return Ok(false);
+        }
     }
-    Ok(())
+    Ok(true)
+}
+
+/// Whether four jobs end as they should by three threads of the caller's own.
+fn works_once<R: Threads + Sync>(
+    rt: &R,
+    alloc: Global,
+    base: &Snapshot,
+) -> Result<bool, AllocError> {
+    let jobs = [
+        job_of(&CALL),
+        job_of(&QUANTUM),
+        job_of(&QUANTUM),
+        job_of(&BOUNDED),
+    ];
+    let (phase, seats) = Phase::open(alloc, &jobs, 3, base)?;
+    let works = work_side_by_side(rt, &phase, seats)?;
+    let outcomes = phase.collect(works)?;
+    let wanted = [CALL.fate, QUANTUM.fate, QUANTUM.fate, BOUNDED.fate];
+    Ok(are(&outcomes, &wanted))
 }

@@ -5,11 +5,11 @@ ghost use Rattle.parallel_phase.specs.declared.taker_stage.TakerStage.TheVariant
 
 use crate::gates::Flag;
 use crate::patience::Patience;
+use anyhow::Result;
 use paged_memory::Snapshot;
 use parallel_phase::{Job, Ran, TakerStage, TurnTaker};
 use std::alloc::{AllocError, Global};
 use std::rt::Clock;
-use std::test::Fail;
 
 /// A taker that begins once a flag is up, and stops after so many turns.
 #[derive(Drop)]
@@ -33,7 +33,7 @@ impl<'a, R: Clock> Taking<'a, R> {
         base: &Snapshot,
         from: &'a Flag,
         most: u32,
-    ) -> Result<Self, Fail>
+    ) -> Result<Self>
         ensures { IfOk result (λ taker. (taker.jobs.items ≡ jobs.now) × (cells_of taker.base ≡ cells_of base.now) × (taker.stage ≡ New)) }
     {
         Ok(Taking {
