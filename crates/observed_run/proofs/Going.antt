@@ -1,10 +1,14 @@
 -- What turns make of a run and of its sink, once its races are looked for.
-use Rattle.std.proofs.Common.{◌≡◌, ℕ, List, Option, Some, Result, Ok, Err}
+use Rattle.std.proofs.Common.{◌≡◌, ◌∙◌, ℕ, List, Option, Some, Result, Ok, Err, IfOk, subst, sym}
+use Rattle.std.specs.Prelude.{OnOk}
 use Rattle.std.specs.Result.{IsErrAnd}
+use Rattle.runtime.specs.Recorded.{IsConcluded}
 use Rattle.runtime.specs.Turns.{GoesOn, GoesOnSunk, sunk}
 use Rattle.runtime.specs.declared.interruption.Interruption.{Interruption}
 use Rattle.runtime.specs.declared.interruption.Interruption.TheVariants.{OutOfMemory}
+use Rattle.runtime.specs.declared.run_end.RunEnd.{RunEnd}
 use Rattle.runtime.proofs.Prefixes.{appends_prefix}
+use Rattle.observed_run.specs.Runs.{ended_in}
 use Rattle.token.specs.RunInTurn.{point_of}
 use Rattle.token.specs.declared.outcome.RunOutcome.{RunOutcome}
 use Rattle.token.specs.declared.run_in_turn.RunInTurn.{RunInTurn}
@@ -22,14 +26,16 @@ goes_unfound writes taken failed outcome_in run run' sink sink' outcome (Err int
   writes_if = λ is. absurd cc;
 }
 
--- the run has ended, and has races
-pub ended_sunk : {S X : Type 0} (writes : Type 0) (taken : S → Option (List ℕ)) (failed : S → ℕ) (run run' : RunInTurn) (sink sink' : S) (outcome : RunOutcome) (races : X)
-    → GoesOn writes taken failed (λ (found : RunOutcome × X). Some found.0) (Ok (outcome, races)) run run' sink sink'
-    → GoesOnSunk writes Some (Ok outcome) run run' (sunk taken failed sink) (sunk taken failed sink')
-ended_sunk writes taken failed run run' sink sink' outcome races goes = record { setup = goes.setup; ended = goes.ended; sent = goes.sent; failures = goes.failures; writes_if = tt }
+-- how the turns ended, without the races
+pub ended_sunk : {S X : Type 0} (writes : Type 0) (taken : S → Option (List ℕ)) (failed : S → ℕ) (run run' : RunInTurn) (sink sink' : S) (found : Result (RunOutcome × X) Interruption)
+    → GoesOn writes taken failed (λ (found : RunOutcome × X). Some found.0) found run run' sink sink'
+    → GoesOnSunk writes Some (ended_in found) run run' (sunk taken failed sink) (sunk taken failed sink')
+ended_sunk writes taken failed run run' sink sink' (Ok found) goes = record { setup = goes.setup; ended = goes.ended; sent = goes.sent; failures = goes.failures; writes_if = tt }
+ended_sunk writes taken failed run run' sink sink' (Err interruption) goes = record { setup = goes.setup; ended = tt; sent = goes.sent; failures = goes.failures; writes_if = goes.writes_if }
 
--- the run was interrupted
-pub stopped_sunk : {S X : Type 0} (writes : Type 0) (taken : S → Option (List ℕ)) (failed : S → ℕ) (run run' : RunInTurn) (sink sink' : S) (interruption : Interruption)
-    → GoesOn writes taken failed (λ (found : RunOutcome × X). Some found.0) (Err interruption) run run' sink sink'
-    → GoesOnSunk writes Some (Err interruption) run run' (sunk taken failed sink) (sunk taken failed sink')
-stopped_sunk writes taken failed run run' sink sink' interruption goes = record { setup = goes.setup; ended = tt; sent = goes.sent; failures = goes.failures; writes_if = goes.writes_if }
+-- the races that were found are those of a run that has an end
+pub races_found : {Races : Type 0} (Are : Races → Type 0) (found : Result (RunOutcome × Races) Interruption) (run : Result RunEnd Interruption) (races given : Races)
+    → IsConcluded (ended_in found) run → IfOk found (λ found. Are found.1) → IfOk found (λ found. races ≡ found.1) → OnOk run (given ≡ races) → IfOk run (λ end. Are given)
+races_found Are (Ok found) (Ok end) races given concluded are is same = subst Are (sym (same ∙ is)) are
+races_found Are (Err interruption) (Ok end) races given concluded are is same = absurd cc
+races_found Are found (Err interruption) races given concluded are is same = tt

@@ -4,26 +4,23 @@ use Rattle.std.specs.Prelude.{◌==◌, ◌||◌, if◌then◌else◌, is_some, 
 use Rattle.races.specs.Recording.{Records}
 use Rattle.races.specs.declared.event.Event.{Event}
 use Rattle.races.specs.declared.recorder.RaceRecorder.{RaceRecorder}
-use Rattle.segment.specs.Ends.{IsEndOf}
 use Rattle.segment.specs.declared.segment_end.SegmentEnd.{SegmentEnd}
 use Rattle.thread_table.specs.Threads.{serial_list}
 use Rattle.token.specs.Outcome.{quiet_outcome}
-use Rattle.token.specs.Point.{Point, IsNeededAt, IsNeededBy, after_step, counted, moved, need_at, need_by, need_of, next_phase, passed_on, step_at}
+use Rattle.token.specs.Point.{Point, IsNeededAt, IsNeededBy, after_step, counted, moved, need_at, next_phase, passed_on, step_at}
 use Rattle.token.specs.History.{History}
 use Rattle.token.specs.Serial.{StandsAfter}
 use Rattle.token.specs.Turns.{Step}
-use Rattle.token.specs.declared.due.Due.{Due}
-use Rattle.token.specs.declared.due.Due.TheVariants as due
 use Rattle.token.specs.declared.need.Need.{Need}
 use Rattle.token.specs.declared.need.Need.TheVariants as need
-use Rattle.token.specs.declared.need.Work.{Work}
 use Rattle.token.specs.declared.outcome.RunOutcome.{RunOutcome}
 use Rattle.token.specs.declared.turn.TurnStop.{TurnStop}
+use Rattle.runtime.proofs.Needs.{end_in}
 use Rattle.observed_run.specs.Calls.{AreOfEnd, blocked_in, held_by, let_go}
-use Rattle.observed_run.specs.Runs.{AreEvents, AreLast, AreOfTurn, actor_of, needed_events, segment_events, thread_by}
+use Rattle.observed_run.specs.Runs.{AreEvents, AreLast, AreOfTurn, actor_of, needed_events, thread_by}
 use Rattle.observed_run.specs.Told.{IsTold}
 use Rattle.observed_run.specs.declared.actor.Actor.{Actor}
-use Rattle.observed_run.proofs.Told.{told_more, told_none}
+use Rattle.observed_run.proofs.Told.{told_more}
 
 -- the next phase leaves the state as it was
 passed_state : (point : Point) → (passed_on point).state ≡ point.state
@@ -43,16 +40,12 @@ pub moved_state : (point : Point) (step : Step) → (moved point step).state ≡
 unfolding after_step counted
 moved_state point step = passed_state (after_step point step)
 
-by_ended : (point : Point) (ended : Option RunOutcome) (who : Due) (outcome : RunOutcome) → need_by ended (need_of point who) ≡ need.Ended outcome → ended ≡ Some outcome
-by_ended point (Some ends) who outcome is = cc
-by_ended point None (due.Fresh thread) outcome is = absurd cc
-by_ended point None (due.Keeper thread) outcome is = absurd cc
-by_ended point None (due.Woken thread mutex) outcome is = absurd cc
-
--- a run that needs nothing more has ended
-pub ended_is : (point : Point) (outcome : RunOutcome) → need_at point ≡ need.Ended outcome → point.ended ≡ Some outcome
-unfolding need_at
-ended_is point outcome is = by_ended point point.ended _ outcome is
+-- a turn that is needed is no end
+pub no_end : (asked : Need) → ((outcome : RunOutcome) → asked ≡ need.Ended outcome → ⊥) → end_in asked ≡ None
+no_end (need.Segment work) turn = refl
+no_end (need.Keeper work) turn = refl
+no_end (need.Wake thread) turn = refl
+no_end (need.Ended outcome) turn = absurd (turn outcome refl)
 
 -- what follows the segment of a turn, by what was looked up for it
 pub last_is : (actor given : Actor) (point : Point) (thread : ℕ) (end : Option SegmentEnd) (step : Step) (held passed : List ℕ) (stop : TurnStop) (events : List Event)
@@ -70,7 +63,7 @@ module _ (start point after : Point) (events last : List Event) (before between 
   Leads = (more : List Event) × AreEvents start after more × Records now more
 
   -- a turn that needs this, with this end of its segment and these events of it
-  by_need : (asked : Need) (end : Option SegmentEnd) → need_at point ≡ asked → IsNeededBy point asked end
+  pub by_need : (asked : Need) (end : Option SegmentEnd) → need_at point ≡ asked → IsNeededBy point asked end
       → IsTold before between (needed_events (actor_of point.done (thread_by asked)) point asked end)
       → AreLast (actor_of point.done (thread_by asked)) point (thread_by asked) end (step_at point end) last
       → after ≡ moved point (step_at point end) → Leads
@@ -85,24 +78,6 @@ module _ (start point after : Point) (events last : List Event) (before between 
         subst (λ (p : Point). AreEvents start p (events ++ (first ++ last))) (sym moves) (AreEvents.turn are needed_now of_turn),
         told_more before between now first last told_now told_last events records,
       )
-
-  pub by_segment : (work : Work) (end : SegmentEnd) → need_at point ≡ need.Segment work → IsEndOf point.base work.segment end
-      → IsTold before between (segment_events (actor_of point.done work.thread) work.segment point.base end)
-      → AreLast (actor_of point.done work.thread) point work.thread (Some end) (step_at point (Some end)) last
-      → after ≡ moved point (step_at point (Some end)) → Leads
-  by_segment work end is needed told are_last moves = by_need (need.Segment work) (Some end) is needed told are_last moves
-
-  pub by_keeper : (work : Work) (end : SegmentEnd) → need_at point ≡ need.Keeper work → IsEndOf point.state.memory work.segment end
-      → IsTold before between (segment_events (actor_of point.done work.thread) work.segment point.state.memory end)
-      → AreLast (actor_of point.done work.thread) point work.thread (Some end) (step_at point (Some end)) last
-      → after ≡ moved point (step_at point (Some end)) → Leads
-  by_keeper work end is needed told are_last moves = by_need (need.Keeper work) (Some end) is needed told are_last moves
-
-  pub by_wake : (thread : ℕ) → before ≡ between → need_at point ≡ need.Wake thread
-      → AreLast (actor_of point.done thread) point thread None (step_at point None) last
-      → after ≡ moved point (step_at point None) → Leads
-  by_wake thread same is are_last moves =
-      by_need (need.Wake thread) None is _ (subst (λ (r : RaceRecorder). IsTold before r []) same (told_none before)) are_last moves
 
 none_of : (history : History) → length history ≡ 0 → history ≡ []
 none_of [] is = refl

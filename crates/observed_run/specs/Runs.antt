@@ -1,5 +1,5 @@
 -- The events of a run, turn by turn.
-use Rattle.std.specs.Prelude.{◌≡◌, ℕ, ◌+◌, ◌%◌, ◌^◌, ◌⊎◌, Option, Some, List, [], ◌++◌, IsSome}
+use Rattle.std.specs.Prelude.{◌≡◌, ℕ, ◌+◌, ◌-◌, ◌%◌, ◌^◌, ◌<◌, ◌⊎◌, Option, Some, Result, Ok, Err, List, [], ◌++◌, IsSome}
 use Rattle.guest_memory.specs.Memory.{Memory}
 use Rattle.races.specs.Races.{AreRaces}
 use Rattle.races.specs.Recording.{Records}
@@ -7,6 +7,8 @@ use Rattle.races.specs.Steps.{steps_in}
 use Rattle.races.specs.declared.event.Event.{Event}
 use Rattle.races.specs.declared.race.Race.{Race}
 use Rattle.races.specs.declared.recorder.RaceRecorder.{RaceRecorder}
+use Rattle.runtime.specs.Recorded.{Recording}
+use Rattle.runtime.specs.declared.interruption.Interruption.{Interruption}
 use Rattle.segment.specs.declared.segment.Segment.{Segment}
 use Rattle.segment.specs.declared.segment_end.SegmentEnd.{SegmentEnd}
 use Rattle.token.specs.Point.{Point, IsNeededAt, moved, need_at, step_at}
@@ -17,6 +19,7 @@ use Rattle.token.specs.History.{History}
 use Rattle.token.specs.Turns.{Step}
 use Rattle.token.specs.declared.need.Need.{Need}
 use Rattle.token.specs.declared.need.Need.TheVariants as need
+use Rattle.token.specs.declared.outcome.RunOutcome.{RunOutcome}
 use Rattle.token.specs.declared.run_in_turn.RunInTurn.{RunInTurn}
 use Rattle.observed_run.specs.Calls.{AreOfEnd, blocked_in, held_by, let_go}
 use Rattle.observed_run.specs.Events.{byte_of, events_upto, steps_before}
@@ -71,6 +74,18 @@ pub record AreRacesOf (setup : Setup) (races : List Race) : Type 0 where
   pub ended : IsSome point.ended
   pub are_events : AreEvents start point events
   pub are_races : AreRaces (steps_in events) races
+
+-- a run may begin with a sink and a recorder: no turn of it is done, the sink's count of failures has room, and nothing is recorded
+pub record MayBegin {R S : Type 0} (records : Recording R) (failed : S → ℕ) (start : RunInTurn) (sink : S) (recorder : R) : Type 0 where
+  pub done : (point_of start).done ≡ 0
+  pub output : (point_of start).state.output ≡ []
+  pub failures : failed sink < 2 ^ 64 - 1
+  pub none : records recorder [] []
+
+-- how the turns of a run ended for which races were found
+abbrev pub ended_in : {Found : Type 0} → Result (RunOutcome × Found) Interruption → Result RunOutcome Interruption
+ended_in (Ok found) = Ok found.0
+ended_in (Err interruption) = Err interruption
 
 -- a run stands after some legal history
 abbrev pub IsLegalPoint : Point → Type 0

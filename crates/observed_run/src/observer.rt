@@ -1,12 +1,14 @@
 //! Does the turns of a run and tells a recorder of races their events.
-ghost use Rattle.std.specs.Prelude.{◌≡◌, ◌-◌, ◌^◌, ◌<◌, IfErr, IfOk, IsSome, OnErr, OnOk, Some, option_map};
-ghost use Rattle.token.specs.Point.{IsNeededAt, moved, step_at};
+ghost use Rattle.std.specs.Prelude.{◌≡◌, ◌≢◌, ◌-◌, ◌^◌, ◌<◌, IfErr, IfOk, IsSome, None, OnErr, OnOk, Some, option_map};
+ghost use Rattle.token.specs.Point.{IsNeededAt, IsNeededBy, moved, step_at};
 ghost use Rattle.token.specs.RunInTurn.{point_of};
 ghost use Rattle.token.specs.Serial.{IsLonger};
+ghost use Rattle.token.specs.declared.outcome.RunOutcome.{RunOutcome};
 ghost use Rattle.token.specs.declared.turn_fault.TurnFault.TheVariants.{WriteFailed};
 ghost use Rattle.runtime.specs.Turns.{GoesOn, Moves};
 ghost use Rattle.observed_run.specs.Runs as spec;
-ghost use Rattle.observed_run.specs.Runs.{IsLegalPoint, Leads, MayMove, TellsLast};
+ghost use Rattle.observed_run.specs.Runs.{IsLegalPoint, Leads, MayMove, TellsLast, actor_of, needed_events, thread_by};
+ghost use Rattle.observed_run.specs.Told.{IsTold};
 
 use crate::actor::{Actor, byte_of};
 use crate::before::Before;
@@ -15,7 +17,7 @@ use crate::observing::observe;
 use crate::telling::tell_all;
 use races::RaceRecorder;
 use runtime::{Interruption, Sink, send};
-use std::alloc::Global;
+use std::alloc::{AllocError, Global};
 use std::sync::Wait;
 use token::{Need, Recorder, RunOutcome, SegmentEnd, Serial, TurnFault};
 
@@ -78,27 +80,35 @@ impl Observer {
         ensures legal { OnOk result (IsLegalPoint (point_of serial.old)) }
         ensures moved { IfOk result (λ ends. Moves ends (point_of serial.old) (point_of serial.new)) }
         ensures may { OnErr result (MayMove (point_of serial.old) (point_of serial.new)) }
-        ensures failed { IfErr result (λ fault. fault ≡ WriteFailed → K.writes) }
+        ensures failed { IfErr result (λ fault. fault ≡ WriteFailed → K.writes × ((point_of serial.new).ended ≡ None)) }
     {
-        match serial.need() {
-            Need::Ended(outcome) => Ok(Some(outcome)),
-            Need::Segment(work) => {
-                let actor = actor_in(serial, work.thread);
-                let end = observe(&mut self.races, actor, work.segment, serial.base())?;
-                self.turn(serial, work.thread, Some(&end))?;
-                Ok(None)
-            }
-            Need::Keeper(work) => {
-                let actor = actor_in(serial, work.thread);
-                let end = observe(&mut self.races, actor, work.segment, serial.now())?;
-                self.turn(serial, work.thread, Some(&end))?;
-                Ok(None)
-            }
-            Need::Wake { thread } => {
-                self.turn(serial, thread, None)?;
-                Ok(None)
-            }
+        let need = serial.need();
+        if let Need::Ended(outcome) = need {
+            return Ok(Some(outcome));
         }
+        let end = self.execute(serial, &need)?;
+        self.turn(serial, thread_by(&need), end.as_ref())?;
+        Ok(None)
+    }
+
+    /// Executes the segment that a turn needs, and tells its events. A wake needs none.
+    fn execute<K: Recorder>(
+        &mut self,
+        serial: &Serial<K>,
+        need: &Need,
+    ) -> Result<Option<SegmentEnd>, AllocError>
+        requires { (outcome : RunOutcome) → need.now ≢ Need.Ended outcome }
+        ensures needed { IfOk result (IsNeededBy (point_of serial.now) need.now) }
+        ensures told { IfOk result (λ end. IsTold self.old.races self.new.races (needed_events (actor_of (point_of serial.now).done (thread_by need.now)) (point_of serial.now) need.now end)) }
+    {
+        let (work, memory) = match *need {
+            Need::Segment(work) => (work, serial.base()),
+            Need::Keeper(work) => (work, serial.now()),
+            Need::Wake { .. } | Need::Ended(_) => return Ok(None),
+        };
+        let actor = actor_in(serial, work.thread);
+        let end = observe(&mut self.races, actor, work.segment, memory)?;
+        Ok(Some(end))
     }
 
     /// Does the next turn, which is a thread's, and tells what its call or its wake orders.
@@ -112,7 +122,7 @@ impl Observer {
         ensures moved { OnOk result (point_of serial.new ≡ moved (point_of serial.old) (step_at (point_of serial.old) (option_map (λ end. end.now) end.entry))) }
         ensures longer { OnOk result (IsLonger (point_of serial.old) (point_of serial.new)) }
         ensures may { OnErr result (MayMove (point_of serial.old) (point_of serial.new)) }
-        ensures failed { IfErr result (λ fault. fault ≡ WriteFailed → K.writes) }
+        ensures failed { IfErr result (λ fault. fault ≡ WriteFailed → K.writes × (point_of serial.new ≡ point_of serial.old)) }
         ensures told { OnOk result (TellsLast serial.old self.old.races self.new.races thread (option_map (λ end. end.now) end.entry)) }
     {
         let alloc = self.alloc;
@@ -127,6 +137,17 @@ impl Observer {
         };
         let events = end_events(alloc, &ended, end, turn.stop)?;
         Ok(tell_all(&mut self.races, &events)?)
+    }
+}
+
+/// Who has the turn that needs this, if it is one.
+fn thread_by(need: &Need) -> u32
+    ensures { result ≡ spec.thread_by need.now }
+{
+    match *need {
+        Need::Segment(work) | Need::Keeper(work) => work.thread,
+        Need::Wake { thread } => thread,
+        Need::Ended(_) => 0,
     }
 }
 

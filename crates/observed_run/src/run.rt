@@ -1,14 +1,14 @@
 //! A whole run, turn after turn, whose events are told to a recorder of races.
-ghost use Rattle.std.specs.Prelude.{◌≡◌, ◌-◌, ◌^◌, ◌<◌, [], IfOk, Some};
+ghost use Rattle.std.specs.Prelude.{◌≡◌, ◌-◌, ◌^◌, ◌<◌, [], IfOk, OnErr, OnOk, Some};
 ghost use Rattle.runtime.specs.Recorded.{ComesTo};
 ghost use Rattle.runtime.specs.Turns.{GoesOn};
 ghost use Rattle.token.specs.RunInTurn.{point_of};
-ghost use Rattle.observed_run.specs.Runs.{AreRacesOf};
+ghost use Rattle.observed_run.specs.Runs.{AreRacesOf, MayBegin, ended_in};
 
 use crate::observed_run::ObservedRun;
 use crate::observer::Observer;
 use races::{Race, RaceRecorder};
-use runtime::{Interruption, Sink, conclude};
+use runtime::{Interruption, RecordedRun, Sink, conclude};
 use std::alloc::Global;
 use std::sync::Wait;
 use token::{Recorder, RunOutcome, Serial, Start};
@@ -23,23 +23,47 @@ pub fn run_observed<R: Wait, S: Sink, K: Recorder>(
     sink: &mut S,
     recorder: K,
 ) -> ObservedRun<K>
-    requires done { (point_of start).done ≡ 0 }
-    requires output { (point_of start).state.output ≡ [] }
-    requires failures { S.failed sink.old < 2 ^ 64 - 1 }
-    requires none { K.records recorder [] [] }
+    requires { MayBegin K.records S.failed start sink.old recorder }
     ensures comes { ComesTo K.records K.writes S.taken S.failed (point_of start).setup result.run sink.old sink.new }
     ensures races { IfOk result.run.result (λ end. AreRacesOf (point_of start).setup result.races.items) }
+    ensures none { OnErr result.run.result (result.races.items ≡ []) }
 {
     let mut serial = start.recorded_by(recorder);
-    match observe_turns(rt, alloc, &mut serial, sink) {
-        Ok((outcome, races)) => ObservedRun {
-            run: conclude(alloc, serial, Ok(outcome)),
-            races,
-        },
-        Err(interruption) => ObservedRun {
-            run: conclude(alloc, serial, Err(interruption)),
-            races: Vec::new(alloc),
-        },
+    let found = observe_turns(rt, alloc, &mut serial, sink);
+    let (ended, races) = apart(alloc, found);
+    with_races(alloc, conclude(alloc, serial, ended), races)
+}
+
+/// How the turns of a run ended, and its races: none if they were interrupted.
+fn apart(
+    alloc: Global,
+    found: Result<(RunOutcome, Vec<Race>), Interruption>,
+) -> (Result<RunOutcome, Interruption>, Vec<Race>)
+    ensures ended { result.0 ≡ ended_in found }
+    ensures races { IfOk found (λ found. result.1 ≡ found.1) }
+{
+    match found {
+        Ok((outcome, races)) => (Ok(outcome), races),
+        Err(interruption) => (Err(interruption), Vec::new(alloc)),
+    }
+}
+
+/// A run with its races: none if it has no end.
+fn with_races<K>(
+    alloc: Global,
+    run: RecordedRun<K, Interruption>,
+    races: Vec<Race>,
+) -> ObservedRun<K>
+    ensures run { result.run ≡ run }
+    ensures races { OnOk run.result (result.races ≡ races) }
+    ensures none { OnErr run.result (result.races.items ≡ []) }
+{
+    if run.result.is_ok() {
+        return ObservedRun { run, races };
+    }
+    ObservedRun {
+        run,
+        races: Vec::new(alloc),
     }
 }
 

@@ -1,7 +1,7 @@
 -- What the need of the next turn says of where the run stands.
-use Rattle.std.proofs.Common.{◌≡◌, ◌++◌, Option, Some, None, refl}
+use Rattle.std.proofs.Common.{◌≡◌, ◌∙◌, Option, Some, None, ap, refl, sym}
 use Rattle.token.specs.Point.{Point, due_at, need_at, need_by, need_of}
-use Rattle.token.specs.Serial.{fresh_at}
+use Rattle.token.specs.Serial.{IsLonger}
 use Rattle.token.specs.declared.due.Due.{Due}
 use Rattle.token.specs.declared.due.Due.TheVariants as due
 use Rattle.token.specs.declared.need.Need.{Need}
@@ -9,23 +9,27 @@ use Rattle.token.specs.declared.need.Need.TheVariants as need
 use Rattle.token.specs.declared.outcome.RunOutcome.{RunOutcome}
 use Rattle.runtime.specs.Turns.{Moves}
 
+-- how a run has ended that needs this, if it has
+abbrev pub end_in : Need → Option RunOutcome
+end_in (need.Ended ends) = Some ends
+end_in other = None
+
 -- who is due doesn't need an end
-no_end : (point : Point) (who : Due) (ends : RunOutcome) → need.Ended ends ≡ need_of point who → ⊥
-no_end point (due.Fresh thread) ends is = cc
-no_end point (due.Keeper thread) ends is = cc
-no_end point (due.Woken thread mutex) ends is = cc
+end_of_due : (point : Point) (who : Due) → end_in (need_of point who) ≡ None
+end_of_due point (due.Fresh thread) = refl
+end_of_due point (due.Keeper thread) = refl
+end_of_due point (due.Woken thread mutex) = refl
 
-ended_by : (ended : Option RunOutcome) (asked : Need) (ends : RunOutcome) → (need.Ended ends ≡ asked → ⊥) → need.Ended ends ≡ need_by ended asked → ended ≡ Some ends
-ended_by (Some other) asked ends none is = cc
-ended_by None asked ends none is = absurd (none is)
+end_by : (ended : Option RunOutcome) (asked : Need) → end_in asked ≡ None → ended ≡ end_in (need_by ended asked)
+end_by (Some ends) asked none = refl
+end_by None asked none = sym none
 
--- the run has ended so
-pub ended_at : (point : Point) (ends : RunOutcome) → need.Ended ends ≡ need_at point → point.ended ≡ Some ends
+-- how the run has ended, if it has
+pub end_at : (point : Point) (asked : Need) → asked ≡ need_at point → point.ended ≡ end_in asked
 unfolding need_at
-ended_at point ends is = ended_by point.ended (need_of point (due_at point)) ends (no_end point (due_at point) ends) is
+end_at point asked is = end_by point.ended (need_of point (due_at point)) (end_of_due point (due_at point)) ∙ sym (ap end_in is)
 
 -- a look for the next turn that found no end made a turn
-pub goes_on : (ends : Option RunOutcome) (old new : Point) → ((outcome : RunOutcome) → ends ≡ Some outcome → ⊥) → Moves ends old new
-    → new.state.output ≡ old.state.output ++ fresh_at new
+pub goes_on : (ends : Option RunOutcome) (old new : Point) → ((outcome : RunOutcome) → ends ≡ Some outcome → ⊥) → Moves ends old new → IsLonger old new
 goes_on (Some outcome) old new none moves = absurd (none outcome refl)
-goes_on None old new none moves = moves.output
+goes_on None old new none moves = moves

@@ -4,7 +4,7 @@ use Rattle.token.proofs.LawfulTurn.{no_changes, no_turns}
 use Rattle.token.specs.Legal.{IsLegal}
 use Rattle.token.specs.Setup.{Setup}
 use Rattle.runtime.specs.Faults.{fault_of, told}
-use Rattle.runtime.specs.Recorded.{AnswersRecorded, Ends, EndsOrRecords, RecordsPrefix, Recording}
+use Rattle.runtime.specs.Recorded.{AnswersRecorded, Ends, EndsOrRecords, RecordsPrefix, RecordsUnended, Recording}
 use Rattle.runtime.specs.Run.{IsAccepted, setup_from}
 use Rattle.runtime.specs.Sending.{CountsFailures, SendsEnd, SendsPrefix, SendsSoFar}
 use Rattle.runtime.specs.declared.config.Config.{Config}
@@ -24,7 +24,8 @@ nothing_recorded records setup recorder none = ([], legal_start setup, rw (no_tu
 
 -- what a run that began and stopped answers
 stopped : {R : Type 0} → (records : Recording R) (writes : Type 0) (elf input : List ℕ) (config : Config) (interruption : Interruption) (recorder : R)
-    → IsAccepted elf input config → (interruption ≡ stop.RecordFailed → writes) → RecordsPrefix records (setup_from elf input config) recorder
+    → IsAccepted elf input config → (interruption ≡ stop.RecordFailed → writes × RecordsUnended records (setup_from elf input config) recorder)
+    → RecordsPrefix records (setup_from elf input config) recorder
     → AnswersRecorded records writes elf input config (Err (fault_of interruption)) recorder
 stopped records writes elf input config stop.OutOfMemory recorder accepted may recorded = (accepted, λ is. cc, recorded)
 stopped records writes elf input config stop.WriteFailed recorder accepted may recorded = (accepted, λ is. cc, recorded)
@@ -43,11 +44,13 @@ stopped_counting stop.RecordFailed old new counts = (λ is. cc, λ other. counts
 
 -- what a run that began answers
 pub began : {R : Type 0} → (records : Recording R) (writes : Type 0) (elf input : List ℕ) (config : Config) (setup : Setup) (came : Result RunEnd Interruption) (recorder : R)
-    → IsAccepted elf input config → setup ≡ setup_from elf input config → EndsOrRecords records setup came recorder → IfErr came (λ interruption. interruption ≡ stop.RecordFailed → writes)
-    → AnswersRecorded records writes elf input config (told came) recorder
+    → IsAccepted elf input config → setup ≡ setup_from elf input config → EndsOrRecords records setup came recorder
+    → IfErr came (λ interruption. interruption ≡ stop.RecordFailed → writes × RecordsUnended records setup recorder) → AnswersRecorded records writes elf input config (told came) recorder
 began records writes elf input config setup (Ok end) recorder accepted is ends may = (accepted, subst (λ (given : Setup). Ends records given end recorder) is ends)
 began records writes elf input config setup (Err interruption) recorder accepted is recorded may =
-    stopped records writes elf input config interruption recorder accepted may (subst (λ (given : Setup). RecordsPrefix records given recorder) is recorded)
+    stopped records writes elf input config interruption recorder accepted
+    (λ failed. let cut = may failed in (cut.0, subst (λ (given : Setup). RecordsUnended records given recorder) is cut.1))
+    (subst (λ (given : Setup). RecordsPrefix records given recorder) is recorded)
 
 pub began_sending : (setup wanted : Setup) (came : Result RunEnd Interruption) (old new : Option (List ℕ)) → setup ≡ wanted → SendsSoFar setup came old new
     → SendsEnd wanted (told came) old new

@@ -21,14 +21,14 @@ pub record MayGoOn {S : Type 0} (failed : S → ℕ) (setup : Setup) (run : RunI
   pub setup_is : (point_of run).setup ≡ setup
 
 -- Turns were done, and the answer has this outcome, if any: the run ended so. The sink, which tells what it took and how often it failed,
--- took what the output grew by. A record failed only where the recorder writes.
+-- took what the output grew by. A record failed only where the recorder writes, and only at a turn of a run that hadn't ended.
 pub record GoesOn {T S : Type 0} (writes : Type 0) (taken : S → Option (List ℕ)) (failed : S → ℕ) (outcome_in : T → Option RunOutcome)
     (result : Result T Interruption) (run run' : RunInTurn) (sink sink' : S) : Type 0 where
   pub setup : (point_of run').setup ≡ (point_of run).setup
   pub ended : IfOk result (λ given. IfSome (outcome_in given) (λ outcome. (point_of run').ended ≡ Some outcome))
   pub sent : SendsOn result (point_of run).state.output (point_of run').state.output (taken sink) (taken sink')
   pub failures : CountsFailures WriteFailed result (failed sink) (failed sink')
-  pub writes_if : IfErr result (λ interruption. interruption ≡ RecordFailed → writes)
+  pub writes_if : IfErr result (λ interruption. interruption ≡ RecordFailed → writes × ((point_of run').ended ≡ None))
 
 -- what a sink took, if it tells it, and how often it failed
 pub record Sunk : Type 0 where

@@ -1,9 +1,9 @@
 //! Runs with a recorder.
-ghost use Rattle.std.specs.Prelude.{◌≡◌, ◌-◌, ◌^◌, ◌<◌, ◌≤◌, [], Err, IfErr};
+ghost use Rattle.std.specs.Prelude.{◌≡◌, ◌-◌, ◌^◌, ◌<◌, ◌≤◌, []};
 ghost use Rattle.token.specs.RunInTurn.{point_of};
 ghost use Rattle.run_limits.specs.Limits as limit;
 ghost use Rattle.runtime.specs.Faults as spec;
-ghost use Rattle.runtime.specs.Recorded.{AnswersRecorded, ComesTo, IsConclusion};
+ghost use Rattle.runtime.specs.Recorded.{AnswersRecorded, ComesTo, IsConcluded, IsConclusion};
 ghost use Rattle.runtime.specs.Run.{OpensRun, setup_from};
 ghost use Rattle.runtime.specs.Sending.{CountsFailures, SendsEnd};
 
@@ -142,7 +142,7 @@ pub fn conclude<K: Recorder>(
     ended: Result<RunOutcome, Interruption>,
 ) -> RecordedRun<K, Interruption>
     ensures comes { IsConclusion K.records K.writes ended serial result }
-    ensures interrupted { IfErr ended (λ interruption. result.result ≡ Err interruption) }
+    ensures concluded { IsConcluded ended result.result }
 {
     one_history();
     match ended {

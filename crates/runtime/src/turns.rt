@@ -1,5 +1,5 @@
 //! The turns of a run, in token order, beside the host threads that execute its segments.
-ghost use Rattle.std.specs.Prelude.{◌≡◌, ◌<◌, ◌≤◌, Some, IfOk, IfErr, IfNone, OnErr};
+ghost use Rattle.std.specs.Prelude.{◌≡◌, ◌<◌, ◌≤◌, None, Some, IfOk, IfErr, IfNone, OnErr};
 ghost use Rattle.token.specs.RunInTurn.{point_of};
 ghost use Rattle.run_limits.specs.Limits as limit;
 ghost use Rattle.runtime.specs.Turns.{GoesOn, MayGoOn, Moves};
@@ -26,6 +26,7 @@ fn take_turn<B: OfRun + Send + Sync, R: Wait, K: Recorder, G: Gate>(
     ensures setup { (point_of serial.new).setup ≡ (point_of serial.old).setup }
     ensures moved { IfOk result (λ ends. Moves ends (point_of serial.old) (point_of serial.new)) }
     ensures kept { OnErr result (point_of serial.new ≡ point_of serial.old) }
+    ensures unended { OnErr result ((point_of serial.old).ended ≡ None) }
     ensures fault { IfErr result (λ fault. fault ≡ TurnFault.WriteFailed → K.writes) }
     ensures pool { pool.new ≡ pool.old }
 {

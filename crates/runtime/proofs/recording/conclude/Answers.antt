@@ -1,7 +1,7 @@
 use Rattle.std.proofs.Common.{Some, ap, sym, ◌∙◌, subst, rules}
 use Rattle.std.specs.Io.KnownBytes.{Appends}
 use Rattle.runtime.proofs.OneReport.{ends_so}
-use Rattle.runtime.proofs.Prefixes.{appends_prefix, prefix_recorded, prefix_sent}
+use Rattle.runtime.proofs.Prefixes.{appends_prefix, prefix_recorded, prefix_sent, unended_recorded}
 use Rattle.runtime.proofs.Sent.{appends_none}
 use Rattle.runtime.proofs.recording.conclude.Goals as goal
 
@@ -38,7 +38,7 @@ returns-in-Err-clause-comes g c = λ start before after empty given.
     let has = c.into_recorder-in-Err.ensures in
     record {
       end = prefix_recorded g.K.Recorder.records c.args.serial _ _ has goes.setup;
-      writes_if = goes.writes_if;
+      writes_if = λ failed. let cut = goes.writes_if failed in (cut.0, unended_recorded g.K.Recorder.records c.args.serial _ _ has goes.setup cut.1);
       sent = prefix_sent c.args.serial has.0 _ _ _ has.1 goes.setup (goes.sent before.taken from_start);
       failures = goes.failures;
     }

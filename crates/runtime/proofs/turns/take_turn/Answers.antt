@@ -1,9 +1,11 @@
-use Rattle.std.proofs.Common.{refl, sym, subst}
+use Rattle.std.proofs.Common.{Option, Result, Ok, Err, OnErr, refl, sym, subst}
 use Rattle.guest_memory.specs.Memory.{Memory}
 use Rattle.segment.specs.Ends.{IsEndOf}
 use Rattle.token.specs.RunInTurn.{point_of}
 use Rattle.token.proofs.Needs.{segment_needed, keeper_needed}
-use Rattle.runtime.proofs.Needs.{ended_at}
+use Rattle.token.specs.declared.outcome.RunOutcome.{RunOutcome}
+use Rattle.token.specs.declared.turn_fault.TurnFault.{TurnFault}
+use Rattle.runtime.proofs.Needs.{end_at}
 use Rattle.runtime.proofs.turns.take_turn.Goals as goal
 
 pub turn-requires : goal.turn-requires
@@ -16,4 +18,25 @@ turn-requires-in-Keeper g c =
     (subst (λ (memory : Memory). IsEndOf memory c.in-Keeper.work.segment c.in_ok-end-in-Keeper.end) c.now.ensures c.in_ok-end-in-Keeper.ensures)
 
 pub returns-in-Ended-clause-moved : goal.returns-in-Ended-clause-moved
-returns-in-Ended-clause-moved g c = (ended_at (point_of c.args.serial.now) c.in-Ended.outcome c.in-Ended.ensures.need, refl)
+returns-in-Ended-clause-moved g c = (end_at (point_of c.args.serial.now) _ c.in-Ended.ensures.need, refl)
+
+-- ---- a turn that failed was one of a run that goes on
+
+on_err : (answer : Result (Option RunOutcome) TurnFault) (Is : Type 0) → Is → OnErr answer Is
+on_err (Ok ends) Is is = tt
+on_err (Err fault) Is is = is
+
+pub returns-in_err-end-in-Segment-clause-unended : goal.returns-in_err-end-in-Segment-clause-unended
+returns-in_err-end-in-Segment-clause-unended g c = on_err _ _ (end_at (point_of c.args.serial.now) _ c.in-Segment.ensures.need)
+
+pub returns-in_err-turn-in-Segment-clause-unended : goal.returns-in_err-turn-in-Segment-clause-unended
+returns-in_err-turn-in-Segment-clause-unended g c = on_err _ _ (end_at (point_of c.args.serial.now) _ c.in-Segment.ensures.need)
+
+pub returns-in_err-end-in-Keeper-clause-unended : goal.returns-in_err-end-in-Keeper-clause-unended
+returns-in_err-end-in-Keeper-clause-unended g c = on_err _ _ (end_at (point_of c.args.serial.now) _ c.in-Keeper.ensures.need)
+
+pub returns-in_err-turn-in-Keeper-clause-unended : goal.returns-in_err-turn-in-Keeper-clause-unended
+returns-in_err-turn-in-Keeper-clause-unended g c = on_err _ _ (end_at (point_of c.args.serial.now) _ c.in-Keeper.ensures.need)
+
+pub returns-in_err-turn-in-Wake-clause-unended : goal.returns-in_err-turn-in-Wake-clause-unended
+returns-in_err-turn-in-Wake-clause-unended g c = on_err _ _ (end_at (point_of c.args.serial.now) _ c.in-Wake.ensures.need)
