@@ -30,8 +30,7 @@ use Rattle.command_outputs.specs.Records.{AreTextsOf, AreUnwritten, AreWritten, 
 use Rattle.command_outputs.specs.Recorders.{AreFor, AreSame, Writes}
 use Rattle.symbols.specs.Symbol.{SymbolLists}
 use Rattle.symbols.specs.Symbols.{symbols_of}
-use Rattle.command_run.specs.Observing.{IsRaceText}
-use Rattle.observed_run.specs.Runs.{AreRacesOf}
+use Rattle.command_run.specs.Observing.{AreFound, IsRaceText}
 use Rattle.races.specs.Texts.{text_of}
 use Rattle.races.specs.declared.race.Race.{Race}
 use Rattle.command_run.specs.declared.opened.Opened.{Opened}
@@ -236,14 +235,14 @@ unlike same = cc
 
 -- the text that was made is that of the wanted races
 pub wanted_races : (records : Records) (symbols : SymbolLists) (own : Option SymbolLists) (setup : Setup) (races : List Race) (text : List ℕ) → is_some own ≡ is_some records.races
-    → IfSome own (λ own. own ≡ symbols) → (is_some records.races ≡ true → AreRacesOf setup races) → IfSome own (λ own. text ≡ text_of own races) → AreWantedRaces records symbols setup text
+    → IfSome own (λ own. own ≡ symbols) → AreFound (is_some records.races) setup races → IfSome own (λ own. text ≡ text_of own races) → AreWantedRaces records symbols setup text
 wanted_races records symbols own setup races text = by_both records.races own
   where
-    by_both : (to : Option Destination) (own : Option SymbolLists) → is_some own ≡ is_some to → IfSome own (λ own. own ≡ symbols) → (is_some to ≡ true → AreRacesOf setup races)
+    by_both : (to : Option Destination) (own : Option SymbolLists) → is_some own ≡ is_some to → IfSome own (λ own. own ≡ symbols) → AreFound (is_some to) setup races
         → IfSome own (λ own. text ≡ text_of own races) → IsSome to → IsRaceText symbols setup text
     by_both None own same names are is wanted = absurd (none_wanted wanted)
     by_both (Some to) None same names are is wanted = absurd (unlike same)
-    by_both (Some to) (Some own) same names are is wanted = (races, are refl, is ∙ ap (λ (names : SymbolLists). text_of names races) names)
+    by_both (Some to) (Some own) same names are is wanted = (races, are, is ∙ ap (λ (names : SymbolLists). text_of names races) names)
 
 -- no run of the file began
 pub runs_unbegun : (tells : Type 0) (request : RunRequest) (before after : Host) (failure : Failure) (answer : Result RunOutcome Failure)

@@ -1,11 +1,12 @@
 //! The races of a run: by which engine it runs if they are wanted, and their text.
-ghost use Rattle.std.specs.Prelude.{◌≡◌, ◌-◌, ◌^◌, ◌<◌, [], IfErr, IfOk, IfSome, is_some, true};
+ghost use Rattle.std.specs.Prelude.{◌≡◌, [], IfErr, IfNone, IfOk, IfSome, OnErr, is_some};
 ghost use Rattle.std.specs.String.{string_bytes};
-ghost use Rattle.observed_run.specs.Runs.{AreRacesOf};
+ghost use Rattle.observed_run.specs.Runs.{MayBegin};
 ghost use Rattle.races.specs.Texts.{text_of};
 ghost use Rattle.runtime.specs.Recorded.{ComesTo};
 ghost use Rattle.symbols.specs.Symbols.{symbols_of};
 ghost use Rattle.token.specs.RunInTurn.{point_of};
+ghost use Rattle.command_run.specs.Observing.{AreFound};
 
 use command_requests::{Destination, Failure};
 use observed_run::{ObservedRun, run_observed};
@@ -42,12 +43,10 @@ pub(crate) fn run_by<H: Threads + Wait + Sync, S: Sink, K: Recorder>(
     sink: &mut S,
     recorder: K,
 ) -> ObservedRun<K>
-    requires done { (point_of start).done ≡ 0 }
-    requires output { (point_of start).state.output ≡ [] }
-    requires failures { S.failed sink.old < 2 ^ 64 - 1 }
-    requires none { K.records recorder [] [] }
+    requires { MayBegin K.records S.failed start sink.old recorder }
     ensures comes { ComesTo K.records K.writes S.taken S.failed (point_of start).setup result.run sink.old sink.new }
-    ensures races { observes ≡ true → IfOk result.run.result (λ end. AreRacesOf (point_of start).setup result.races.items) }
+    ensures races { IfOk result.run.result (λ end. AreFound observes (point_of start).setup result.races.items) }
+    ensures none { OnErr result.run.result (result.races.items ≡ []) }
 {
     if observes {
         return run_observed(rt, alloc, start, sink, recorder);
@@ -65,6 +64,7 @@ pub(crate) fn race_text<'a>(
     races: Vec<Race>,
 ) -> Result<String, Failure<'a>>
     ensures races { IfOk result (λ text. IfSome symbols (λ symbols. string_bytes text ≡ text_of symbols races.items)) }
+    ensures unwanted { IfOk result (λ text. IfNone symbols (string_bytes text ≡ [])) }
     ensures failed { IfErr result (λ failure. failure ≡ Failure.OutOfMemory) }
 {
     match symbols {

@@ -74,13 +74,11 @@ fn run_opened_file<'a, H: Threads + Wait + Sync, F: Files, W: Write>(
         made,
     } = begin(alloc, records, files)?;
     let recorders = TextRecorders::new(alloc, records, trace, timeline);
-    let RunAttempt {
-        result,
-        races,
-        recorders,
-    } = run_start(rt, alloc, start, workers, records, recorders, stdout);
+    let RunAttempt { result, recorders } = run_start(
+        rt, alloc, start, workers, records, recorders, stdout,
+    );
     match result {
-        Ok(end) => match race_text(alloc, symbols, races) {
+        Ok((end, races)) => match race_text(alloc, symbols, races) {
             Ok(races) => {
                 let outcome = end.outcome;
                 let ended = Ended {

@@ -1,5 +1,5 @@
 //! The command `run`: opens a file and its input, and runs them to their end.
-ghost use Rattle.std.specs.Prelude.{◌≡◌, ◌⊎◌, ◌+◌, ◌-◌, ◌^◌, ◌<◌, [], IfErr, IfOk, is_some, true};
+ghost use Rattle.std.specs.Prelude.{◌≡◌, ◌⊎◌, ◌+◌, [], IfErr, IfOk, OnErr, is_some, true};
 ghost use Rattle.std.specs.Io.KnownBytes.{Appends};
 ghost use Rattle.output_files.specs.Content.{Content};
 ghost use Rattle.output_files.specs.Taken.{TakesAtMost};
@@ -9,7 +9,8 @@ ghost use Rattle.runtime.specs.Sending.{CountsFailures, SendsSoFar};
 ghost use Rattle.runtime.specs.declared.interruption.Interruption.TheVariants as stop;
 ghost use Rattle.token.specs.RunInTurn.{point_of};
 ghost use Rattle.command_outputs.specs.Recorders.{AreFor, AreSame, AreTold, Writes};
-ghost use Rattle.observed_run.specs.Runs.{AreRacesOf};
+ghost use Rattle.observed_run.specs.Runs.{MayBegin};
+ghost use Rattle.command_run.specs.Observing.{AreFound};
 ghost use Rattle.command_run.specs.Serves.{AreRun, AreOpenedFrom, IsOpenedFrom, IsRefused, IsStopped, IsUnrun};
 
 use crate::observing::{run_by, wanted_symbols};
@@ -33,10 +34,8 @@ use token::{IsWanted, Wanted};
 
 /// A run that was attempted: how it ended, or why it didn't, and what recorded its texts.
 pub struct RunAttempt<'a, O> {
-    /// How it ended, and what it left.
-    pub result: Result<RunEnd, Failure<'a>>,
-    /// Its races, if they were wanted.
-    pub races: Vec<Race>,
+    /// How it ended, what it left, and its races: none if they weren't wanted.
+    pub result: Result<(RunEnd, Vec<Race>), Failure<'a>>,
     /// The recorders, which were told of each turn.
     pub recorders: TextRecorders<O>,
 }
@@ -119,15 +118,12 @@ pub fn run_start<'a, H: Threads + Wait + Sync, O: Write, W: Write>(
     recorders: TextRecorders<O>,
     stdout: &mut WriteSink<W>,
 ) -> RunAttempt<'a, O>
-    requires done { (point_of start).done ≡ 0 }
-    requires output { (point_of start).state.output ≡ [] }
-    requires failures { stdout.old.failures < 2 ^ 64 - 1 }
-    requires none { AreTold O.contents recorders [] [] }
+    requires may { MayBegin (AreTold O.contents) (λ sink. sink.failures) start stdout.old recorders }
     requires wanted { AreFor records.now recorders }
-    ensures ended { IfOk result.result (λ end. Ends (AreTold O.contents) (point_of start).setup end result.recorders) }
-    ensures races { IfOk result.result (λ end. is_some records.now.races ≡ true → AreRacesOf (point_of start).setup result.races.items) }
+    ensures ended { IfOk result.result (λ ended. Ends (AreTold O.contents) (point_of start).setup ended.0 result.recorders) }
+    ensures races { IfOk result.result (λ ended. AreFound (is_some records.now.races) (point_of start).setup ended.1.items) }
     ensures same { AreSame recorders result.recorders }
-    ensures sent { IfOk result.result (λ end. Appends (W.contents stdout.old.writer) (W.contents stdout.new.writer) end.output.items) }
+    ensures sent { IfOk result.result (λ ended. Appends (W.contents stdout.old.writer) (W.contents stdout.new.writer) ended.0.output.items) }
     ensures stopped { IfErr result.result (λ failure. (files files' : Content) → IsStopped records.now.trace records.now.timeline (point_of start).setup
         (record { files = files; output = W.contents stdout.old.writer; failures = stdout.old.failures })
         (record { files = files'; output = W.contents stdout.new.writer; failures = stdout.new.failures }) failure) }
@@ -139,7 +135,7 @@ pub fn run_start<'a, H: Threads + Wait + Sync, O: Write, W: Write>(
     let RecordedRun { result, recorder } = run;
     let result = match result {
         Ok(end) => match stdout.finish() {
-            Ok(()) => Ok(end),
+            Ok(()) => Ok((end, races)),
             Err(_) => {
                 stdout.failures += 1;
                 Err(Failure::CannotWrite(Target::StandardOutput))
@@ -152,7 +148,6 @@ pub fn run_start<'a, H: Threads + Wait + Sync, O: Write, W: Write>(
     };
     RunAttempt {
         result,
-        races,
         recorders: recorder,
     }
 }
@@ -191,16 +186,14 @@ fn run_wanted<
     recorders: TextRecorders<O>,
     stdout: &mut WriteSink<W>,
 ) -> ObservedRun<TextRecorders<O>>
-    requires done { (point_of start).done ≡ 0 }
-    requires output { (point_of start).state.output ≡ [] }
-    requires failures { stdout.old.failures < 2 ^ 64 - 1 }
-    requires none { AreTold O.contents recorders [] [] }
+    requires may { MayBegin (AreTold O.contents) (λ sink. sink.failures) start stdout.old recorders }
     requires trace { is_some recorders.trace ≡ T.is_wanted }
     requires timeline { is_some recorders.timeline ≡ L.is_wanted }
     requires sharing { is_some recorders.sharing ≡ S.is_wanted }
     requires digest { is_some recorders.digest ≡ D.is_wanted }
     ensures ended { IfOk result.run.result (λ end. Ends (AreTold O.contents) (point_of start).setup end result.run.recorder) }
-    ensures races { observes ≡ true → IfOk result.run.result (λ end. AreRacesOf (point_of start).setup result.races.items) }
+    ensures races { IfOk result.run.result (λ end. AreFound observes (point_of start).setup result.races.items) }
+    ensures none { OnErr result.run.result (result.races.items ≡ []) }
     ensures same { AreSame recorders result.run.recorder }
     ensures sent { SendsSoFar (point_of start).setup result.run.result (W.contents stdout.old.writer) (W.contents stdout.new.writer) }
     ensures failures { CountsFailures stop.WriteFailed result.run.result stdout.old.failures stdout.new.failures }

@@ -22,7 +22,7 @@ returns-in_err-write_records-in-Ok-race_text-clause-answer g c =
     (record { files = g.F.Files.content c.write_records.new.files; output = g.W.Write.contents c.write_records.new.writer; failures = c.run_start-result.new.stdout.failures })
     (g.F.Files.content c.begin.new.files) (g.W.Write.contents c.run_start-result.new.stdout.writer)
     (rw c.in-Ok.is at c.run_start-result.ensures.ended)
-    (wanted_races c.args.records.now symbols c.args.opened.symbols (point_of c.args.opened.start).setup c.run_start-result.result.races.items (string_bytes c.in-Ok-race_text.races) c.requires.wanted names
+    (wanted_races c.args.records.now symbols c.args.opened.symbols (point_of c.args.opened.start).setup c.in-Ok.races.items (string_bytes c.in-Ok-race_text.races) c.requires.wanted names
     (rw c.in-Ok.is at c.run_start-result.ensures.races) c.in-Ok-race_text.ensures.races)
     _ _ c.in_ok-trace.ensures.kept (rw c.in-Ok.is at c.run_start-result.ensures.sent)
     c.in_err-write_records-in-Ok-race_text.ensures.failed c.from_residual-in_err-write_records-in-Ok-race_text.ensures.1
@@ -36,7 +36,7 @@ returns-in_ok-write_records-in-Ok-race_text-clause-answer g c =
     (record { files = g.F.Files.content c.write_records.new.files; output = g.W.Write.contents c.write_records.new.writer; failures = c.run_start-result.new.stdout.failures })
     (g.F.Files.content c.begin.new.files) (g.W.Write.contents c.run_start-result.new.stdout.writer)
     (rw c.in-Ok.is at c.run_start-result.ensures.ended)
-    (wanted_races c.args.records.now symbols c.args.opened.symbols (point_of c.args.opened.start).setup c.run_start-result.result.races.items (string_bytes c.in-Ok-race_text.races) c.requires.wanted names
+    (wanted_races c.args.records.now symbols c.args.opened.symbols (point_of c.args.opened.start).setup c.in-Ok.races.items (string_bytes c.in-Ok-race_text.races) c.requires.wanted names
     (rw c.in-Ok.is at c.run_start-result.ensures.races) c.in-Ok-race_text.ensures.races)
     c.one_history.ensures.determinism c.one_history.ensures.progress (rw c.in-Ok.is at c.run_start-result.ensures.sent)
     c.in_ok-write_records-in-Ok-race_text.ensures.out

@@ -18,5 +18,5 @@ returns-clause-ended g c =
 -- only a trace and a timeline are written meanwhile
 pub returns-clause-writes : goal.returns-clause-writes
 returns-clause-writes g c =
-    IfErr-weaker c.run_by-run.result.run.result _ _ (λ interruption writes failed. writes_by c.args.recorders _ _ _ _ _ _ c.requires.trace c.requires.timeline (writes failed))
+    IfErr-weaker c.run_by-run.result.run.result _ _ (λ interruption writes failed. writes_by c.args.recorders _ _ _ _ _ _ c.requires.trace c.requires.timeline (writes failed).0)
     c.run_by-run.ensures.comes.writes_if
