@@ -9,9 +9,10 @@ use Rattle.races.specs.Before.{at}
 use Rattle.races.specs.Bytes.{has, is_none}
 use Rattle.races.specs.Clocks.{Reaches}
 use Rattle.races.specs.Races.{IsOf, Renews}
-use Rattle.races.specs.Steps.{Step}
+use Rattle.races.specs.Steps.{IsSameAuthor, Step}
 use Rattle.races.specs.Steps.Step.{Touch, Renew}
-use Rattle.races.specs.Words.{IsAuthor, IsCleaned, IsCovered, IsErased, IsKept, IsLatest, IsRenewed, IsReplaced, IsSameAuthor, IsTaken, KnowsLatest}
+use Rattle.races.specs.Linked.{IsErased}
+use Rattle.races.specs.Words.{IsCovered, IsKept, IsLatest, IsRenewed, KnowsLatest}
 use Rattle.races.specs.declared.byte_set.ByteSet.{ByteSet}
 use Rattle.races.specs.declared.place.Place.{Place}
 use Rattle.races.specs.declared.place.Place.TheVariants.{Thread}
@@ -24,40 +25,17 @@ use Rattle.races.proofs.Noting.{set_cases, set_here, set_kept}
 use Rattle.races.proofs.Order.{at_before, at_last, reaches_cases, reaches_more, reaches_own, reaches_through}
 use Rattle.races.proofs.Racing.{renews_inside, small_place}
 
--- ---- cleaned accesses
-
--- one access more is cleaned
-pub cleaned_more : (of : Option Site) (bytes : ByteSet) (old part : List Latest) (index : ℕ) (now e : Latest) → index < length part
-    → ((k : ℕ) (d : Latest) → k < index → IsCleaned of bytes (get_or old k d) (get_or part k d)) → ((k : ℕ) (d : Latest) → index ≤ k → get_or part k d ≡ get_or old k d)
-    → IsCleaned of bytes (get_or part index e) now
-    → ((k : ℕ) (d : Latest) → k < index + 1 → IsCleaned of bytes (get_or old k d) (get_or (set part index now) k d)) × ((k : ℕ) (d : Latest) → index + 1 ≤ k → get_or (set part index now) k d ≡ get_or old k d)
-cleaned_more of bytes old part index now e inside done rest is = (
-  λ k d small. ⊎_elim (λ same. here k d same) (λ apart. subst (IsCleaned of bytes (get_or old k d)) (sym (get_or-set_other part index k now d apart)) (done k d (omega arith))) (cases_eq k index),
-  λ k d late. get_or-set_other part index k now d (λ same. absurd (omega arith)) ∙ rest k d (omega arith),
-)
-  where
-    here : (k : ℕ) (d : Latest) → k ≡ index → IsCleaned of bytes (get_or old k d) (get_or (set part index now) k d)
-    here k d same =
-        subst (λ (n : ℕ). IsCleaned of bytes (get_or old n d) (get_or (set part index now) n d)) (sym same)
-        (subst (IsCleaned of bytes (get_or old index d)) (sym (get_or-set_same part index now d inside))
-        (subst (λ (was : Latest). IsCleaned of bytes was now) (get_or_default part index e d inside ∙ rest index d (omega arith)) is))
-
 pub contains_cases : {X : Type 0} (y : X) (ys : List X) (x : X) → Contains (y ∷ ys) x → (y ≡ x) ⊎ Contains ys x
 contains_cases y ys x there = ⊎_elim
     (λ first. ⊎_elim (λ none. absurd (none_contained x none)) (λ same. inl same) (Contains-push_cases [] y x first))
     (λ later. inr later)
     (Contains-append_cases (y ∷ []) ys x there)
 
-kept_if : {X : Type 0} (b : Bool) (y : X) (kept : List X) (x : X) → (y ≡ x) × (b ≡ true) ⊎ Contains kept x → Contains (cond b (y ∷ kept) kept) x
-kept_if true y kept x either = ⊎_elim (λ first. Contains-append_left (y ∷ []) kept x (subst (Contains (y ∷ [])) first.0 (Contains-push [] y))) (λ later. Contains-append_right (y ∷ []) kept x later) either
-kept_if false y kept x either = ⊎_elim (λ first. absurd (cc (first.1))) (λ later. later) either
+pub contains_head : {X : Type 0} (x : X) (xs : List X) → Contains (x ∷ xs) x
+contains_head x xs = Contains-append_left (x ∷ []) xs x (Contains-push [] x)
 
-pub filter_there : {X : Type 0} (p : X → Bool) (xs : List X) (x : X) → Contains xs x → p x ≡ true → Contains (filter p xs) x
-filter_there p [] x there is = absurd (none_contained x there)
-filter_there p (y ∷ ys) x there is = kept_if (p y) y (filter p ys) x (⊎_elim (λ same. inl (same, ap p same ∙ is)) (λ later. inr (filter_there p ys x later is)) (contains_cases y ys x there))
-
-pub from_filter : {X : Type 0} (p : X → Bool) (xs : List X) (x : X) → Contains (filter p xs) x → Contains xs x
-from_filter p xs x there = All-contains (Contains xs) (filter p xs) x (All-filter p (Contains xs) xs (All-contains_itself xs)) there
+pub contains_tail : {X : Type 0} (x : X) (xs : List X) (y : X) → Contains xs y → Contains (x ∷ xs) y
+contains_tail x xs y there = Contains-append_right (x ∷ []) xs y there
 
 -- a set with a byte is not empty
 none_of : (b c d e : Bool) (place : ℕ) → has (record { first = b; second = c; third = d; fourth = e }) place ≡ true → not (is_none (record { first = b; second = c; third = d; fourth = e })) ≡ true
@@ -85,55 +63,7 @@ some_of false false false false is = absurd (cc is)
 pub some_byte : (bytes : ByteSet) → is_none bytes ≡ false → (place : ℕ) × (has bytes place ≡ true)
 some_byte bytes is = some_of bytes.first bytes.second bytes.third bytes.fourth is
 
-pub erased : (of : Option Site) (bytes : ByteSet) (old part new : List Latest) → length part ≡ length old → ((k : ℕ) (d : Latest) → k < length old → IsCleaned of bytes (get_or old k d) (get_or part k d))
-    → new ≡ filter (λ past. not (is_none past.bytes)) part → IsErased of bytes old new
-erased of bytes old part new long cleaned is = record {
-  less = λ now among.
-      let there : Contains part now = from_filter (λ past. not (is_none past.bytes)) part now (subst (λ (all : List Latest). Contains all now) is among) in
-      let k : ℕ = there.0 in
-      let small : k < length old = let s = there.1 in omega arith in
-      let clean : IsCleaned of bytes (get_or old k now) now = subst (IsCleaned of bytes (get_or old k now)) there.2 (cleaned k now small) in (
-        get_or old k now,
-        (k, small, get_or_default old k (get_or old k now) now small),
-        (clean.site, clean.step),
-        λ place has_it. clean.less place has_it,
-      );
-  rest = λ was place among has_it kept.
-      let k : ℕ = among.0 in
-      let small : k < length old = among.1 in
-      let now : Latest = get_or part k was in
-      let clean : IsCleaned of bytes was now = subst (λ (one : Latest). IsCleaned of bytes one now) among.2 (cleaned k was small) in
-      let still = clean.rest place has_it kept in
-      let inside : k < length part = omega arith in
-      let there : Contains part now = (k, inside, get_or_default part k now was inside) in (
-        now,
-        subst (λ (all : List Latest). Contains all now) (sym is) (filter_there (λ past. not (is_none past.bytes)) part now there (not_none now.bytes place still)),
-        (clean.site, clean.step),
-        still,
-      );
-}
-
--- where no access is of the instruction, none has to be cleaned
-pub erased_none : (of : Option Site) (bytes : ByteSet) (latest : List Latest) → ((past : Latest) → Contains latest past → IsAuthor of past.site → ⊥) → IsErased of bytes latest latest
-erased_none of bytes latest none = record {
-  less = λ now among. (now, among, (refl, refl), λ place has_it. (has_it, λ taken. none now among taken.0));
-  rest = λ was place among has_it kept. (was, among, (refl, refl), has_it);
-}
-
 -- ---- one step more
-
-same_bool : (b c : Bool) → (b ≡ c) ⊎ (b ≡ c → ⊥)
-same_bool true true = inl refl
-same_bool true false = inr (λ same. cc same)
-same_bool false true = inr (λ same. cc same)
-same_bool false false = inl refl
-
-both : {A B : Type 0} → A ⊎ (A → ⊥) → B ⊎ (B → ⊥) → (A × B) ⊎ (A × B → ⊥)
-both one other = ⊎_elim (λ a. ⊎_elim (λ b. inl (a, b)) (λ not_b. inr (λ pair. not_b pair.1)) other) (λ not_a. inr (λ pair. not_a pair.0)) one
-
-taken_cases : (author : Site) (bytes : ByteSet) (site : Site) (place : ℕ) → IsTaken (Some author) bytes site place ⊎ (IsTaken (Some author) bytes site place → ⊥)
-taken_cases author bytes site place =
-    both (both (cases_eq author.thread site.thread) (both (cases_eq author.pc site.pc) (same_bool author.is_store site.is_store))) (same_bool (has bytes place) true)
 
 author_trans : (a b c : Site) → IsSameAuthor a b → IsSameAuthor b c → IsSameAuthor a c
 author_trans a b c one other = (one.0 ∙ other.0, (one.1.0 ∙ other.1.0, one.1.1 ∙ other.1.1))
@@ -228,16 +158,16 @@ latest_renewed steps address long word old new renewed knows = record {
 -- ---- accesses without the bytes of a new life
 
 module _ (address long word : ℕ) where
-  pub renewed_erased : (bytes : ByteSet) (old new : List Latest) → ((place : ℕ) → place < 4 → (has bytes place ≡ true) ↔ Renews (Renew address long) word place) → IsErased None bytes old new → IsRenewed address long word old new
+  pub renewed_erased : (bytes : ByteSet) (old new : List Latest) → ((place : ℕ) → place < 4 → (has bytes place ≡ true) ↔ Renews (Renew address long) word place) → IsErased bytes old new → IsRenewed address long word old new
   renewed_erased bytes old new fresh erases = record {
     less = λ now among.
         let from = erases.less now among in (
           from.0,
           from.1,
           from.2,
-          λ place there. let stays = from.3 place there in (stays.0, λ renews. stays.1 (tt, (fresh place (small_place now.bytes place there)).1 renews)),
+          λ place there. let stays = from.3 place there in (stays.0, λ renews. stays.1 ((fresh place (small_place now.bytes place there)).1 renews)),
         );
-    rest = λ was place among there free. erases.rest was place among there (λ taken. free ((fresh place (small_place was.bytes place there)).0 taken.1));
+    rest = λ was place among there free. erases.rest was place among there (λ taken. free ((fresh place (small_place was.bytes place there)).0 taken));
   }
 
   pub renewed_outside : (latest : List Latest) → ((place : ℕ) → place < 4 → Renews (Renew address long) word place → ⊥) → IsRenewed address long word latest latest
@@ -251,148 +181,6 @@ module _ (address long word : ℕ) where
 
   pub renewed_same : (old new was now : List Latest) → old ≡ was → new ≡ now → IsRenewed address long word old new → IsRenewed address long word was now
   renewed_same old new was now one other renewed = subst (λ (all : List Latest). IsRenewed address long word all now) one (subst (λ (all : List Latest). IsRenewed address long word old all) other renewed)
-
-pub renewed_both : (address long word : ℕ) (a b c d : List Latest) → IsRenewed address long word a b → IsRenewed address long word c d → IsRenewed address long word (a ++ c) (b ++ d)
-renewed_both address long word a b c d one other = record {
-  less = λ now among. ⊎_elim
-      (λ left. let from = one.less now left in (from.0, Contains-append_left a c from.0 from.1, from.2, from.3))
-      (λ right. let from = other.less now right in (from.0, Contains-append_right a c from.0 from.1, from.2, from.3))
-      (Contains-append_cases b d now among);
-  rest = λ was place among there free. ⊎_elim
-      (λ left. let still = one.rest was place left there free in (still.0, Contains-append_left b d still.0 still.1, still.2, still.3))
-      (λ right. let still = other.rest was place right there free in (still.0, Contains-append_right b d still.0 still.1, still.2, still.3))
-      (Contains-append_cases a c was among);
-}
-
--- ---- parts of a list without some bytes
-
-one_contained : {X : Type 0} (x y : X) → Contains (x ∷ []) y → x ≡ y
-one_contained x y there = ⊎_elim (λ none. absurd (none_contained y none)) (λ same. same) (Contains-push_cases [] x y there)
-
-contains_one : {X : Type 0} (x : X) → Contains (x ∷ []) x
-contains_one x = Contains-push [] x
-
-module _ (of : Option Site) (bytes : ByteSet) where
-  pub erased_both : (a b c d : List Latest) → IsErased of bytes a b → IsErased of bytes c d → IsErased of bytes (a ++ c) (b ++ d)
-  erased_both a b c d one other = record {
-    less = λ now among. ⊎_elim
-        (λ left. let from = one.less now left in (from.0, Contains-append_left a c from.0 from.1, from.2, from.3))
-        (λ right. let from = other.less now right in (from.0, Contains-append_right a c from.0 from.1, from.2, from.3))
-        (Contains-append_cases b d now among);
-    rest = λ was place among there free. ⊎_elim
-        (λ left. let still = one.rest was place left there free in (still.0, Contains-append_left b d still.0 still.1, still.2, still.3))
-        (λ right. let still = other.rest was place right there free in (still.0, Contains-append_right b d still.0 still.1, still.2, still.3))
-        (Contains-append_cases a c was among);
-  }
-
-  pub erased_nothing : IsErased of bytes [] []
-  erased_nothing = record { less = λ now among. absurd (none_contained now among); rest = λ was place among there free. absurd (none_contained was among) }
-
-  pub erased_one : (was now : Latest) → IsCleaned of bytes was now → IsErased of bytes (was ∷ []) (now ∷ [])
-  erased_one was now clean = record {
-    less = λ one among.
-        let same = one_contained now one among in (
-          was,
-          contains_one was,
-          (ap (λ (past : Latest). past.site) (sym same) ∙ clean.site, ap (λ (past : Latest). past.step) (sym same) ∙ clean.step),
-          λ place there. clean.less place (ap (λ (past : Latest). has past.bytes place) same ∙ there),
-        );
-    rest = λ one place among there free.
-        let same = one_contained was one among in (
-          now,
-          contains_one now,
-          (clean.site ∙ ap (λ (past : Latest). past.site) same, clean.step ∙ ap (λ (past : Latest). past.step) same),
-          clean.rest place (ap (λ (past : Latest). has past.bytes place) same ∙ there) (λ taken. free (subst (λ (past : Latest). IsTaken of bytes past.site place) same taken)),
-        );
-  }
-
-  pub erased_last : (was left : Latest) → IsCleaned of bytes was left → is_none left.bytes ≡ true → IsErased of bytes (was ∷ []) []
-  erased_last was left clean none = record {
-    less = λ one among. absurd (none_contained one among);
-    rest = λ one place among there free.
-        let same = one_contained was one among in
-        let still = clean.rest place (ap (λ (past : Latest). has past.bytes place) same ∙ there) (λ taken. free (subst (λ (past : Latest). IsTaken of bytes past.site place) same taken)) in
-        absurd (cc (none, not_none left.bytes place still));
-  }
-
--- ---- one access kept among others
-
-pub kept_erased : (own : Latest) (old left : List Latest) → IsErased (Some own.site) own.bytes old left → IsKept own old (left ++ own ∷ [])
-kept_erased own old left erases = record {
-  there = Contains-push left own;
-  less = λ now among. ⊎_elim
-      (λ before. let from = erases.less now before in inr (from.0, from.1, from.2, λ place there. (from.3 place there).0))
-      (λ same. inl same)
-      (Contains-push_cases left own now among);
-  rest = λ was place among there. ⊎_elim
-      (λ taken. inl taken)
-      (λ free. let still = erases.rest was place among there free in inr (still.0, Contains-append_left left (own ∷ []) still.0 still.1, still.2, still.3))
-      (taken_cases own.site own.bytes was.site place);
-}
-
-pub kept_at : (own was : Latest) (old : List Latest) (index : ℕ) → index < length old → get_or old index was ≡ was → IsReplaced was own → IsKept own old (set old index own)
-kept_at own was old index inside at_index replaced = record {
-  there = set_here old index own inside;
-  less = λ now among. ⊎_elim (λ same. inl same) (λ before. inr (now, before, (refl, refl), λ place there. there)) (set_cases old index own now inside among);
-  rest = λ past place among there. ⊎_elim
-      (λ same. inl (subst (λ (one : Latest). IsSameAuthor own.site one.site) same replaced.author, replaced.bytes place (ap (λ (one : Latest). has one.bytes place) same ∙ there)))
-      (λ kept. inr (past, kept, (refl, refl), there))
-      (set_kept old index was own past inside at_index among);
-}
-
-pub kept_after : (own : Latest) (xs old new : List Latest) → IsKept own old new → IsKept own (xs ++ old) (xs ++ new)
-kept_after own xs old new kept = record {
-  there = Contains-append_right xs new own kept.there;
-  less = λ now among. ⊎_elim
-      (λ left. inr (now, Contains-append_left xs old now left, (refl, refl), λ place there. there))
-      (λ right. ⊎_elim (λ same. inl same) (λ from. inr (from.0, Contains-append_right xs old from.0 from.1, from.2, from.3)) (kept.less now right))
-      (Contains-append_cases xs new now among);
-  rest = λ was place among there. ⊎_elim
-      (λ left. inr (was, Contains-append_left xs new was left, (refl, refl), there))
-      (λ right. ⊎_elim (λ taken. inl taken) (λ still. inr (still.0, Contains-append_right xs new still.0 still.1, still.2, still.3)) (kept.rest was place right there))
-      (Contains-append_cases xs old was among);
-}
-
--- after others without its bytes
-pub kept_both : (own : Latest) (a b c d : List Latest) → IsErased (Some own.site) own.bytes a b → IsKept own c d → IsKept own (a ++ c) (b ++ d)
-kept_both own a b c d erases kept = record {
-  there = Contains-append_right b d own kept.there;
-  less = λ now among. ⊎_elim
-      (λ left. let from = erases.less now left in inr (from.0, Contains-append_left a c from.0 from.1, from.2, λ place there. (from.3 place there).0))
-      (λ right. ⊎_elim (λ same. inl same) (λ from. inr (from.0, Contains-append_right a c from.0 from.1, from.2, from.3)) (kept.less now right))
-      (Contains-append_cases b d now among);
-  rest = λ was place among there. ⊎_elim
-      (λ left. ⊎_elim
-      (λ taken. inl taken)
-      (λ free. let still = erases.rest was place left there free in inr (still.0, Contains-append_left b d still.0 still.1, still.2, still.3))
-      (taken_cases own.site own.bytes was.site place))
-      (λ right. ⊎_elim (λ taken. inl taken) (λ still. inr (still.0, Contains-append_right b d still.0 still.1, still.2, still.3)) (kept.rest was place right there))
-      (Contains-append_cases a c was among);
-}
-
--- the only one
-pub kept_alone : (first : Option Latest) (own : Latest) → MatchOption first (Unit {0}) (λ was. IsReplaced was own) → IsKept own (option_to_list first) (own ∷ [])
-kept_alone None own free = record {
-  there = contains_one own;
-  less = λ now among. inl (one_contained own now among);
-  rest = λ was place among there. absurd (none_contained was among);
-}
-kept_alone (Some was) own replaced = record {
-  there = contains_one own;
-  less = λ now among. inl (one_contained own now among);
-  rest = λ past place among there.
-      let same = one_contained was past among in
-      inl (subst (λ (one : Latest). IsSameAuthor own.site one.site) same replaced.author, replaced.bytes place (ap (λ (one : Latest). has one.bytes place) same ∙ there));
-}
-
--- the first one, or the only one
-pub kept_first : (first : Option Latest) (own : Latest) (others : List Latest) → MatchOption first (others ≡ []) (λ was. IsReplaced was own) → IsKept own (option_to_list first ++ others) (own ∷ others)
-kept_first None own others none = subst (λ (all : List Latest). IsKept own all (own ∷ all)) (sym none) (kept_alone None own tt)
-kept_first (Some was) own others replaced = kept_at own was (was ∷ others) 0 (omega arith) refl replaced
-
-pub kept_again : (first : Option Latest) (own : Latest) (others : List Latest) → MatchOption first (IsTrue false) (λ was. IsReplaced was own) → IsKept own (option_to_list first ++ others) (own ∷ others)
-kept_again None own others never = absurd (cc never)
-kept_again (Some was) own others replaced = kept_first (Some was) own others replaced
 
 -- an access of the word
 pub latest_kept : (steps : List Step) (access : Access) (old new : List Latest) → IsKept (record { site = access.site; bytes = access.bytes; step = length steps }) old new → KnowsLatest steps access.word old

@@ -3,6 +3,7 @@ pub mod Follow
 pub mod Finding
 pub mod Gathered
 pub mod Kept
+pub mod Linked
 pub mod Mapped
 pub mod Noting
 pub mod Order

@@ -7,9 +7,9 @@ use Rattle.races.specs.Before.{at, HappensBefore}
 use Rattle.races.specs.Bytes.{has}
 use Rattle.races.specs.Clocks.{Reaches, time_kept, time_of}
 use Rattle.races.specs.Races.{AreRacing, IsRace, RaceAt, Renews}
-use Rattle.races.specs.Steps.{Step}
+use Rattle.races.specs.Steps.{IsSameAuthor, Step}
 use Rattle.races.specs.Steps.Step.{Touch, Order}
-use Rattle.races.specs.Words.{IsCovered, IsHit, IsLatest, IsSameAuthor, KnowsFound, KnowsLatest, Times, race_of}
+use Rattle.races.specs.Words.{IsCovered, IsHit, IsLatest, KnowsFound, KnowsLatest, Times, race_of}
 use Rattle.races.specs.declared.byte_set.ByteSet.{ByteSet}
 use Rattle.races.specs.declared.clocks.Clocks.{Clocks}
 use Rattle.races.specs.declared.place.Place.TheVariants.{Thread}

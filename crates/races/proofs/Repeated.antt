@@ -9,25 +9,27 @@ use Rattle.races.specs.Before.HappensBefore.{directly, through}
 use Rattle.races.specs.Clocks.{IsAfterOrder, Reaches, time_at, time_kept, times_with}
 use Rattle.races.specs.Bytes.{has}
 use Rattle.races.specs.Races.{AreRacing, IsOf, IsSamePair, IsToldBy, Renews}
-use Rattle.races.specs.Repeats.{HasAgain, KnowsPassed, passed_of}
-use Rattle.races.specs.Steps.{IsSameInstruction, Step}
+use Rattle.races.specs.Recent.{IsSlotOf, KnowsRecent}
+use Rattle.races.specs.Steps.{IsSameAuthor, IsSameInstruction, Step}
 use Rattle.races.specs.Steps.Step.{Touch, Order}
-use Rattle.races.specs.Words.{IsSameAuthor, KnowsFound, KnowsWords, Times, found_at, latest_at, race_of}
+use Rattle.races.specs.Words.{KnowsFound, KnowsWords, Times, found_at, latest_at, race_of}
 use Rattle.races.specs.declared.clocks.Clocks.{Clocks}
 use Rattle.races.specs.declared.found.Found.{Found}
 use Rattle.races.specs.declared.latest.Latest.{Latest}
 use Rattle.races.specs.declared.page.Page.{Page}
-use Rattle.races.specs.declared.passed.Passed.{Passed}
 use Rattle.races.specs.declared.place.Place.{Place}
 use Rattle.races.specs.declared.place.Place.TheVariants.{Thread}
+use Rattle.races.specs.declared.recent.Recent.{Recent}
 use Rattle.races.specs.declared.site.Access.{Access}
 use Rattle.races.specs.declared.site.Site.{Site}
+use Rattle.races.specs.declared.slot.Slot.{Slot}
 use Rattle.races.specs.declared.word_races.WordRaces.{WordRaces}
 use Rattle.races.proofs.Follow.{access_inside, apart_kept, own_cases}
 use Rattle.races.proofs.Kept.{latest_repeated}
 use Rattle.races.proofs.Mapped.{words_touched}
 use Rattle.races.proofs.Order.{at_before, at_last, before_more, last_part}
-use Rattle.races.proofs.Racing.{race_more, racing_less}
+use Rattle.races.proofs.Clocked.{none_contained}
+use Rattle.races.proofs.Racing.{race_more, racing_less, renews_inside}
 
 -- the same pair in the other order
 swapped : (a b c d : Site) → IsSamePair a b c d → IsSamePair a b d c
@@ -159,51 +161,79 @@ module _ (steps : List Step) (access : Access) (made : ℕ) (was : Access) (made
     races = found_repeated (found_at races access.word) (knows access.word).races;
   }) (λ other apart. refl) (λ other apart. refl) knows
 
--- ---- which places have an access in their pasts
+-- ---- the recent accesses
 
--- only its own thread has an access in its past whose thread's past was not taken over since then
-pub only_own : (steps : List Step) (clocks : Clocks) (passed : Passed) (made thread : ℕ) (was : Access) → Times steps clocks → KnowsPassed clocks passed → at steps made ≡ Touch was → was.site.thread ≡ thread → passed_of passed thread ≤ made
-    → (place : Place) → Reaches steps made place → Thread thread ≡ place
-only_own steps clocks passed made thread was times knows is own late place reaches = ⊎_elim
+-- none at first
+pub recent_none : (recent : Recent) (clocks : Clocks) → recent.since ≡ 1 → recent.slots.items ≡ [] → ((place : Place) (thread : ℕ) → time_kept clocks place thread ≡ 0) → KnowsRecent recent clocks []
+recent_none recent clocks since none zeros = record {
+  begun = omega arith;
+  past = λ slot among. absurd (none_contained slot (subst (λ (all : List Slot). Contains all slot) none among));
+  told = λ slot among late. absurd (none_contained slot (subst (λ (all : List Slot). Contains all slot) none among));
+  lives = λ later word place late renews. renews;
+  apart = λ place thread apart. let z = zeros place thread in omega arith;
+}
+
+-- after an access, which may have been noted
+pub recent_touched : (old new : Recent) (clocks : Clocks) (steps : List Step) (access : Access) → new.since ≡ old.since → ((slot : Slot) → Contains new.slots.items slot → IsSlotOf old.slots.items access (length steps) slot)
+    → KnowsRecent old clocks steps → KnowsRecent new clocks (steps ++ Touch access ∷ [])
+recent_touched old new clocks steps access since noted knows = record {
+  begun = let b = knows.begun in omega arith;
+  past = λ slot among. let long = length_push steps (Touch access) in ⊎_elim
+      (λ own. let at_end : slot.step ≡ length steps = ap (λ (one : Slot). one.step) own in omega arith)
+      (λ other. ⊎_elim (λ empty. omega arith) (λ before. let small = knows.past slot before in omega arith) other)
+      (noted slot among);
+  told = λ slot among late. let b = knows.begun in ⊎_elim
+      (λ own. subst (λ (one : Slot). at (steps ++ Touch access ∷ []) one.step ≡ Touch one.access) (sym own) (at_last steps (Touch access)))
+      (λ other. ⊎_elim
+      (λ empty. absurd (omega arith))
+      (λ before. at_before steps (Touch access) slot.step (knows.past slot before) ∙ knows.told slot before (omega arith))
+      other)
+      (noted slot among);
+  lives = λ later word place late renews.
+      let long = length_push steps (Touch access) in
+      let inside = renews_inside (steps ++ Touch access ∷ []) later word place renews in
+      ⊎_elim
+      (λ before. knows.lives later word place (omega arith) (subst (λ (one : Step). Renews one word place) (at_before steps (Touch access) later before) renews))
+      (λ past.
+      let last : later ≡ length steps = omega arith in
+      subst (λ (one : Step). Renews one word place) (at_last steps (Touch access)) (subst (λ (n : ℕ). Renews (at (steps ++ Touch access ∷ []) n) word place) last renews))
+      (cases_lt later (length steps));
+  apart = λ place thread apart. let a = knows.apart place thread apart in omega arith;
+}
+
+-- after a step from which on they count
+pub recent_forgotten : (old new : Recent) (was now : Clocks) (steps : List Step) (step : Step) → new.since ≡ length steps + 1 → new.slots.items ≡ old.slots.items → ((place : Place) (thread : ℕ) → time_kept now place thread ≤ length steps + 1)
+    → KnowsRecent old was steps → KnowsRecent new now (steps ++ step ∷ [])
+recent_forgotten old new was now steps step since same bound knows =
+    let long = length_push steps step in
+    record {
+      begun = omega arith;
+      past = λ slot among. let small = knows.past slot (subst (λ (all : List Slot). Contains all slot) same among) in omega arith;
+      told = λ slot among late. let small = knows.past slot (subst (λ (all : List Slot). Contains all slot) same among) in absurd (omega arith);
+      lives = λ later word place late renews. let inside = renews_inside (steps ++ step ∷ []) later word place renews in absurd (omega arith);
+      apart = λ place thread apart. let b = bound place thread in omega arith;
+    }
+
+-- only its own thread has a recent access in its past
+only_own : (steps : List Step) (clocks : Clocks) (recent : Recent) (made : ℕ) (access : Access) → Times steps clocks → KnowsRecent recent clocks steps → at steps made ≡ Touch access → recent.since ≤ made
+    → (place : Place) → Reaches steps made place → Thread access.site.thread ≡ place
+only_own steps clocks recent made access times knows is late place reaches = ⊎_elim
     (λ same. sym same.0)
     (λ other.
-    let known = subst (λ (n : ℕ). made < time_at clocks (length steps) place n) own ((times.known place made was is).0 reaches) in
-    let small = apart_kept (length steps) (time_kept clocks) place thread made other.0 known in
-    let bound = knows place thread other.0 in
+    let small = apart_kept (length steps) (time_kept clocks) place access.site.thread made other.0 ((times.known place made access is).0 reaches) in
+    let bound = knows.apart place access.site.thread other.0 in
     absurd (omega arith))
-    (own_cases (length steps) place thread)
+    (own_cases (length steps) place access.site.thread)
 
--- an access that is made again changes nothing that is kept of words
-pub words_again : (steps : List Step) (clocks : Clocks) (passed : Passed) (access : Access) (pages : List Page) (races : BTreeMap ℕ WordRaces) → Times steps clocks → KnowsPassed clocks passed
-    → HasAgain (passed_of passed access.site.thread) access (latest_at pages access.word) → KnowsWords steps pages races → KnowsWords (steps ++ Touch access ∷ []) pages races
-words_again steps clocks passed access pages races times knows_passed again knows =
-    let past : Latest = again.0 in
-    let kept = (knows access.word).accesses.sound past again.1 in
-    let author : IsSameAuthor kept.access.site access.site = subst (λ (site : Site). IsSameAuthor site access.site) (sym kept.site) again.2.author in
-    words_repeated steps access past.step kept.access kept.is author (λ place there. kept.of place (again.2.bytes place there)) (λ place later there. kept.life place later (again.2.bytes place there))
-    (only_own steps clocks passed past.step access.site.thread kept.access times knows_passed kept.is author.0 again.2.late) pages races knows
+-- a recent access that is made again changes nothing that is kept of words
+pub words_again : (steps : List Step) (clocks : Clocks) (recent : Recent) (access : Access) (slot : Slot) (pages : List Page) (races : BTreeMap ℕ WordRaces) → Times steps clocks → KnowsRecent recent clocks steps
+    → Contains recent.slots.items slot → slot.access ≡ access → recent.since ≤ slot.step → KnowsWords steps pages races → KnowsWords (steps ++ Touch access ∷ []) pages races
+words_again steps clocks recent access slot pages races times knows_recent among same late knows =
+    let is : at steps slot.step ≡ Touch access = knows_recent.told slot among late ∙ ap Touch same in
+    words_repeated steps access slot.step access is (refl, (refl, refl)) (λ place there. record { word_is = refl; has_it = there })
+    (λ place later there after renews. knows_recent.lives later access.word place (omega arith) renews)
+    (only_own steps clocks recent slot.step access times knows_recent is late) pages races knows
 
--- at first
-pub passed_none : (clocks : Clocks) (passed : Passed) → ((place : Place) (thread : ℕ) → time_kept clocks place thread ≡ 0) → KnowsPassed clocks passed
-passed_none clocks passed zeros place thread apart = let z = zeros place thread in omega arith
-
--- an order
-pub passed_ordered : (steps : List Step) (was now : Clocks) (old new : Passed) (acquired released : List Place) → Times steps was → IsAfterOrder (time_kept was) (time_kept now) (times_with (length steps) (time_kept was)) acquired released
-    → ((thread : ℕ) → Contains acquired (Thread thread) → passed_of new thread ≡ length steps) → ((thread : ℕ) → (passed_of new thread ≡ length steps) ⊎ (passed_of new thread ≡ passed_of old thread)) → KnowsPassed was old → KnowsPassed now new
-passed_ordered steps was now old new acquired released times after taken others knows place thread apart = ⊎_elim (λ late. absurd (not_late late)) (λ early. early) (cases_lt (passed_of new thread) (time_kept now place thread))
-  where
-    -- what a place had of a thread
-    had : (from : Place) → (from ≡ Thread thread → ⊥) → time_kept was from thread ≤ passed_of new thread
-    had from other =
-        let b = knows from thread other in
-        let k = times.bound from thread in
-        ⊎_elim (λ own. omega arith) (λ same. omega arith) (others thread)
-
-    not_late : passed_of new thread < time_kept now place thread → ⊥
-    not_late late = ⊎_elim
-        (λ before. let h = had place apart in omega arith)
-        (λ has. ⊎_elim
-        (λ own. let t = taken thread (subst (Contains acquired) own.0 has.1.1) in let b = times.bound has.1.0 thread in let w = has.1.2 in omega arith)
-        (λ other. let h = had has.1.0 other.0 in let w = apart_kept (length steps) (time_kept was) has.1.0 thread (passed_of new thread) other.0 has.1.2 in omega arith)
-        (own_cases (length steps) has.1.0 thread))
-        ((after place thread (passed_of new thread)).0 late)
+-- it may be noted or not
+pub recent_again : (recent : Recent) (clocks : Clocks) (steps : List Step) (access : Access) → KnowsRecent recent clocks steps → KnowsRecent recent clocks (steps ++ Touch access ∷ [])
+recent_again recent clocks steps access knows = recent_touched recent recent clocks steps access refl (λ slot among. inr (inr among)) knows

@@ -1,9 +1,10 @@
 pub mod Before
 pub mod Bytes
 pub mod Clocks
+pub mod Linked
 pub mod Races
 pub mod Recording
-pub mod Repeats
+pub mod Recent
 pub mod Steps
 pub mod Texts
 pub mod Words

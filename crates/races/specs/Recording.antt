@@ -1,6 +1,6 @@
 -- What a recorder of races has recorded.
 use Rattle.std.specs.Prelude.{◌≡◌, ℕ, List, [], ◌∷◌, length, slice_index_or}
-use Rattle.races.specs.Repeats.{KnowsPassed}
+use Rattle.races.specs.Recent.{KnowsRecent}
 use Rattle.races.specs.Steps.{Step, depth_after, steps_in}
 use Rattle.races.specs.Words.{KnowsWords, Times}
 use Rattle.races.specs.declared.depths.Depths.{Depths}
@@ -24,8 +24,8 @@ depths_in history = depths_from (λ thread. 0) history
 pub record KnowsSteps (kept : Steps) (steps : List Step) : Type 0 where
   pub count : kept.count ≡ length steps
   pub times : Times steps kept.clocks
-  pub passed : KnowsPassed kept.clocks kept.passed
   pub words : KnowsWords steps kept.words.pages.pages.items kept.words.races.words
+  pub recent : KnowsRecent kept.recent kept.clocks steps
 
 -- A recorder was told a history.
 pub record Records (recorder : RaceRecorder) (history : List Event) : Type 0 where

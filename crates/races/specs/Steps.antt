@@ -19,6 +19,10 @@ pub data Step : Type 0 where
 abbrev pub IsSameInstruction : Site → Site → Type 0
 IsSameInstruction site other = (site.pc ≡ other.pc) × (site.is_store ≡ other.is_store)
 
+-- the same instruction of the same thread
+abbrev pub IsSameAuthor : Site → Site → Type 0
+IsSameAuthor site other = (site.thread ≡ other.thread) × IsSameInstruction site other
+
 -- how many library regions each thread is in, after an event
 abbrev pub depth_after : (ℕ → ℕ) → Event → ℕ → ℕ
 depth_after depth (event.Enter thread) other = if thread == other then depth other + 1 else depth other

@@ -1,13 +1,13 @@
 -- What is kept of a word.
 use Rattle.std.specs.Prelude.{◌≡◌, ◌≢◌, ℕ, ◌/◌, ◌%◌, ◌<◌, ◌≤◌, ◌⊎◌, ◌||◌, true, Option, Some, None, List, [], ◌∷◌, ◌++◌, Contains, length, map, slice_get, slice_index_or, slice_set}
-use Rattle.std.specs.Option.{option_to_list}
 use Rattle.std.specs.Ordering.{nat_cmp}
 use Rattle.std.specs.BTreeMap.{BTreeMap, get}
 use Rattle.races.specs.Before.{at}
 use Rattle.races.specs.Bytes.{has}
 use Rattle.races.specs.Clocks.{Follows, Reaches, time_at, time_of}
+use Rattle.races.specs.Linked.{IsSameAccess, latest_in}
 use Rattle.races.specs.Races.{AreRacing, IsOf, IsRace, IsSamePair, IsToldBy, Renews}
-use Rattle.races.specs.Steps.{Step, IsSameInstruction}
+use Rattle.races.specs.Steps.{Step, IsSameAuthor}
 use Rattle.races.specs.Steps.Step.{Touch, Renew}
 use Rattle.races.specs.declared.byte_set.ByteSet.{ByteSet}
 use Rattle.races.specs.declared.clocks.Clocks.{Clocks}
@@ -19,55 +19,18 @@ use Rattle.races.specs.declared.found.Found.{Found}
 use Rattle.races.specs.declared.latest.Latest.{Latest}
 use Rattle.races.specs.declared.page.Page.{Page}
 use Rattle.races.specs.declared.place.Place.{Place}
-use Rattle.races.specs.declared.word.Word.{Word}
 use Rattle.races.specs.declared.word_races.WordRaces.{WordRaces}
-
--- the same instruction of the same thread
-abbrev pub IsSameAuthor : Site → Site → Type 0
-IsSameAuthor site other = (site.thread ≡ other.thread) × IsSameInstruction site other
-
--- a site is of an instruction of a thread, or of any
-abbrev pub IsAuthor : Option Site → Site → Type 0
-IsAuthor None site = Unit {0}
-IsAuthor (Some author) site = IsSameAuthor author site
 
 -- an access is of these bytes by this instruction of the thread
 pub record IsAlike (past : Latest) (site : Site) (bytes : ByteSet) : Type 0 where
   pub same_author : IsSameAuthor past.site site
   pub same_bytes : past.bytes ≡ bytes
 
--- bytes are taken from an access of an instruction
-abbrev pub IsTaken : Option Site → ByteSet → Site → (place : ℕ) → Type 0
-IsTaken of bytes site place = IsAuthor of site × (has bytes place ≡ true)
-
--- an access without some bytes, if it is of an instruction
-pub record IsCleaned (of : Option Site) (bytes : ByteSet) (was now : Latest) : Type 0 where
-  pub site : now.site ≡ was.site
-  pub step : now.step ≡ was.step
-  pub less : (place : ℕ) → has now.bytes place ≡ true → (has was.bytes place ≡ true) × ¬ IsTaken of bytes was.site place
-  pub rest : (place : ℕ) → has was.bytes place ≡ true → ¬ IsTaken of bytes was.site place → has now.bytes place ≡ true
-
--- the same access
-abbrev pub IsSameAccess : Latest → Latest → Type 0
-IsSameAccess one other = (one.site ≡ other.site) × (one.step ≡ other.step)
-
--- the accesses without some bytes of an instruction
-pub record IsErased (of : Option Site) (bytes : ByteSet) (old new : List Latest) : Type 0 where
-  pub less : (now : Latest) → Contains new now
-      → (was : Latest) × Contains old was × IsSameAccess now was × ((place : ℕ) → has now.bytes place ≡ true → (has was.bytes place ≡ true) × ¬ IsTaken of bytes was.site place)
-  pub rest : (was : Latest) (place : ℕ) → Contains old was → has was.bytes place ≡ true → ¬ IsTaken of bytes was.site place
-      → (now : Latest) × Contains new now × IsSameAccess now was × (has now.bytes place ≡ true)
-
 -- the accesses that are kept of a word, without its bytes that begin a new life
 pub record IsRenewed (address length word : ℕ) (old new : List Latest) : Type 0 where
   pub less : (now : Latest) → Contains new now
       → (was : Latest) × Contains old was × IsSameAccess now was × ((place : ℕ) → has now.bytes place ≡ true → (has was.bytes place ≡ true) × ¬ Renews (Renew address length) word place)
   pub rest : (was : Latest) (place : ℕ) → Contains old was → has was.bytes place ≡ true → ¬ Renews (Renew address length) word place → (now : Latest) × Contains new now × IsSameAccess now was × (has now.bytes place ≡ true)
-
--- a later access of the same instruction of the thread has all bytes of one of before
-pub record IsReplaced (was own : Latest) : Type 0 where
-  pub author : IsSameAuthor own.site was.site
-  pub bytes : (place : ℕ) → has was.bytes place ≡ true → has own.bytes place ≡ true
 
 -- An access is kept: it is there, and for its bytes it may stand in the place of those of the same instruction of the thread.
 pub record IsKept (own : Latest) (old new : List Latest) : Type 0 where
@@ -142,36 +105,14 @@ pub record IsFinding (steps : List Step) (access : Access) (clocks : Clocks) (do
 abbrev pub Times : List Step → Clocks → Type 0
 Times steps clocks = Follows steps (time_at clocks (length steps))
 
--- the accesses that are kept of a word
-abbrev pub latest_of : Word → List Latest
-latest_of word = option_to_list word.first ++ word.others.items
-
--- what is kept by an element of a list, if there is one
-abbrev pub kept_by : {X : Type 0} → (X → List Latest) → Option X → List Latest
-kept_by kept None = []
-kept_by kept (Some one) = kept one
-
--- of a word of a page the first access, and the others
-abbrev pub first_on : Option Page → (place : ℕ) → List Latest
-first_on None place = []
-first_on (Some page) place = kept_by option_to_list (slice_get page.firsts.items place)
-
-abbrev pub others_on : Option Page → (place : ℕ) → List Latest
-others_on None place = []
-others_on (Some page) place = kept_by latest_of (slice_get page.words.items place)
-
+-- of a word of a page
 abbrev pub latest_on : Option Page → (place : ℕ) → List Latest
-latest_on page place = first_on page place ++ others_on page place
+latest_on None place = []
+latest_on (Some page) place = latest_in page.entries.items place
 
 -- a page has 4,096 words that follow each other
 abbrev pub latest_at : List Page → (word : ℕ) → List Latest
 latest_at pages word = latest_on (slice_get pages (word / 4096)) (word % 4096)
-
-abbrev pub first_at : List Page → (word : ℕ) → List Latest
-first_at pages word = first_on (slice_get pages (word / 4096)) (word % 4096)
-
-abbrev pub others_at : List Page → (word : ℕ) → List Latest
-others_at pages word = others_on (slice_get pages (word / 4096)) (word % 4096)
 
 -- the races that were found at a word
 abbrev pub found_by : Option WordRaces → List Found

@@ -1,96 +1,72 @@
 //! What is kept of the words of a page.
-ghost use Rattle.std.specs.Prelude.{◌≡◌, ℕ, ◌+◌, ◌-◌, ◌<◌, ◌≤◌, ◌^◌, [], IsFalse, IsTrue, MatchOption, OnOk, Some, vec_len};
-ghost use Rattle.std.specs.Option.{option_to_list};
-ghost use Rattle.races.specs.Repeats.{HasAgain};
-ghost use Rattle.races.specs.Words.{IsKept, IsRenewed, first_on, latest_of, latest_on, others_on};
+ghost use Rattle.std.specs.Prelude.{◌≡◌, ◌≢◌, ◌-◌, vec_len};
+ghost use Rattle.races.specs.Linked.{AreLinked};
 
+use crate::byte_set::ByteSet;
+use crate::clocks::Clocks;
+use crate::entry::Entry;
 use crate::fresh::Fresh;
 use crate::latest::Latest;
+use crate::race_map::RaceMap;
+use crate::race_search::find_race;
 use crate::site::Access;
-use crate::word::{Word, is_again, left, takes_first};
+use crate::spot::Spot;
 use std::alloc::{AllocError, Global};
 
 /// A page has so many words, which follow each other.
 pub(crate) const PAGE_WORDS: usize = 4096;
+/// So many accesses are kept of a page at most. No run comes near: each has bytes or an instruction of its own.
+const MOST_ENTRIES: usize = 0xffff_ffff;
 
 /// What is kept of the words of a page: nothing until the first access of one.
+///
+/// Each entry has a number, from 1. Those of a word are linked, in the order in which they came.
 #[derive(Drop)]
 pub(crate) struct Page {
-    /// The first access that is kept of each word, if there is one.
-    firsts: Vec<Option<Latest>>,
-    /// The later ones of each word, or nothing as long as no word has any.
-    words: Vec<Word>,
+    /// Of each word the number of its first entry, or 0 if it has none.
+    firsts: Vec<u32>,
+    /// The accesses that are kept of all words.
+    entries: Vec<Entry>,
+    ghost sized: { vec_len firsts ≢ 0 → vec_len firsts ≡ 4096 },
+    ghost linked: { AreLinked firsts.items entries.items },
 }
 
 impl Page {
+    ghost use Rattle.std.specs.Prelude.{ℕ, ◌+◌, ◌<◌, ◌≤◌, ◌^◌, List, [], IfOk, OnOk, length, slice_index_or};
+    ghost use Rattle.races.specs.Linked.{GivesWay, IsAt, IsErased, IsSpot, latest_in};
+    ghost use Rattle.races.specs.Steps.{Step};
+    ghost use Rattle.races.specs.Words.{IsFinding, IsKept, IsRenewed, KnowsLatest, Times, found_at};
+    ghost use Rattle.races.specs.declared.entry.Entry.{Entry as Kept};
+
     /// A page of which no word was accessed.
     pub(crate) fn new(alloc: Global) -> Self
-        ensures { (place : ℕ) → latest_on (Some result) place ≡ [] }
+        ensures { result.entries.items ≡ [] }
     {
         Page {
             firsts: Vec::new(alloc),
-            words: Vec::new(alloc),
+            entries: Vec::new(alloc),
         }
     }
 
-    /// Whether an access of the word at a place that is kept, of this step or a later one, is made again.
-    #[inline(always)]
-    pub(crate) fn has_again(&mut self, place: usize, access: &Access, since: u64) -> bool
-        ensures again { IsTrue result → HasAgain since access.now (latest_on (Some self.old) place) }
-        ensures stays { (other : ℕ) → latest_on (Some self.new) other ≡ latest_on (Some self.old) other }
+    /// Notes the races of an access, the step of this index, with what is kept of its word, the one at a place.
+    pub(crate) fn find_races(
+        &self,
+        place: usize,
+        races: &mut RaceMap,
+        access: &Access,
+        step: u64,
+        clocks: &Clocks,
+    ) -> Result<(), AllocError>
+        ensures own { OnOk result ((steps : List Step) → KnowsLatest steps access.now.word (latest_in self.now.entries.items place) → Times steps clocks.now → step ≡ length steps → IsFinding steps access.now clocks.now [] (found_at races.old.words access.now.word) → IsFinding steps access.now clocks.now (latest_in self.now.entries.items place) (found_at races.new.words access.now.word)) }
+        ensures others { OnOk result ((other : ℕ) → (access.now.word ≡ other → ⊥) → found_at races.new.words other ≡ found_at races.old.words other) }
     {
-        self.has_first(place, access, since) || self.has_later(place, access, since)
-    }
-
-    /// Whether it is the first one.
-    #[inline(always)]
-    fn has_first(&self, place: usize, access: &Access, since: u64) -> bool
-        ensures { IsTrue result → HasAgain since access.now (first_on (Some self.now) place) }
-    {
-        match self.firsts.get(place) {
-            Some(first) => is_again(first, access, since),
-            None => false,
+        let mut number = self.first(place);
+        while number != 0 {
+            let entry = &self.entries[number as usize - 1];
+            find_race(races, &entry.latest, access, step, clocks)?;
+            number = entry.next;
         }
-    }
-
-    /// Whether it is among the later ones.
-    #[inline(always)]
-    fn has_later(&mut self, place: usize, access: &Access, since: u64) -> bool
-        ensures again { IsTrue result → HasAgain since access.now (others_on (Some self.old) place) }
-        ensures stays { (other : ℕ) → latest_on (Some self.new) other ≡ latest_on (Some self.old) other }
-    {
-        if self.words.len() <= place {
-            return false;
-        }
-        self.words[place].has_again(access, since)
-    }
-
-    /// The guess is where an access of the word at a place is again, if it is among the later ones. Answers whether the guess
-    /// is another than before.
-    pub(crate) fn aim(&mut self, place: usize, access: &Access) -> bool
-        ensures { (other : ℕ) → latest_on (Some self.new) other ≡ latest_on (Some self.old) other }
-    {
-        if self.words.len() <= place {
-            return false;
-        }
-        self.words[place].aim(access.site, access.bytes)
-    }
-
-    /// The first access that is kept of the word at a place, if there is one.
-    pub(crate) fn first(&self, place: usize) -> Option<Latest>
-        ensures { option_to_list result ≡ first_on (Some self.now) place }
-    {
-        match self.firsts.get(place) {
-            Some(first) => *first,
-            None => None,
-        }
-    }
-
-    /// The later ones of the word at a place, if there are any.
-    pub(crate) fn word(&self, place: usize) -> Option<&Word>
-        ensures { MatchOption result (others_on (Some self.now) place ≡ []) (λ word. latest_of word.now ≡ others_on (Some self.now) place) }
-    {
-        self.words.get(place)
+        Ok(())
     }
 
     /// Keeps an access of the word at a place.
@@ -101,79 +77,14 @@ impl Page {
         own: Latest,
     ) -> Result<(), AllocError>
         requires { place < 4096 }
-        ensures own { OnOk result (IsKept own (latest_on (Some self.old) place) (latest_on (Some self.new) place)) }
-        ensures others { OnOk result ((other : ℕ) → (place ≡ other → ⊥) → latest_on (Some self.new) other ≡ latest_on (Some self.old) other) }
+        ensures own { OnOk result (IsKept own (latest_in self.old.entries.items place) (latest_in self.new.entries.items place)) }
+        ensures others { OnOk result ((other : ℕ) → (place ≡ other → ⊥) → latest_in self.new.entries.items other ≡ latest_in self.old.entries.items other) }
     {
-        self.reach(place)?;
-        let is_alone = self.words.len() <= place;
-        if takes_first(&self.firsts[place], is_alone, &own) {
-            self.firsts[place] = Some(own);
-            return Ok(());
-        }
-        if self.replace(place, &own) {
-            return Ok(());
-        }
-        self.keep_after(alloc, place, own)
-    }
-
-    /// Puts an access in the place of the later one that it is again, if there is one.
-    fn replace(&mut self, place: usize, own: &Latest) -> bool
-        ensures kept { IsTrue result → IsKept own.now (latest_on (Some self.old) place) (latest_on (Some self.new) place) }
-        ensures stays { IsFalse result → latest_on (Some self.new) place ≡ latest_on (Some self.old) place }
-        ensures others { (other : ℕ) → (place ≡ other → ⊥) → latest_on (Some self.new) other ≡ latest_on (Some self.old) other }
-        ensures firsts { self.new.firsts ≡ self.old.firsts }
-    {
-        if self.words.len() <= place {
-            return false;
-        }
-        self.words[place].replace(own)
-    }
-
-    /// Keeps an access of the word at a place after the others.
-    #[inline(never)]
-    fn keep_after(&mut self, alloc: Global, place: usize, own: Latest) -> Result<(), AllocError>
-        requires inside { place < vec_len self.old.firsts }
-        requires small { place < 4096 }
-        ensures own { OnOk result (IsKept own (latest_on (Some self.old) place) (latest_on (Some self.new) place)) }
-        ensures others { OnOk result ((other : ℕ) → (place ≡ other → ⊥) → latest_on (Some self.new) other ≡ latest_on (Some self.old) other) }
-    {
-        self.reach_word(alloc, place)?;
-        self.firsts[place] = left(self.firsts[place], Some(own.site), own.bytes);
-        self.words[place].keep(own)
-    }
-
-    /// There is a place for the first access of a word.
-    fn reach(&mut self, place: usize) -> Result<(), AllocError>
-        requires { place < 4096 }
-        ensures inside { OnOk result (place < vec_len self.new.firsts) }
-        ensures same { OnOk result ((other : ℕ) → first_on (Some self.new) other ≡ first_on (Some self.old) other) }
-        ensures words { self.new.words ≡ self.old.words }
-    {
-        let count = self.firsts.len();
-        if count > place {
-            return Ok(());
-        }
-        self.firsts.reserve_exact(PAGE_WORDS - count)?;
-        for _more in count..PAGE_WORDS {
-            self.firsts.push(None)?;
-        }
-        Ok(())
-    }
-
-    /// There is a word at a place.
-    fn reach_word(&mut self, alloc: Global, place: usize) -> Result<(), AllocError>
-        requires { place < 4096 }
-        ensures inside { OnOk result (place < vec_len self.new.words) }
-        ensures same { OnOk result ((other : ℕ) → others_on (Some self.new) other ≡ others_on (Some self.old) other) }
-        ensures firsts { self.new.firsts ≡ self.old.firsts }
-    {
-        let count = self.words.len();
-        if count > place {
-            return Ok(());
-        }
-        self.words.reserve_exact(PAGE_WORDS - count)?;
-        for _more in count..PAGE_WORDS {
-            self.words.push(Word::new(alloc))?;
+        self.reach(alloc)?;
+        match self.spot(place, &own) {
+            Spot::At(index) => self.replace(index, own),
+            Spot::After(index) => return self.push_after(index, own),
+            Spot::First => return self.push_first(place, own),
         }
         Ok(())
     }
@@ -181,38 +92,133 @@ impl Page {
     /// Bytes begin a new life. The page's first word has this number.
     pub(crate) fn renew(&mut self, base: u32, fresh: Fresh)
         requires { base + 4096 ≤ 2 ^ 32 }
-        ensures { (place : ℕ) → place < 4096 → IsRenewed fresh.address fresh.length (base + place) (latest_on (Some self.old) place) (latest_on (Some self.new) place) }
+        ensures { (place : ℕ) → place < 4096 → IsRenewed fresh.address fresh.length (base + place) (latest_in self.old.entries.items place) (latest_in self.new.entries.items place) }
     {
-        self.renew_firsts(base, fresh);
-        self.renew_words(base, fresh);
-    }
-
-    /// Bytes of the first accesses begin a new life.
-    fn renew_firsts(&mut self, base: u32, fresh: Fresh)
-        requires { base + 4096 ≤ 2 ^ 32 }
-        ensures renewed { (place : ℕ) → place < 4096 → IsRenewed fresh.address fresh.length (base + place) (first_on (Some self.old) place) (first_on (Some self.new) place) }
-        ensures words { self.new.words ≡ self.old.words }
-    {
-        let count = self.firsts.len().min(PAGE_WORDS);
-        let from = place_on(base, fresh.first_word()).min(count);
-        let end = place_on(base, fresh.end_word()).min(count);
+        if self.entries.is_empty() {
+            return;
+        }
+        let from = place_on(base, fresh.first_word()).min(PAGE_WORDS);
+        let end = place_on(base, fresh.end_word()).min(PAGE_WORDS);
         for place in from..end {
-            let bytes = fresh.bytes_of(base + place as u32);
-            self.firsts[place] = left(self.firsts[place], None, bytes);
+            self.erase(place, fresh.bytes_of(base + place as u32));
         }
     }
 
-    /// Bytes of the later accesses begin a new life.
-    fn renew_words(&mut self, base: u32, fresh: Fresh)
-        requires { base + 4096 ≤ 2 ^ 32 }
-        ensures renewed { (place : ℕ) → place < 4096 → IsRenewed fresh.address fresh.length (base + place) (others_on (Some self.old) place) (others_on (Some self.new) place) }
+    /// The number of the first entry of the word at a place, or 0 if it has none.
+    fn first(&self, place: usize) -> u32
+        ensures { result ≡ slice_index_or self.now.firsts.items place 0 }
+    {
+        match self.firsts.get(place) {
+            Some(number) => *number,
+            None => 0,
+        }
+    }
+
+    /// Where an access of the word at a place is to be kept: in the place of one of the same bytes by the same instruction of the
+    /// thread, or of one without bytes, or after all others.
+    fn spot(&self, place: usize, own: &Latest) -> Spot
+        ensures { IsSpot self.now.firsts.items self.now.entries.items place 0 own.now result }
+    {
+        let mut spot = Spot::First;
+        let mut number = self.first(place);
+        while number != 0 {
+            let index = number as usize - 1;
+            let entry = &self.entries[index];
+            if entry.latest.is_alike(own.site, own.bytes) {
+                return Spot::At(index);
+            }
+            spot = spot.past(index, entry.latest.bytes);
+            number = entry.next;
+        }
+        spot
+    }
+
+    /// Each word has a place for the number of its first entry.
+    fn reach(&mut self, alloc: Global) -> Result<(), AllocError>
+        ensures inside { OnOk result (vec_len self.new.firsts ≡ 4096) }
+        ensures same { self.new.entries.items ≡ self.old.entries.items }
+    {
+        if self.firsts.is_empty() {
+            self.firsts = vec![in alloc; 0; PAGE_WORDS]?;
+        }
+        Ok(())
+    }
+
+    /// Puts an access in the place of the one at an index, which gives way to it.
+    fn replace(&mut self, index: usize, own: Latest)
+        requires { (entry : Kept) × IsAt self.old.entries.items index entry × GivesWay entry.latest own }
+        ensures own { (entry : Kept) → IsAt self.old.entries.items index entry → IsKept own (latest_in self.old.entries.items entry.place) (latest_in self.new.entries.items entry.place) }
+        ensures others { (entry : Kept) (other : ℕ) → IsAt self.old.entries.items index entry → (entry.place ≡ other → ⊥) → latest_in self.new.entries.items other ≡ latest_in self.old.entries.items other }
         ensures firsts { self.new.firsts ≡ self.old.firsts }
     {
-        let count = self.words.len().min(PAGE_WORDS);
-        let from = place_on(base, fresh.first_word()).min(count);
-        let end = place_on(base, fresh.end_word()).min(count);
-        for place in from..end {
-            self.words[place].renew(fresh.bytes_of(base + place as u32));
+        let entry = self.entries[index];
+        self.entries[index] = Entry {
+            latest: own,
+            place: entry.place,
+            next: entry.next,
+        };
+    }
+
+    /// Keeps an access after the one at an index, the last one of its word.
+    fn push_after(&mut self, index: usize, own: Latest) -> Result<(), AllocError>
+        requires { (entry : Kept) × IsAt self.old.entries.items index entry × (entry.next ≡ 0) }
+        ensures own { OnOk result ((entry : Kept) → IsAt self.old.entries.items index entry → IsKept own (latest_in self.old.entries.items entry.place) (latest_in self.new.entries.items entry.place)) }
+        ensures others { OnOk result ((entry : Kept) (other : ℕ) → IsAt self.old.entries.items index entry → (entry.place ≡ other → ⊥) → latest_in self.new.entries.items other ≡ latest_in self.old.entries.items other) }
+    {
+        let number = self.next_number()?;
+        let last = self.entries[index];
+        self.entries.push(Entry {
+            latest: own,
+            place: last.place,
+            next: 0,
+        })?;
+        self.entries[index] = Entry {
+            latest: last.latest,
+            place: last.place,
+            next: number,
+        };
+        Ok(())
+    }
+
+    /// Keeps an access as the first one of its word, the one at a place.
+    fn push_first(&mut self, place: usize, own: Latest) -> Result<(), AllocError>
+        requires small { place < 4096 }
+        requires inside { place < vec_len self.old.firsts }
+        requires none { slice_index_or self.old.firsts.items place 0 ≡ 0 }
+        ensures own { OnOk result (IsKept own (latest_in self.old.entries.items place) (latest_in self.new.entries.items place)) }
+        ensures others { OnOk result ((other : ℕ) → (place ≡ other → ⊥) → latest_in self.new.entries.items other ≡ latest_in self.old.entries.items other) }
+    {
+        let number = self.next_number()?;
+        self.entries.push(Entry {
+            latest: own,
+            place: place as u32,
+            next: 0,
+        })?;
+        self.firsts[place] = number;
+        Ok(())
+    }
+
+    /// The number that the next entry will have.
+    fn next_number(&self) -> Result<u32, AllocError>
+        ensures { IfOk result (λ number. number ≡ vec_len self.now.entries + 1) }
+    {
+        if self.entries.len() >= MOST_ENTRIES {
+            return Err(AllocError);
+        }
+        Ok(self.entries.len() as u32 + 1)
+    }
+
+    /// Bytes of the word at a place begin a new life.
+    fn erase(&mut self, place: usize, bytes: ByteSet)
+        ensures own { IsErased bytes (latest_in self.old.entries.items place) (latest_in self.new.entries.items place) }
+        ensures others { (other : ℕ) → (place ≡ other → ⊥) → latest_in self.new.entries.items other ≡ latest_in self.old.entries.items other }
+    {
+        let mut number = self.first(place);
+        while number != 0 {
+            let index = number as usize - 1;
+            let entry = self.entries[index];
+            self.entries[index] = entry.without(bytes);
+            number = entry.next;
         }
     }
 }

@@ -1,14 +1,11 @@
 //! What is kept of the words of all pages.
-ghost use Rattle.std.specs.Prelude.{◌≡◌, ℕ, ◌+◌, ◌/◌, ◌%◌, ◌<◌, ◌^◌, [], IsTrue, MatchOption, OnOk, vec_len};
-ghost use Rattle.std.specs.Option.{option_to_list};
-ghost use Rattle.races.specs.Repeats.{HasAgain};
-ghost use Rattle.races.specs.Words.{IsKept, IsRenewed, first_at, latest_at, latest_of, others_at};
+ghost use Rattle.std.specs.Prelude.{◌≡◌, ℕ, ◌+◌, ◌/◌, ◌%◌, ◌<◌, ◌^◌, [], MatchOption, OnOk, vec_len};
+ghost use Rattle.races.specs.Linked.{latest_in};
+ghost use Rattle.races.specs.Words.{IsKept, IsRenewed, latest_at};
 
 use crate::fresh::Fresh;
 use crate::latest::Latest;
 use crate::page::{PAGE_WORDS, Page};
-use crate::site::Access;
-use crate::word::Word;
 use std::alloc::{AllocError, Global};
 
 /// The pages by their numbers, as far as one of them was accessed.
@@ -29,48 +26,11 @@ impl Pages {
         }
     }
 
-    /// Whether an access that is kept, of this step or a later one, is made again.
-    #[inline(always)]
-    pub(crate) fn has_again(&mut self, access: &Access, since: u64) -> bool
-        ensures again { IsTrue result → HasAgain since access.now (latest_at self.old.pages.items access.now.word) }
-        ensures stays { (word : ℕ) → latest_at self.new.pages.items word ≡ latest_at self.old.pages.items word }
+    /// The page of a word, if there is one.
+    pub(crate) fn page(&self, word: u32) -> Option<&Page>
+        ensures { MatchOption result (latest_at self.now.pages.items word ≡ []) (λ page. latest_in page.now.entries.items (word % 4096) ≡ latest_at self.now.pages.items word) }
     {
-        let page = page_of(access.word);
-        if self.pages.len() <= page {
-            return false;
-        }
-        self.pages[page].has_again(place_of(access.word), access, since)
-    }
-
-    /// The guess is where an access is again, if it is among those that are kept. Answers whether the guess is another than before.
-    pub(crate) fn aim(&mut self, access: &Access) -> bool
-        ensures { (word : ℕ) → latest_at self.new.pages.items word ≡ latest_at self.old.pages.items word }
-    {
-        let page = page_of(access.word);
-        if self.pages.len() <= page {
-            return false;
-        }
-        self.pages[page].aim(place_of(access.word), access)
-    }
-
-    /// The first access that is kept of a word, if there is one.
-    pub(crate) fn first(&self, word: u32) -> Option<Latest>
-        ensures { option_to_list result ≡ first_at self.now.pages.items word }
-    {
-        match self.pages.get(page_of(word)) {
-            Some(page) => page.first(place_of(word)),
-            None => None,
-        }
-    }
-
-    /// The later ones of a word, if there are any.
-    pub(crate) fn word(&self, word: u32) -> Option<&Word>
-        ensures { MatchOption result (others_at self.now.pages.items word ≡ []) (λ kept. latest_of kept.now ≡ others_at self.now.pages.items word) }
-    {
-        match self.pages.get(page_of(word)) {
-            Some(page) => page.word(place_of(word)),
-            None => None,
-        }
+        self.pages.get(page_of(word))
     }
 
     /// Keeps an access of a word.
@@ -119,7 +79,7 @@ fn page_of(word: u32) -> usize
 }
 
 /// The place of a word on its page.
-fn place_of(word: u32) -> usize
+pub(crate) fn place_of(word: u32) -> usize
     ensures { result ≡ word % 4096 }
 {
     word as usize % PAGE_WORDS

@@ -82,7 +82,7 @@ impl RaceRecorder {
         if self.is_repeated(access) {
             return Ok(());
         }
-        self.record_unguessed(access)
+        self.record_new(access)
     }
 
     /// The races of the events that were told, in the order of their second accesses: one for each pair of instructions
@@ -118,35 +118,8 @@ impl RaceRecorder {
         self.steps.is_repeated(access)
     }
 
-    /// Records an access that was not guessed to be made again: it may still be.
-    #[inline(never)]
-    fn record_unguessed(&mut self, access: &Access) -> Result<(), AllocError>
-        ensures recorded { OnOk result ((history : List RunEvent) → Records self.old history → Records self.new (history ++ Accessed access.now ∷ [])) }
-        ensures broken { OnErr result (self.new.is_broken ≡ true) }
-        ensures stays { OnOk result (self.old.is_broken ≡ false) }
-    {
-        if !self.aim(access) {
-            return self.record_new(access);
-        }
-        if self.is_repeated(access) {
-            return Ok(());
-        }
-        self.record_new(access)
-    }
-
-    /// The guess is where an access is again, if it is looked at and among those that are kept. Answers whether the guess is
-    /// another than before.
-    fn aim(&mut self, access: &Access) -> bool
-        ensures stays { (history : List RunEvent) → Records self.old history → Records self.new history }
-        ensures broken { self.new.is_broken ≡ self.old.is_broken }
-    {
-        if !self.depths.is_outside(access.site.thread) {
-            return false;
-        }
-        self.steps.aim(access)
-    }
-
     /// Records an access that is not known to be made again.
+    #[inline(never)]
     fn record_new(&mut self, access: &Access) -> Result<(), AllocError>
         ensures recorded { OnOk result ((history : List RunEvent) → Records self.old history → Records self.new (history ++ Accessed access.now ∷ [])) }
         ensures broken { OnErr result (self.new.is_broken ≡ true) }

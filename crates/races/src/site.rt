@@ -18,6 +18,14 @@ pub struct Site {
 }
 
 impl Site {
+    /// Whether both are the same.
+    #[inline(always)]
+    pub(crate) fn is_exactly(self, other: Site) -> bool
+        ensures { IsTrue result → self ≡ other }
+    {
+        self.is_same(other) && self.turn == other.turn && self.thread == other.thread
+    }
+
     /// Whether both are the same instruction, and both load or both store.
     pub(crate) fn is_same(self, other: Site) -> bool
         ensures { IsTrue result ↔ IsSameInstruction self other }

@@ -9,8 +9,8 @@ ghost use Rattle.races.specs.Words.{told_of};
 
 use crate::clocks::Clocks;
 use crate::fresh::Fresh;
-use crate::passed::Passed;
 use crate::place::Place;
+use crate::recent::Recent;
 use crate::site::Access;
 use crate::told::Told;
 use crate::words::Words;
@@ -26,10 +26,10 @@ pub(crate) struct Steps {
     count: u64,
     /// What the past of each place has.
     clocks: Clocks,
-    /// When the past of each thread was last taken over.
-    passed: Passed,
     /// What is kept of each word.
     words: Words,
+    /// The accesses that were told lately.
+    recent: Recent,
 }
 
 impl Steps {
@@ -40,33 +40,22 @@ impl Steps {
         Ok(Steps {
             count: 0,
             clocks: Clocks::new(alloc)?,
-            passed: Passed::new(alloc)?,
             words: Words::new(alloc),
+            recent: Recent::new(alloc),
         })
     }
 
-    /// Whether an access is made again, of those at the places of the guess. Then it is a step more, and nothing is kept of it.
+    /// Whether an access is one of the recent ones, made again. Then it is a step more, and nothing is kept of it.
     #[inline(always)]
     pub(crate) fn is_repeated(&mut self, access: &Access) -> bool
         ensures again { IsTrue result → (steps : List Step) → KnowsSteps self.old steps → KnowsSteps self.new (steps ++ Touch access.now ∷ []) }
-        ensures stays { IsFalse result → (steps : List Step) → KnowsSteps self.old steps → KnowsSteps self.new steps }
+        ensures stays { IsFalse result → self.new ≡ self.old }
     {
-        if self.count >= MOST_STEPS {
-            return false;
-        }
-        let since = self.passed.of(access.site.thread);
-        if !self.words.has_again(access, since) {
+        if self.count >= MOST_STEPS || !self.recent.has(access) {
             return false;
         }
         self.count += 1;
         true
-    }
-
-    /// The guess is where an access is again, if it is among those that are kept. Answers whether the guess is another than before.
-    pub(crate) fn aim(&mut self, access: &Access) -> bool
-        ensures { (steps : List Step) → KnowsSteps self.old steps → KnowsSteps self.new steps }
-    {
-        self.words.aim(access)
     }
 
     /// An access.
@@ -75,6 +64,7 @@ impl Steps {
     {
         let more = self.more()?;
         self.words.touch(access, self.count, &self.clocks)?;
+        self.recent.note(access, self.count);
         self.count = more;
         Ok(())
     }
@@ -85,7 +75,7 @@ impl Steps {
     {
         let more = self.more()?;
         self.clocks.order(self.count, acquired, released)?;
-        self.passed.pass(acquired, self.count);
+        self.recent.forget_before(more);
         self.count = more;
         Ok(())
     }
@@ -96,6 +86,7 @@ impl Steps {
     {
         let more = self.more()?;
         self.words.renew(Fresh { address, length });
+        self.recent.forget_before(more);
         self.count = more;
         Ok(())
     }

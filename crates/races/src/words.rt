@@ -1,19 +1,16 @@
 //! What is kept of all words: the accesses and the races.
-ghost use Rattle.std.specs.Prelude.{◌≡◌, ℕ, List, [], ◌∷◌, ◌++◌, Contains, IfOk, IsTrue, OnOk, length};
+ghost use Rattle.std.specs.Prelude.{◌≡◌, ℕ, List, [], ◌∷◌, ◌++◌, IfOk, OnOk, length};
 ghost use Rattle.std.specs.Ordering.{nat_cmp};
 ghost use Rattle.std.specs.BTreeMap.{IsOrdered};
-ghost use Rattle.races.specs.Repeats.{HasAgain};
 ghost use Rattle.races.specs.Steps.{Step};
 ghost use Rattle.races.specs.Steps.Step.{Touch, Renew};
-ghost use Rattle.races.specs.Words.{IsFinding, KnowsFound, KnowsLatest, KnowsWords, Times, found_at, latest_at, others_at, told_of};
-ghost use Rattle.races.specs.declared.latest.Latest.{Latest as Past};
+ghost use Rattle.races.specs.Words.{KnowsFound, KnowsWords, Times, found_at, latest_at, told_of};
 
 use crate::clocks::Clocks;
 use crate::fresh::Fresh;
 use crate::latest::Latest;
-use crate::pages::Pages;
+use crate::pages::{Pages, place_of};
 use crate::race_map::RaceMap;
-use crate::race_search::{find_first, find_races};
 use crate::site::Access;
 use crate::told::Told;
 use std::alloc::{AllocError, Global};
@@ -34,24 +31,6 @@ impl Words {
             pages: Pages::new(alloc),
             races: RaceMap::new(alloc),
         }
-    }
-
-    /// Whether an access that is kept, of this step or a later one, is made again.
-    #[inline(always)]
-    pub(crate) fn has_again(&mut self, access: &Access, since: u64) -> bool
-        ensures again { IsTrue result → HasAgain since access.now (latest_at self.old.pages.pages.items access.now.word) }
-        ensures stays { (word : ℕ) → latest_at self.new.pages.pages.items word ≡ latest_at self.old.pages.pages.items word }
-        ensures races { self.new.races ≡ self.old.races }
-    {
-        self.pages.has_again(access, since)
-    }
-
-    /// The guess is where an access is again, if it is among those that are kept. Answers whether the guess is another than before.
-    pub(crate) fn aim(&mut self, access: &Access) -> bool
-        ensures stays { (word : ℕ) → latest_at self.new.pages.pages.items word ≡ latest_at self.old.pages.pages.items word }
-        ensures races { self.new.races ≡ self.old.races }
-    {
-        self.pages.aim(access)
     }
 
     /// An access, the step of this index.
@@ -78,19 +57,10 @@ impl Words {
         ensures others { OnOk result ((other : ℕ) → (access.now.word ≡ other → ⊥) → found_at self.new.races.words other ≡ found_at self.old.races.words other) }
         ensures pages { self.new.pages ≡ self.old.pages }
     {
-        let first = self.pages.first(access.word);
-        find_first(&mut self.races, &first, access, step, clocks)?;
-        self.find_later(access, step, clocks)
-    }
-
-    /// Notes the races of an access with all but the first one that is kept of its word.
-    fn find_later(&mut self, access: &Access, step: u64, clocks: &Clocks) -> Result<(), AllocError>
-        ensures own { OnOk result ((steps : List Step) (latest done : List Past) → KnowsLatest steps access.now.word latest → ((past : Past) → Contains (others_at self.old.pages.pages.items access.now.word) past → Contains latest past) → Times steps clocks.now → step ≡ length steps → IsFinding steps access.now clocks.now done (found_at self.old.races.words access.now.word) → IsFinding steps access.now clocks.now (done ++ others_at self.old.pages.pages.items access.now.word) (found_at self.new.races.words access.now.word)) }
-        ensures others { OnOk result ((other : ℕ) → (access.now.word ≡ other → ⊥) → found_at self.new.races.words other ≡ found_at self.old.races.words other) }
-        ensures pages { self.new.pages ≡ self.old.pages }
-    {
-        match self.pages.word(access.word) {
-            Some(word) => find_races(&mut self.races, word, access, step, clocks),
+        match self.pages.page(access.word) {
+            Some(page) => {
+                page.find_races(place_of(access.word), &mut self.races, access, step, clocks)
+            }
             None => Ok(()),
         }
     }

@@ -122,8 +122,7 @@ fn races_with(first: &Access, second: &Access) -> bool {
         && (first.site.is_store || second.site.is_store)
 }
 
-/// The common bytes of two accesses that began no new life since the first one, the step of this index, and that its instruction
-/// didn't access again.
+/// The common bytes of two accesses that began no new life since the first one, the step of this index.
 fn racing_bytes(first: &Access, second: &Access, steps: &[Step], index: usize) -> ByteSet {
     let races_at = |place: u32, one: bool, other: bool| {
         one && other && !is_over(first, place, steps, index)
@@ -136,7 +135,7 @@ fn racing_bytes(first: &Access, second: &Access, steps: &[Step], index: usize) -
     }
 }
 
-/// Whether a step after the one of this index begins a new life of a byte of an access, or is the same instruction's access of it.
+/// Whether a step after the one of this index begins a new life of a byte of an access.
 fn is_over(access: &Access, place: u32, steps: &[Step], index: usize) -> bool {
     let byte = u64::from(access.word)
         .wrapping_mul(4)
@@ -148,34 +147,12 @@ fn is_over(access: &Access, place: u32, steps: &[Step], index: usize) -> bool {
         {
             return true;
         }
-        if let Some(other) = step.access
-            && is_same_author(access, &other)
-            && has(other.bytes, place)
-        {
-            return true;
-        }
     }
     false
 }
 
-/// Whether both are accesses of one word by one instruction of a thread.
-fn is_same_author(access: &Access, other: &Access) -> bool {
-    access.word == other.word
-        && access.site.thread == other.site.thread
-        && is_same(access.site, other.site)
-}
-
 fn is_same(site: Site, other: Site) -> bool {
     site.pc == other.pc && site.is_store == other.is_store
-}
-
-fn has(bytes: ByteSet, place: u32) -> bool {
-    match place {
-        0 => bytes.first,
-        1 => bytes.second,
-        2 => bytes.third,
-        _ => bytes.fourth,
-    }
 }
 
 /// Notes a race: by its bytes where its instructions have one at the word, else as a new one.

@@ -1,25 +1,25 @@
-use Rattle.std.proofs.Common.{◌<◌, ap, arith, length, refl}
-use Rattle.races.specs.Words.{kept_by, latest_of}
-use Rattle.races.proofs.Clocked.{get_set_apart}
-use Rattle.races.proofs.Paged.{both_same, place_later, place_stays}
+use Rattle.std.proofs.Common.{◌∙◌, ap, refl, set, subst, sym}
+use Rattle.races.specs.Linked.{GivesWay, IsAt, latest_in}
+use Rattle.races.specs.Words.{IsKept}
+use Rattle.races.specs.declared.entry.Entry.{Entry}
+use Rattle.races.proofs.Linked.{kept_at, latest_set, same_at}
 use Rattle.races.proofs.page.Page.replace.Goals as goal
 
-pub returns-clause-kept : goal.returns-clause-kept
-returns-clause-kept c = λ again.
-    let old = c.args.self.now in
-    let long = old.words.ok.0 in
-    let len_is = c.len.ensures in
-    let inside : c.args.place < length old.words.items = omega (arith, c.if-len-place.false) in
-    place_later old.firsts.items old.words.items c.args.place c.args.own.now c.index_mut.result.now c.replace.new.self inside c.index_mut.ensures.value (c.replace.ensures.kept again)
-
-pub returns-clause-stays : goal.returns-clause-stays
-returns-clause-stays c = λ other.
-    let old = c.args.self.now in
-    let long = old.words.ok.0 in
-    let len_is = c.len.ensures in
-    let inside : c.args.place < length old.words.items = omega (arith, c.if-len-place.false) in
-    place_stays old.firsts.items old.words.items c.args.place c.args.own.now c.index_mut.result.now c.replace.new.self inside c.index_mut.ensures.value (c.replace.ensures.stays other)
+pub returns-clause-own : goal.returns-clause-own
+returns-clause-own c = λ entry is_at.
+    let was : Entry = c.index-entry.result.now in
+    let now : Entry = record { latest = c.args.own; place = was.place; next = was.next } in
+    let entries = c.args.self.now.entries.items in
+    let there : IsAt entries c.args.index was = (is_at.0, sym c.index-entry.ensures) in
+    let wanted = c.requires in
+    let gives : GivesWay was.latest c.args.own = subst (λ (one : Entry). GivesWay one.latest c.args.own) (same_at entries c.args.index wanted.0 was wanted.1 there) wanted.2 in
+    subst (λ (one : Entry). IsKept c.args.own (latest_in entries one.place) (latest_in (set entries c.args.index now) one.place)) (same_at entries c.args.index was entry there is_at)
+    (kept_at entries c.args.index was now c.args.own there gives refl refl)
 
 pub returns-clause-others : goal.returns-clause-others
-returns-clause-others c = λ other apart.
-    both_same _ _ _ _ refl (ap (kept_by latest_of) (get_set_apart c.args.self.now.words.items c.args.place other c.replace.new.self apart))
+returns-clause-others c = λ entry other is_at apart.
+    let was : Entry = c.index-entry.result.now in
+    let now : Entry = record { latest = c.args.own; place = was.place; next = was.next } in
+    let entries = c.args.self.now.entries.items in
+    let there : IsAt entries c.args.index was = (is_at.0, sym c.index-entry.ensures) in
+    latest_set entries c.args.index was now other there refl (λ same. absurd (apart (ap (λ (one : Entry). one.place) (same_at entries c.args.index entry was is_at there) ∙ same)))

@@ -2,6 +2,7 @@ use Rattle.std.proofs.Common.{◌++◌, ◌∙◌, List, refl, subst, sym}
 use Rattle.races.specs.Recording.{KnowsSteps, depth_of}
 use Rattle.races.specs.Steps.{Step}
 use Rattle.races.specs.Steps.Step.{Touch}
+use Rattle.races.specs.declared.steps.Steps.{Steps}
 use Rattle.races.proofs.Telling.{outside_is, told_access, told_same}
 use Rattle.races.proofs.recorder.RaceRecorder.is_repeated.Goals as goal
 
@@ -18,4 +19,4 @@ returns-clause-recorded c = λ again.
 pub returns-clause-stays : goal.returns-clause-stays
 returns-clause-stays c = λ other.
     let old = c.args.self.now in
-    told_same old (record old { steps = c.is_repeated.new.self }) refl (c.is_repeated.ensures.stays other)
+    told_same old (record old { steps = c.is_repeated.new.self }) refl (λ steps knows. subst (λ (kept : Steps). KnowsSteps kept steps) (sym (c.is_repeated.ensures.stays other)) knows)

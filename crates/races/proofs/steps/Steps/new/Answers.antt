@@ -1,7 +1,7 @@
 use Rattle.std.proofs.Common.{refl}
 use Rattle.races.specs.Clocks.{time_kept}
 use Rattle.races.proofs.Follow.{follows_none}
-use Rattle.races.proofs.Repeated.{passed_none}
+use Rattle.races.proofs.Repeated.{recent_none}
 use Rattle.races.proofs.steps.Steps.new.Goals as goal
 
 pub returns : goal.returns
@@ -10,6 +10,6 @@ returns c =
     record {
       count = refl;
       times = follows_none (time_kept clocks) c.in_ok-new.ensures;
-      passed = passed_none clocks c.in_ok-new-2.field-0 c.in_ok-new.ensures;
-      words = c.new-3.ensures;
+      recent = recent_none c.new-3.result clocks c.new-3.ensures.since c.new-3.ensures.none c.in_ok-new.ensures;
+      words = c.new-2.ensures;
     }

@@ -4,6 +4,7 @@ use Rattle.races.specs.Clocks.{time_kept}
 use Rattle.races.specs.Steps.{Step}
 use Rattle.races.specs.Steps.Step.{Renew}
 use Rattle.races.proofs.Follow.{after_renew}
+use Rattle.races.proofs.Repeated.{recent_forgotten}
 use Rattle.races.proofs.steps.Steps.renew.Goals as goal
 
 pub returns : goal.returns
@@ -14,6 +15,7 @@ returns c steps knows =
     record {
       count = omega (arith, length_push steps step);
       times = after_renew steps (time_kept c.args.self.now.clocks) knows.times c.args.address c.args.length;
-      passed = knows.passed;
+      recent = recent_forgotten c.args.self.now.recent c.forget_before.new.self c.args.self.now.clocks c.args.self.now.clocks steps step (omega arith) c.forget_before.ensures.slots
+          (λ place thread. let bound = knows.times.bound place thread in omega arith) knows.recent;
       words = c.renew.ensures steps knows.words;
     }

@@ -1,9 +1,11 @@
-use Rattle.std.proofs.Common.{arith}
+use Rattle.std.proofs.Common.{ℕ, arith, subst}
 use Rattle.std.proofs.lemmas.List.{length_push}
 use Rattle.races.specs.Clocks.{time_kept}
+use Rattle.races.specs.Recent.{IsSlotOf}
 use Rattle.races.specs.Steps.{Step}
 use Rattle.races.specs.Steps.Step.{Touch}
 use Rattle.races.proofs.Follow.{after_touch}
+use Rattle.races.proofs.Repeated.{recent_touched}
 use Rattle.races.proofs.steps.Steps.touch.Goals as goal
 
 pub returns : goal.returns
@@ -16,6 +18,6 @@ returns c steps knows =
     record {
       count = omega (arith, length_push steps step);
       times = after_touch steps (time_kept kept.clocks) knows.times access;
-      passed = knows.passed;
+      recent = recent_touched kept.recent c.note.new.self kept.clocks steps access c.note.ensures.since (λ slot among. subst (λ (n : ℕ). IsSlotOf kept.recent.slots.items access n slot) count (c.note.ensures.noted slot among)) knows.recent;
       words = c.in_ok-touch.ensures steps knows.words knows.times count;
     }

@@ -1,0 +1,107 @@
+//! The accesses that were told lately, some of them.
+ghost use Rattle.std.specs.Prelude.{◌≡◌, ◌≤◌, ◌⊎◌, [], Contains, IsTrue};
+ghost use Rattle.races.specs.Recent.{IsSlotOf};
+ghost use Rattle.races.specs.declared.slot.Slot.{Slot as Told};
+
+use crate::site::Access;
+use crate::slot::Slot;
+use std::alloc::Global;
+
+/// So many slots there are at first, and at most: powers of two.
+const FEWEST_SLOTS: usize = 256;
+
+const MOST_SLOTS: usize = 65536;
+/// What the addresses of instructions are multiplied with, so that several that access one word have slots far apart.
+const SPREAD: u32 = 0x9e37_79b1;
+
+/// Some of the accesses that were told lately: an access that is made again is mostly among them.
+///
+/// Each access has one slot, by its word and its instruction, which it shares with others. Slots become more as accesses are
+/// told, so that a short run has few. If there is no memory for more, those that are there are used on.
+#[derive(Drop)]
+pub(crate) struct Recent {
+    alloc: Global,
+    /// The access that was last noted in each slot.
+    slots: Vec<Slot>,
+    /// One less than the slots are.
+    mask: usize,
+    /// How many accesses were noted in them.
+    noted: usize,
+    /// The accesses of this step and later ones count, and no others.
+    since: u64,
+}
+
+impl Recent {
+    /// No access. Those of step 1 and later ones will count.
+    pub(crate) fn new(alloc: Global) -> Self
+        ensures since { result.since ≡ 1 }
+        ensures none { result.slots.items ≡ [] }
+    {
+        Recent {
+            alloc,
+            slots: Vec::new(alloc),
+            mask: 0,
+            noted: 0,
+            since: 1,
+        }
+    }
+
+    /// Whether an access is one of those that count, made again in its turn.
+    #[inline(always)]
+    pub(crate) fn has(&self, access: &Access) -> bool
+        ensures { IsTrue result → (slot : Told) × Contains self.now.slots.items slot × (slot.access ≡ access.now) × (self.now.since ≤ slot.step) }
+    {
+        match self.slots.get(self.place_of(access)) {
+            Some(slot) => slot.is_of(access) && self.since <= slot.step,
+            None => false,
+        }
+    }
+
+    /// Notes an access, the step of this index.
+    pub(crate) fn note(&mut self, access: &Access, step: u64)
+        ensures noted { (slot : Told) → Contains self.new.slots.items slot → IsSlotOf self.old.slots.items access.now step slot }
+        ensures since { self.new.since ≡ self.old.since }
+    {
+        self.make_room();
+        self.noted = self.noted.saturating_add(1);
+        let place = self.place_of(access);
+        if place < self.slots.len() {
+            self.slots[place] = Slot {
+                access: *access,
+                step,
+            };
+        }
+    }
+
+    /// Only the accesses of this step and later ones count.
+    pub(crate) fn forget_before(&mut self, step: u64)
+        ensures since { self.new.since ≡ step }
+        ensures slots { self.new.slots.items ≡ self.old.slots.items }
+    {
+        self.since = step;
+    }
+
+    /// Makes four times as many slots, with no access in them, once as many accesses were noted as there are slots. It does nothing
+    /// if there are enough, or no memory for more.
+    fn make_room(&mut self)
+        ensures noted { (slot : Told) → Contains self.new.slots.items slot → (slot.step ≡ 0) ⊎ Contains self.old.slots.items slot }
+        ensures since { self.new.since ≡ self.old.since }
+    {
+        if self.noted < self.slots.len() || self.slots.len() >= MOST_SLOTS {
+            return;
+        }
+        let count = (self.slots.len().saturating_mul(4)).clamp(FEWEST_SLOTS, MOST_SLOTS);
+        if let Ok(slots) = vec![in self.alloc; Slot::new(); count] {
+            self.slots = slots;
+            self.mask = count - 1;
+        }
+        self.noted = 0;
+    }
+
+    /// The slot of an access.
+    #[inline(always)]
+    fn place_of(&self, access: &Access) -> usize {
+        let spread = (access.site.pc / 4).wrapping_mul(SPREAD);
+        access.word.wrapping_add(spread) as usize & self.mask
+    }
+}
