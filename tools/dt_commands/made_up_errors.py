@@ -33,12 +33,13 @@ HANDED_ON = {
 }
 
 # Lines that say so where no host could have the time: a run of 2^63 turns, of 2^62 turns and changed bytes, or of 2^62
-# events, 2^64 library regions in one another, and 2^64 instructions.
+# events, 2^64 library regions in one another, 2^64 instructions, and 2^32 accesses that differ on a page.
 BEYOND_ANY_HOST = {
     ("crates/token/src/serial.rt", "return Err(TurnFault::OutOfMemory);"),
     ("crates/sharing_report/src/sharing_recorder.rt", "return Err(TurnFault::OutOfMemory);"),
     ("crates/races/src/steps.rt", "return Err(AllocError);"),
     ("crates/races/src/depths.rt", "None => Err(AllocError),"),
+    ("crates/races/src/page.rt", "return Err(AllocError);"),
     ("crates/trace_events/src/sum.rt", "None => Err(TurnFault::OutOfMemory),"),
 }
 

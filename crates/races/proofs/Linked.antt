@@ -175,21 +175,21 @@ first_by entries from place number there first = record {
 -- an entry changes, but for its place and its link
 first_set : (entries : List Entry) (index : ℕ) (was now : Entry) (from place number : ℕ) → IsAt entries index was → now.place ≡ was.place → IsFirst entries from place number → IsFirst (set entries index now) from place number
 first_set entries index was now from place number is_at of first = first_by (set entries index now) from place number
-  (λ some.
-      let had = there_of entries from place number first some in
-      ⊎_elim
-      (λ same. (
-        now,
-        subst (λ (n : ℕ). IsAt (set entries index now) n now) (sym same) (set_at entries index now is_at.0),
-        of ∙ ap (λ (one : Entry). one.place) (same_at entries index was had.0 is_at (subst (λ (n : ℕ). IsAt entries n had.0) same had.1)) ∙ had.2,
-        had.3,
-      ))
-      (λ apart. (had.0, set_at_kept entries index now (number - 1) had.0 apart had.1, had.2, had.3))
-      (cases_eq (number - 1) index))
-  (λ at entry after there is. ⊎_elim
-      (λ same. first.first at was after (subst (λ (n : ℕ). IsAt entries n was) (sym same.0) is_at) (sym of ∙ ap (λ (one : Entry). one.place) (sym same.1) ∙ is))
-      (λ other. first.first at entry after other.1 is)
-      (set_at_cases entries index now at entry is_at.0 there))
+    (λ some.
+    let had = there_of entries from place number first some in
+    ⊎_elim
+    (λ same. (
+      now,
+      subst (λ (n : ℕ). IsAt (set entries index now) n now) (sym same) (set_at entries index now is_at.0),
+      of ∙ ap (λ (one : Entry). one.place) (same_at entries index was had.0 is_at (subst (λ (n : ℕ). IsAt entries n had.0) same had.1)) ∙ had.2,
+      had.3,
+    ))
+    (λ apart. (had.0, set_at_kept entries index now (number - 1) had.0 apart had.1, had.2, had.3))
+    (cases_eq (number - 1) index))
+    (λ at entry after there is. ⊎_elim
+    (λ same. first.first at was after (subst (λ (n : ℕ). IsAt entries n was) (sym same.0) is_at) (sym of ∙ ap (λ (one : Entry). one.place) (sym same.1) ∙ is))
+    (λ other. first.first at entry after other.1 is)
+    (set_at_cases entries index now at entry is_at.0 there))
 
 pub linked_set : (firsts : List ℕ) (entries : List Entry) (index : ℕ) (was now : Entry) → IsAt entries index was → now.place ≡ was.place → now.next ≡ was.next → AreLinked firsts entries → AreLinked firsts (set entries index now)
 linked_set firsts entries index was now is_at of next linked = record {
@@ -207,28 +207,28 @@ linked_set firsts entries index was now is_at of next linked = record {
 -- an entry comes: of another word, or the word has a first one from there on already, or now it has
 first_push : (entries : List Entry) (new : Entry) (from place number : ℕ) → (new.place ≡ place → ⊥) ⊎ (number ≢ 0) → IsFirst entries from place number → IsFirst (entries ++ new ∷ []) from place number
 first_push entries new from place number either first = first_by (entries ++ new ∷ []) from place number
-  (λ some. let had = there_of entries from place number first some in (had.0, push_at_kept entries new (number - 1) had.0 had.1, had.2, had.3))
-  (λ at entry after there is. ⊎_elim
-      (λ last. ⊎_elim
-      (λ apart. absurd (apart (ap (λ (one : Entry). one.place) (sym last.1) ∙ is)))
-      (λ some. let inside = first.inside some in let at_end = last.0 in (some, omega arith))
-      either)
-      (λ before. first.first at entry after before is)
-      (push_at_cases entries new at entry there))
+    (λ some. let had = there_of entries from place number first some in (had.0, push_at_kept entries new (number - 1) had.0 had.1, had.2, had.3))
+    (λ at entry after there is. ⊎_elim
+    (λ last. ⊎_elim
+    (λ apart. absurd (apart (ap (λ (one : Entry). one.place) (sym last.1) ∙ is)))
+    (λ some. let inside = first.inside some in let at_end = last.0 in (some, omega arith))
+    either)
+    (λ before. first.first at entry after before is)
+    (push_at_cases entries new at entry there))
 
 first_new : (entries : List Entry) (new : Entry) (from place : ℕ) → from ≤ length entries → new.place ≡ place → IsFirst entries from place 0 → IsFirst (entries ++ new ∷ []) from place (length entries + 1)
 first_new entries new from place early of first = first_by (entries ++ new ∷ []) from place (length entries + 1)
-  (λ some. (new, subst (λ (n : ℕ). IsAt (entries ++ new ∷ []) n new) (omega arith) (push_at_last entries new), of, omega arith))
-  (λ at entry after there is. ⊎_elim
-      (λ last. let at_end = last.0 in (λ none. absurd (omega arith), omega arith))
-      (λ before. absurd ((first.first at entry after before is).0 refl))
-      (push_at_cases entries new at entry there))
+    (λ some. (new, subst (λ (n : ℕ). IsAt (entries ++ new ∷ []) n new) (omega arith) (push_at_last entries new), of, omega arith))
+    (λ at entry after there is. ⊎_elim
+    (λ last. let at_end = last.0 in (λ none. absurd (omega arith), omega arith))
+    (λ before. absurd ((first.first at entry after before is).0 refl))
+    (push_at_cases entries new at entry there))
 
 -- the last entry has no next one
 last_first : (entries : List Entry) (new : Entry) (from place : ℕ) → length entries < from → IsFirst (entries ++ new ∷ []) from place 0
 last_first entries new from place late = first_by (entries ++ new ∷ []) from place 0
-  (λ some. absurd (some refl))
-  (λ at entry after there is. let long = length_push entries new in let inside = there.0 in absurd (omega arith))
+    (λ some. absurd (some refl))
+    (λ at entry after there is. let long = length_push entries new in let inside = there.0 in absurd (omega arith))
 
 get_set_zero : (firsts : List ℕ) (place number : ℕ) (other : ℕ) → (place ≡ other → ⊥) → get_or (set firsts place number) other 0 ≡ get_or firsts other 0
 get_set_zero firsts place number other apart = get_or-set_other firsts place other number 0 (λ same. apart (sym same))

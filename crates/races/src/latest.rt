@@ -7,12 +7,12 @@ use crate::byte_set::ByteSet;
 use crate::clocks::Clocks;
 use crate::site::{Access, Site};
 
-/// The latest access of some bytes of a word by a thread's instruction.
+/// The latest access of these bytes of a word by a thread's instruction.
 #[derive(Clone, Copy)]
 pub(crate) struct Latest {
     /// Who it is.
     pub(crate) site: Site,
-    /// The bytes whose latest access by this instruction it is, as long as they begin no new life.
+    /// The bytes, but for those that have begun a new life since.
     pub(crate) bytes: ByteSet,
     /// The step.
     pub(crate) step: u64,

@@ -20,10 +20,9 @@ use std::alloc::{AllocError, Global};
 
 /// Is told the events of a run in the order of its turns, and finds the races.
 ///
-/// It keeps a clock for each thread, mutex and object, and for each word that was ever accessed the latest access of each
-/// of its bytes by each instruction of a thread, and the races found. Words stand on pages of 4,096. An access that is made
-/// again, before its thread's past is taken over or its word begins a new life, is found among those that are kept and
-/// changes nothing.
+/// It keeps a clock for each thread, mutex and object; for each word that was ever accessed the latest access of the same bytes by
+/// each instruction of a thread; and the races found. Words stand on pages of 4,096. An access that is found among the recent ones
+/// is made again, and changes nothing.
 #[derive(Drop)]
 pub struct RaceRecorder {
     alloc: Global,
