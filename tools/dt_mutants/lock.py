@@ -1,8 +1,9 @@
 """The file mutants.lock: for each crate with mutants, the sum of all that its last full round read.
 
 A round reads the crate's sources, specs and proofs, those of each crate of the repository below it, their lines of crates.txt, the
-crate's mutants, the toolchain, and the modules of this tool that plan and judge. It reads nothing else: no page, no must-fail edit and
-nothing in out/ changes a sum.
+crate's mutants, the toolchain's logic, and the modules of this tool that plan and judge. It reads nothing else: no page, no must-fail
+edit and nothing in out/ changes a sum. Toolchains of one logic prove the same statements, so another version of the same logic has the
+same sums.
 """
 import functools
 import hashlib
@@ -14,8 +15,8 @@ from dt_commands.repository import TOP, below, crates
 LOCK = f"{TOP}/mutants.lock"
 # The folders of a crate that a check reads.
 PARTS = ("src", "specs", "proofs")
-# The modules that decide what a round says.
-MODULES = ["dt_commands/kit.py", *[f"dt_mutants/{it}.py" for it in ("edits", "functions", "rounds", "trials", "verdicts")]]
+# The modules that decide what a round says. Others carry it out.
+MODULES = [f"dt_mutants/{it}.py" for it in ("edits", "functions", "rounds", "verdicts")]
 
 
 def read():
@@ -67,9 +68,15 @@ def own_sum(name):
 
 @functools.lru_cache(maxsize=None)
 def of_the_tool():
-    """Returns a sum of the toolchain's version and of the modules that decide."""
+    """Returns a sum of the toolchain's logic and of the modules that decide."""
     modules = [f"{TOP}/tools/{it}" for it in MODULES]
-    return hashlib.sha256(repr((kit.version(), sum_of_files(modules))).encode()).hexdigest()
+    return hashlib.sha256(repr((logic(), sum_of_files(modules))).encode()).hexdigest()
+
+
+def logic():
+    """Returns the sum of the logic in the toolchain's version, or the whole version if it names none."""
+    version = kit.version()
+    return version.partition(" logic ")[2] or version
 
 
 def sum_of(name):
