@@ -30,6 +30,15 @@ module _ (steps : List Step) (access : Access) (clocks : Clocks) where
     new = λ past place among hit there here. absurd (none_contained past among);
   }
 
+  -- held against accesses of which none races
+  pub finding_unhit : (latest : List Latest) (found : List Found) → ((past : Latest) → Contains latest past → IsHit (time_of clocks.threads.clocks.items access.site.thread) past access → ⊥) → IsFinding steps access clocks [] found
+      → IsFinding steps access clocks latest found
+  finding_unhit latest found none finding = record {
+    sound = finding.sound;
+    old = finding.old;
+    new = λ past place among hit there here. absurd (none past among hit);
+  }
+
   -- held against one more that doesn't race
   pub finding_skip : (done : List Latest) (past : Latest) (found : List Found) → ((place : ℕ) → IsHit (time_of clocks.threads.clocks.items access.site.thread) past access → has past.bytes place ≡ true → has access.bytes place ≡ true → ⊥)
       → IsFinding steps access clocks done found → IsFinding steps access clocks (done ++ past ∷ []) found

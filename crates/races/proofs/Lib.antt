@@ -1,3 +1,4 @@
+pub mod Blocked
 pub mod Clocked
 pub mod Follow
 pub mod Finding

@@ -1,4 +1,5 @@
 pub mod Before
+pub mod Blocks
 pub mod Bytes
 pub mod Clocks
 pub mod Linked

@@ -1,6 +1,7 @@
 //! Data races of a history of threads: what is told of a run, the order that its events have, and the pairs of accesses that have none.
 #![tactic(auto)]
 
+mod block;
 mod byte_set;
 mod clock;
 mod clocks;
@@ -9,6 +10,7 @@ mod entry;
 mod event;
 mod found;
 mod fresh;
+mod hint;
 mod latest;
 mod page;
 mod pages;

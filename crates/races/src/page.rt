@@ -1,11 +1,14 @@
 //! What is kept of the words of a page.
 ghost use Rattle.std.specs.Prelude.{◌≡◌, ◌≢◌, ◌-◌, vec_len};
+ghost use Rattle.races.specs.Blocks.{AreKnown};
 ghost use Rattle.races.specs.Linked.{AreLinked};
 
+use crate::block::{BLOCK_WORDS, Block};
 use crate::byte_set::ByteSet;
 use crate::clocks::Clocks;
 use crate::entry::Entry;
 use crate::fresh::Fresh;
+use crate::hint::Hint;
 use crate::latest::Latest;
 use crate::race_map::RaceMap;
 use crate::race_search::find_race;
@@ -27,16 +30,24 @@ pub(crate) struct Page {
     firsts: Vec<u32>,
     /// The accesses that are kept of all words.
     entries: Vec<Entry>,
+    /// Of each word where its next access is probably kept.
+    hints: Vec<Hint>,
+    /// The threads of each block of words.
+    blocks: Vec<Block>,
     ghost sized: { vec_len firsts ≢ 0 → vec_len firsts ≡ 4096 },
     ghost linked: { AreLinked firsts.items entries.items },
+    ghost known: { AreKnown blocks.items entries.items },
 }
 
 impl Page {
-    ghost use Rattle.std.specs.Prelude.{ℕ, ◌+◌, ◌<◌, ◌≤◌, ◌^◌, List, [], IfOk, OnOk, length, slice_index_or};
+    ghost use Rattle.std.specs.Prelude.{Contains, IsTrue, ℕ, ◌+◌, ◌<◌, ◌≤◌, ◌^◌, List, [], IfOk, IfSome, OnOk, length, slice_index_or};
+    ghost use Rattle.races.specs.Blocks.{MayCome};
+    ghost use Rattle.races.specs.Clocks.{time_of};
     ghost use Rattle.races.specs.Linked.{GivesWay, IsAt, IsErased, IsSpot, latest_in};
     ghost use Rattle.races.specs.Steps.{Step};
     ghost use Rattle.races.specs.Words.{IsFinding, IsKept, IsRenewed, KnowsLatest, Times, found_at};
     ghost use Rattle.races.specs.declared.entry.Entry.{Entry as Kept};
+    ghost use Rattle.races.specs.declared.latest.Latest.{Latest as Past};
 
     /// A page of which no word was accessed.
     pub(crate) fn new(alloc: Global) -> Self
@@ -45,6 +56,8 @@ impl Page {
         Page {
             firsts: Vec::new(alloc),
             entries: Vec::new(alloc),
+            hints: Vec::new(alloc),
+            blocks: Vec::new(alloc),
         }
     }
 
@@ -60,6 +73,9 @@ impl Page {
         ensures own { OnOk result ((steps : List Step) → KnowsLatest steps access.now.word (latest_in self.now.entries.items place) → Times steps clocks.now → step ≡ length steps → IsFinding steps access.now clocks.now [] (found_at races.old.words access.now.word) → IsFinding steps access.now clocks.now (latest_in self.now.entries.items place) (found_at races.new.words access.now.word)) }
         ensures others { OnOk result ((other : ℕ) → (access.now.word ≡ other → ⊥) → found_at races.new.words other ≡ found_at races.old.words other) }
     {
+        if self.is_past(place, access.site.thread, clocks) {
+            return Ok(());
+        }
         let mut number = self.first(place);
         while number != 0 {
             let entry = &self.entries[number as usize - 1];
@@ -81,12 +97,15 @@ impl Page {
         ensures others { OnOk result ((other : ℕ) → (place ≡ other → ⊥) → latest_in self.new.entries.items other ≡ latest_in self.old.entries.items other) }
     {
         self.reach(alloc)?;
-        match self.spot(place, &own) {
-            Spot::At(index) => self.replace(index, own),
-            Spot::After(index) => return self.push_after(index, own),
-            Spot::First => return self.push_first(place, own),
+        self.take(place, &own);
+        match self.hinted(place, &own) {
+            Spot::At(index) => {
+                self.replace(index, own);
+                Ok(())
+            }
+            Spot::After(index) => self.push_after(index, own),
+            Spot::First => self.push_first(place, own),
         }
-        Ok(())
     }
 
     /// Bytes begin a new life. The page's first word has this number.
@@ -104,6 +123,27 @@ impl Page {
         }
     }
 
+    /// Whether all accesses of other threads that are kept of the word at a place are known to be in the past of a thread.
+    fn is_past(&self, place: usize, thread: u8, clocks: &Clocks) -> bool
+        ensures { IsTrue result → (past : Past) → Contains (latest_in self.now.entries.items place) past → past.site.thread ≢ thread → past.step < time_of clocks.now.threads.clocks.items thread past.site.thread }
+    {
+        let index = place / BLOCK_WORDS;
+        index < self.blocks.len() && self.blocks[index].is_past(thread, clocks)
+    }
+
+    /// The block of the word at a place knows of an access that comes.
+    fn take(&mut self, place: usize, own: &Latest)
+        ensures may { MayCome self.new.blocks.items place own.now }
+        ensures entries { self.new.entries.items ≡ self.old.entries.items }
+        ensures firsts { self.new.firsts.items ≡ self.old.firsts.items }
+        ensures sized { vec_len self.new.firsts ≡ vec_len self.old.firsts }
+    {
+        let index = place / BLOCK_WORDS;
+        if index < self.blocks.len() {
+            self.blocks[index] = self.blocks[index].taken_by(own.site.thread, own.step);
+        }
+    }
+
     /// The number of the first entry of the word at a place, or 0 if it has none.
     fn first(&self, place: usize) -> u32
         ensures { result ≡ slice_index_or self.now.firsts.items place 0 }
@@ -111,6 +151,53 @@ impl Page {
         match self.firsts.get(place) {
             Some(number) => *number,
             None => 0,
+        }
+    }
+
+    /// Where an access of the word at a place is to be kept, by its hint if that is right.
+    fn hinted(&self, place: usize, own: &Latest) -> Spot
+        ensures { IsSpot self.now.firsts.items self.now.entries.items place 0 own.now result }
+    {
+        let hint = self.hint(place);
+        if let Some(index) = self.index_of(hint.next, place)
+            && self.entries[index].latest.is_alike(own.site, own.bytes)
+        {
+            return Spot::At(index);
+        }
+        if !hint.may_have(own.site, own.bytes)
+            && let Some(index) = self.index_of(hint.last, place)
+            && self.entries[index].next == 0
+        {
+            return Spot::After(index);
+        }
+        self.spot(place, own)
+    }
+
+    /// The index of the entry of a number, if it is one of the word at a place.
+    fn index_of(&self, number: u32, place: usize) -> Option<usize>
+        ensures { IfSome result (λ index. (entry : Kept) × IsAt self.now.entries.items index entry × (entry.place ≡ place)) }
+    {
+        let index = (number as usize).checked_sub(1)?;
+        match self.entries.get(index) {
+            Some(entry) if entry.place as usize == place => Some(index),
+            _ => None,
+        }
+    }
+
+    /// Where the next access of the word at a place is probably kept.
+    fn hint(&self, place: usize) -> Hint {
+        match self.hints.get(place) {
+            Some(hint) => *hint,
+            None => Hint::new(),
+        }
+    }
+
+    /// Keeps the hint of the word at a place.
+    fn set_hint(&mut self, place: usize, hint: Hint)
+        ensures { self.new.entries.items ≡ self.old.entries.items }
+    {
+        if place < self.hints.len() {
+            self.hints[place] = hint;
         }
     }
 
@@ -139,17 +226,21 @@ impl Page {
         ensures same { self.new.entries.items ≡ self.old.entries.items }
     {
         if self.firsts.is_empty() {
-            self.firsts = vec![in alloc; 0; PAGE_WORDS]?;
+            let hints = vec![in alloc; Hint::new(); PAGE_WORDS]?;
+            let blocks = vec![in alloc; Block::new(); PAGE_WORDS / BLOCK_WORDS]?;
+            let firsts = vec![in alloc; 0; PAGE_WORDS]?;
+            self.blocks = blocks;
+            self.hints = hints;
+            self.firsts = firsts;
         }
         Ok(())
     }
 
     /// Puts an access in the place of the one at an index, which gives way to it.
     fn replace(&mut self, index: usize, own: Latest)
-        requires { (entry : Kept) × IsAt self.old.entries.items index entry × GivesWay entry.latest own }
+        requires { (entry : Kept) × IsAt self.old.entries.items index entry × GivesWay entry.latest own × MayCome self.old.blocks.items entry.place own }
         ensures own { (entry : Kept) → IsAt self.old.entries.items index entry → IsKept own (latest_in self.old.entries.items entry.place) (latest_in self.new.entries.items entry.place) }
         ensures others { (entry : Kept) (other : ℕ) → IsAt self.old.entries.items index entry → (entry.place ≡ other → ⊥) → latest_in self.new.entries.items other ≡ latest_in self.old.entries.items other }
-        ensures firsts { self.new.firsts ≡ self.old.firsts }
     {
         let entry = self.entries[index];
         self.entries[index] = Entry {
@@ -157,11 +248,14 @@ impl Page {
             place: entry.place,
             next: entry.next,
         };
+        let place = entry.place as usize;
+        let hint = self.hint(place);
+        self.set_hint(place, hint.replaced(own.site, own.bytes, entry.next));
     }
 
     /// Keeps an access after the one at an index, the last one of its word.
     fn push_after(&mut self, index: usize, own: Latest) -> Result<(), AllocError>
-        requires { (entry : Kept) × IsAt self.old.entries.items index entry × (entry.next ≡ 0) }
+        requires { (entry : Kept) × IsAt self.old.entries.items index entry × (entry.next ≡ 0) × MayCome self.old.blocks.items entry.place own }
         ensures own { OnOk result ((entry : Kept) → IsAt self.old.entries.items index entry → IsKept own (latest_in self.old.entries.items entry.place) (latest_in self.new.entries.items entry.place)) }
         ensures others { OnOk result ((entry : Kept) (other : ℕ) → IsAt self.old.entries.items index entry → (entry.place ≡ other → ⊥) → latest_in self.new.entries.items other ≡ latest_in self.old.entries.items other) }
     {
@@ -177,6 +271,9 @@ impl Page {
             place: last.place,
             next: number,
         };
+        let place = last.place as usize;
+        let hint = self.hint(place);
+        self.set_hint(place, hint.pushed(own.site, own.bytes, number));
         Ok(())
     }
 
@@ -185,6 +282,7 @@ impl Page {
         requires small { place < 4096 }
         requires inside { place < vec_len self.old.firsts }
         requires none { slice_index_or self.old.firsts.items place 0 ≡ 0 }
+        requires may { MayCome self.old.blocks.items place own }
         ensures own { OnOk result (IsKept own (latest_in self.old.entries.items place) (latest_in self.new.entries.items place)) }
         ensures others { OnOk result ((other : ℕ) → (place ≡ other → ⊥) → latest_in self.new.entries.items other ≡ latest_in self.old.entries.items other) }
     {
@@ -195,6 +293,8 @@ impl Page {
             next: 0,
         })?;
         self.firsts[place] = number;
+        let hint = self.hint(place);
+        self.set_hint(place, hint.pushed(own.site, own.bytes, number));
         Ok(())
     }
 

@@ -2,6 +2,7 @@ use Rattle.std.proofs.Common.{◌≡◌, ◌-◌, ◌<◌, ◌∙◌, ℕ, ap, a
 use Rattle.std.specs.Prelude.{◌≢◌}
 use Rattle.races.specs.Linked.{IsAt}
 use Rattle.races.specs.declared.entry.Entry.{Entry}
+use Rattle.races.proofs.Blocked.{known_set}
 use Rattle.races.proofs.Linked.{IsErasing, IsOf, erased_all, erasing_here, erasing_next, erasing_none, first_of, latest_set, linked_set, next_nearer, next_of, same_at}
 use Rattle.races.proofs.page.Page.erase.Goals as goal
 
@@ -25,7 +26,11 @@ invariant_of-self c =
     let inside = had.1.0 in
     let long = c.loop-number.invariant.1.long in
     let there : IsAt part (number - 1) entry = (omega arith, sym c.index-entry.ensures) in
-    record { sized = page.sized; linked = linked_set page.firsts.items part (number - 1) entry c.without.result there c.without.ensures.place_is c.without.ensures.next_is page.linked }
+    record {
+      sized = page.sized;
+      linked = linked_set page.firsts.items part (number - 1) entry c.without.result there c.without.ensures.place_is c.without.ensures.next_is page.linked;
+      known = known_set page.blocks.items part (number - 1) entry c.without.result there c.without.ensures.place_is c.without.ensures.site c.without.ensures.step page.known;
+    }
 
 pub loop-number-smaller : goal.loop-number-smaller
 loop-number-smaller c =

@@ -1,8 +1,9 @@
-use Rattle.std.proofs.Common.{◌≡◌, ◌-◌, ◌∙◌, ℕ, ap, refl, subst, sym}
+use Rattle.std.proofs.Common.{arith, ◌≡◌, ◌-◌, ◌∙◌, ℕ, ap, refl, subst, sym}
 use Rattle.std.specs.Prelude.{◌≢◌}
 use Rattle.races.specs.Linked.{IsAt, latest_in}
 use Rattle.races.specs.Words.{found_at}
 use Rattle.races.specs.declared.entry.Entry.{Entry}
+use Rattle.races.proofs.Finding.{finding_unhit}
 use Rattle.races.proofs.Linked.{HasFound, IsOf, first_of, found_all, found_next, found_none, in_latest, next_of, same_at}
 use Rattle.races.proofs.page.Page.find_races.Goals as goal
 
@@ -45,3 +46,10 @@ returns-clause-own c = λ steps knows times step finding.
     let access = c.args.access.now in
     found_all steps access c.args.clocks.now page.firsts.items page.entries.items c.args.place page.linked c.loop-number.number (found_at c.loop-number.races.words access.word) c.loop-number-test.false
     (c.loop-number.invariant.1 steps knows times step finding)
+
+pub returns-then-is_past-clause-own : goal.returns-then-is_past-clause-own
+returns-then-is_past-clause-own c = λ steps knows times step finding.
+    let access = c.args.access.now in
+    let entries = c.args.self.now.entries.items in
+    finding_unhit steps access c.args.clocks.now (latest_in entries c.args.place) (found_at c.args.races.now.words access.word)
+    (λ past among hit. let late = c.is_past.ensures c.if-is_past.true past among hit.threads in let early = hit.unordered in absurd (omega arith)) finding

@@ -12,9 +12,9 @@ invariant_of-self c =
     let tested = c.is_empty.ensures in
     let is_so = c.if-is_empty.true in
     let empty : length page.firsts.items ≡ 0 = ⊎_elim (λ none. omega arith) (λ some. absurd (cc (ne_eqb page.firsts.len 0 some))) (cases_eq page.firsts.len 0) in
-    let made = c.in_ok-self.ensures.items_if_clones_equal (λ y same. same) in
+    let made = c.in_ok-firsts.ensures.items_if_clones_equal (λ y same. same) in
     record {
-      sized = λ some. c.in_ok-self.ensures.len;
+      sized = λ some. c.in_ok-firsts.ensures.len;
       linked = record {
         begin = λ place.
             subst (λ (n : ℕ). IsFirst page.entries.items 0 place n)
@@ -22,4 +22,5 @@ invariant_of-self c =
             (page.linked.begin place);
         go_on = page.linked.go_on;
       };
+      known = λ index entry block is_at of. absurd (((page.linked.begin entry.place).first index entry (omega arith) is_at refl).0 (get_none page.firsts.items entry.place empty));
     }

@@ -1,0 +1,57 @@
+//! Where the next access of a word is probably kept. Nothing rests on it.
+use crate::byte_set::ByteSet;
+use crate::site::Site;
+
+/// Where the next access of a word is probably kept. The same instructions go over a word again and again in the same order, and
+/// others come for the first time. What a hint says is looked at before it is believed.
+#[derive(Clone, Copy)]
+pub(crate) struct Hint {
+    /// The number of the entry that is probably made again next, or 0.
+    pub(crate) next: u32,
+    /// The number of the word's last entry, or 0.
+    pub(crate) last: u32,
+    /// A bit for each instruction with its bytes that has an entry. Several may have one bit.
+    seen: u64,
+}
+
+impl Hint {
+    /// That of a word without accesses.
+    pub(crate) fn new() -> Self {
+        Hint {
+            next: 0,
+            last: 0,
+            seen: 0,
+        }
+    }
+
+    /// Whether the word may have an entry of these bytes by this instruction. If not, it has none.
+    pub(crate) fn may_have(self, site: Site, bytes: ByteSet) -> bool {
+        self.seen & bit(site, bytes) != 0
+    }
+
+    /// The hint once such an access is kept in the place of another one, which leads to the entry of this number.
+    pub(crate) fn replaced(self, site: Site, bytes: ByteSet, next: u32) -> Hint {
+        Hint {
+            next,
+            last: self.last,
+            seen: self.seen | bit(site, bytes),
+        }
+    }
+
+    /// The hint once such an access is kept as the word's last one, with this number.
+    pub(crate) fn pushed(self, site: Site, bytes: ByteSet, number: u32) -> Hint {
+        Hint {
+            next: self.next,
+            last: number,
+            seen: self.seen | bit(site, bytes),
+        }
+    }
+}
+
+/// The bit of an instruction with its bytes.
+fn bit(site: Site, bytes: ByteSet) -> u64 {
+    let place = u32::from(bytes.lowest()).wrapping_mul(11);
+    let thread = u32::from(site.thread).wrapping_mul(23);
+    let mixed = (site.pc / 4).wrapping_add(place).wrapping_add(thread);
+    1 << (mixed % 64)
+}
