@@ -6,8 +6,10 @@ use crate::site::Site;
 /// others come for the first time. What a hint says is looked at before it is believed.
 #[derive(Clone, Copy)]
 pub(crate) struct Hint {
-    /// The number of the entry that is probably made again next, or 0.
+    /// The number of the entry after the one that was last made again, or 0.
     pub(crate) next: u32,
+    /// The number of the last one made again that was not the next one, or 0.
+    pub(crate) begin: u32,
     /// The number of the word's last entry, or 0.
     pub(crate) last: u32,
     /// A bit for each instruction with its bytes that has an entry. Several may have one bit.
@@ -19,6 +21,7 @@ impl Hint {
     pub(crate) fn new() -> Self {
         Hint {
             next: 0,
+            begin: 0,
             last: 0,
             seen: 0,
         }
@@ -29,10 +32,16 @@ impl Hint {
         self.seen & bit(site, bytes) != 0
     }
 
-    /// The hint once such an access is kept in the place of another one, which leads to the entry of this number.
-    pub(crate) fn replaced(self, site: Site, bytes: ByteSet, next: u32) -> Hint {
+    /// The hint once such an access is kept in the place of the entry of this number, which leads to another one.
+    pub(crate) fn replaced(self, site: Site, bytes: ByteSet, number: u32, next: u32) -> Hint {
+        let begin = if number == self.next {
+            self.begin
+        } else {
+            number
+        };
         Hint {
             next,
+            begin,
             last: self.last,
             seen: self.seen | bit(site, bytes),
         }
@@ -42,6 +51,7 @@ impl Hint {
     pub(crate) fn pushed(self, site: Site, bytes: ByteSet, number: u32) -> Hint {
         Hint {
             next: self.next,
+            begin: self.begin,
             last: number,
             seen: self.seen | bit(site, bytes),
         }

@@ -159,9 +159,10 @@ impl Page {
         ensures { IsSpot self.now.firsts.items self.now.entries.items place 0 own.now result }
     {
         let hint = self.hint(place);
-        if let Some(index) = self.index_of(hint.next, place)
-            && self.entries[index].latest.is_alike(own.site, own.bytes)
-        {
+        if let Some(index) = self.alike_at(hint.next, place, own) {
+            return Spot::At(index);
+        }
+        if let Some(index) = self.alike_at(hint.begin, place, own) {
             return Spot::At(index);
         }
         if !hint.may_have(own.site, own.bytes)
@@ -171,6 +172,18 @@ impl Page {
             return Spot::After(index);
         }
         self.spot(place, own)
+    }
+
+    /// The index of the entry of a number, if it is of the word at a place, with the same bytes by the same instruction as an access.
+    fn alike_at(&self, number: u32, place: usize, own: &Latest) -> Option<usize>
+        ensures { IfSome result (λ index. (entry : Kept) × IsAt self.now.entries.items index entry × (entry.place ≡ place) × GivesWay entry.latest own.now) }
+    {
+        let index = self.index_of(number, place)?;
+        if self.entries[index].latest.is_alike(own.site, own.bytes) {
+            Some(index)
+        } else {
+            None
+        }
     }
 
     /// The index of the entry of a number, if it is one of the word at a place.
@@ -250,7 +263,10 @@ impl Page {
         };
         let place = entry.place as usize;
         let hint = self.hint(place);
-        self.set_hint(place, hint.replaced(own.site, own.bytes, entry.next));
+        self.set_hint(
+            place,
+            hint.replaced(own.site, own.bytes, number_of(index), entry.next),
+        );
     }
 
     /// Keeps an access after the one at an index, the last one of its word.
@@ -321,6 +337,11 @@ impl Page {
             number = entry.next;
         }
     }
+}
+
+/// The number of the entry at an index.
+fn number_of(index: usize) -> u32 {
+    (index % MOST_ENTRIES) as u32 + 1
 }
 
 /// The place of a word on a page, or 0 if it is before that. The page's first word has this number.
