@@ -1,10 +1,9 @@
 -- The accesses that are kept of a word, with one step more at the end.
-use Rattle.std.proofs.Common.{◌≡◌, ℕ, zero, suc, ◌+◌, ◌≤◌, ◌<◌, Bool, true, false, not, cond, Option, Some, None, List, [], ◌∷◌, ◌++◌, length, filter, get_or, set, refl, sym, ◌∙◌, ap, subst, arith, ⊎_elim, inl, inr}
-use Rattle.std.specs.Prelude.{◌⊎◌, ◌↔◌, Contains, IsTrue, MatchOption}
-use Rattle.std.specs.Option.{option_to_list}
-use Rattle.std.proofs.lemmas.Bool.{cases_lt, cases_eq}
-use Rattle.std.proofs.lemmas.List.{get_or-set_same, get_or-set_other, get_or_default, length_push}
-use Rattle.std.proofs.lemmas.List.Elements.{All-contains, All-contains_itself, All-filter, Contains-append_cases, Contains-append_left, Contains-append_right, Contains-push, Contains-push_cases}
+use Rattle.std.proofs.Common.{◌≡◌, ℕ, zero, suc, ◌<◌, Bool, true, false, not, List, [], ◌∷◌, ◌++◌, length, refl, sym, ◌∙◌, ap, subst, arith, ⊎_elim, inl, inr}
+use Rattle.std.specs.Prelude.{◌⊎◌, ◌↔◌, Contains}
+use Rattle.std.proofs.lemmas.Bool.{cases_lt}
+use Rattle.std.proofs.lemmas.List.{length_push}
+use Rattle.std.proofs.lemmas.List.Elements.{Contains-append_cases, Contains-append_left, Contains-append_right, Contains-push, Contains-push_cases}
 use Rattle.races.specs.Before.{at}
 use Rattle.races.specs.Bytes.{has, is_none}
 use Rattle.races.specs.Clocks.{Reaches}
@@ -21,7 +20,6 @@ use Rattle.races.specs.declared.site.Site.{Site}
 use Rattle.races.specs.declared.latest.Latest.{Latest}
 use Rattle.races.proofs.Clocked.{none_contained}
 use Rattle.races.proofs.Follow.{access_cases, access_inside, later_last, reaches_thread}
-use Rattle.races.proofs.Noting.{set_cases, set_here, set_kept}
 use Rattle.races.proofs.Order.{at_before, at_last, reaches_cases, reaches_more, reaches_own, reaches_through}
 use Rattle.races.proofs.Racing.{renews_inside, small_place}
 
@@ -244,11 +242,21 @@ latest_kept steps access old new kept knows = record { sound = sound; complete =
         ))
         (access_cases steps (Touch access) index one is)
 
+-- The same instruction of the thread accessed a byte before, at a step. Since then the byte began no new life, and only its own thread has
+-- that step in its past.
+pub record WasMade (steps : List Step) (access : Access) (place : ℕ) : Type 0 where
+  pub made : ℕ
+  pub first : Access
+  pub is : at steps made ≡ Touch first
+  pub author : IsSameAuthor first.site access.site
+  pub of : IsOf first access.word place
+  pub alive : (later : ℕ) → made < later → Renews (at steps later) access.word place → ⊥
+  pub only : (other : Place) → Reaches steps made other → Thread access.site.thread ≡ other
+
 -- what stands for an access stands for it when it is made again
-pub latest_repeated : (steps : List Step) (access : Access) (latest : List Latest) (made : ℕ) (first : Access) → at steps made ≡ Touch first → IsSameAuthor first.site access.site → ((place : ℕ) → has access.bytes place ≡ true → IsOf first access.word place)
-    → ((place later : ℕ) → has access.bytes place ≡ true → made < later → Renews (at steps later) access.word place → ⊥)
-    → ((place : Place) → Reaches steps made place → Thread access.site.thread ≡ place) → KnowsLatest steps access.word latest → KnowsLatest (steps ++ Touch access ∷ []) access.word latest
-latest_repeated steps access latest made first made_is author first_of alive_since only knows = record { sound = sound; complete = complete }
+pub latest_repeated : (steps : List Step) (access : Access) (latest : List Latest) → ((place : ℕ) → has access.bytes place ≡ true → WasMade steps access place)
+    → KnowsLatest steps access.word latest → KnowsLatest (steps ++ Touch access ∷ []) access.word latest
+latest_repeated steps access latest made_before knows = record { sound = sound; complete = complete }
   where
     more : List Step
     more = steps ++ Touch access ∷ []
@@ -263,15 +271,16 @@ latest_repeated steps access latest made first made_is author first_of alive_sin
         (λ last.
         let same : access ≡ one = cc (last.1) in
         let of_it : IsOf access access.word place = subst (λ (other : Access). IsOf other access.word place) (sym same) of in
-        let was = knows.complete made first place made_is (first_of place of_it.has_it) (λ later after. alive_since place later of_it.has_it after) in
+        let before = made_before place of_it.has_it in
+        let was = knows.complete before.made before.first place before.is before.of before.alive in
         let kept = knows.sound was.0 was.1 in
         let inside = access_inside steps was.0.step kept.access kept.is in (
           was.0,
           was.1,
-          subst (λ (other : Access). IsSameAuthor was.0.site other.site) same (author_trans was.0.site first.site access.site was.2 author),
+          subst (λ (other : Access). IsSameAuthor was.0.site other.site) same (author_trans was.0.site before.first.site access.site was.2 before.author),
           was.3,
           λ at_place reaches.
-              let released : Thread access.site.thread ≡ at_place = ⊎_elim (λ before. only at_place (was.4 at_place before)) (λ has. has.0) (reaches_cases steps (Touch access) was.0.step at_place inside reaches) in
+              let released : Thread access.site.thread ≡ at_place = ⊎_elim (λ had. before.only at_place (was.4 at_place had)) (λ has. has.0) (reaches_cases steps (Touch access) was.0.step at_place inside reaches) in
               subst (λ (n : ℕ). Reaches more n at_place) (sym last.0) (reaches_own steps (Touch access) at_place released),
         ))
         (access_cases steps (Touch access) index one is)

@@ -2,9 +2,8 @@
 use Rattle.std.proofs.Common.{◌≡◌, ℕ, zero, suc, ◌+◌, ◌-◌, ◌≤◌, ◌<◌, Bool, true, false, not, ◌&&◌, cond, List, [], ◌∷◌, ◌++◌, length, map, filter, get_or, set, refl, sym, ◌∙◌, ap, subst, arith, ⊎_elim, inl, inr}
 use Rattle.std.specs.Prelude.{◌⊎◌, ◌≢◌, ◌==◌, Contains}
 use Rattle.std.proofs.lemmas.Bool.{cases_lt, cases_eq, eq-eqb, ne_eqb}
-use Rattle.std.proofs.lemmas.Bool.Decides.{nat_tests}
 use Rattle.std.proofs.lemmas.List.{get_or-set_same, get_or-set_other, get_or_default, length-set, length_push}
-use Rattle.std.proofs.lemmas.List.Elements.{Contains-append_left, Contains-append_right, Contains-push, Contains-push_cases}
+use Rattle.std.proofs.lemmas.List.Elements.{Contains-append_left, Contains-push}
 use Rattle.races.specs.Bytes.{has}
 use Rattle.races.specs.Linked.{AreLinked, GivesWay, IsAt, IsCleared, IsErased, IsFirst, latest_in, left_of}
 use Rattle.races.specs.Steps.{IsSameAuthor, Step}
@@ -66,9 +65,6 @@ push_at_cases entries new at entry (there, is) =
     (cases_lt at (length entries))
 
 -- ---- what is kept of a word
-
-more_if : (b : Bool) (entry : Entry) (kept : List Entry) → Bool → List Latest
-more_if b entry kept c = map (λ one. one.latest) (cond b (entry ∷ kept) kept)
 
 in_head : (entry : Entry) (entries : List Entry) (place : ℕ) → entry.place ≡ place → latest_in (entry ∷ entries) place ≡ entry.latest ∷ latest_in entries place
 in_head entry entries place is = ap (λ (b : Bool). map (λ one. one.latest) (cond b (entry ∷ filter (λ one. one.place == place) entries) (filter (λ one. one.place == place) entries))) (eq-eqb entry.place place is)

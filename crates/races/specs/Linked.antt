@@ -1,5 +1,5 @@
 -- How the accesses that are kept of a page's words are linked. An entry's number is its index and one more, so that 0 stands for none.
-use Rattle.std.specs.Prelude.{◌≡◌, ◌≢◌, ℕ, ◌+◌, ◌-◌, ◌<◌, ◌≤◌, ◌==◌, ◌&&◌, ◌⊎◌, true, not, List, Contains, length, map, slice_index_or, suc, zero}
+use Rattle.std.specs.Prelude.{◌≡◌, ◌≢◌, ℕ, ◌+◌, ◌-◌, ◌<◌, ◌≤◌, ◌==◌, ◌&&◌, true, not, List, Contains, length, map, slice_index_or, suc, zero}
 use Rattle.std.specs.List.{filter}
 use Rattle.races.specs.Bytes.{has}
 use Rattle.races.specs.declared.byte_set.ByteSet.{ByteSet}

@@ -1,5 +1,5 @@
 //! Which threads accessed some words that follow each other.
-ghost use Rattle.std.specs.Prelude.{◌≡◌, ◌≢◌, ◌<◌, ◌≤◌, IsTrue};
+ghost use Rattle.std.specs.Prelude.{◌≡◌, ◌≢◌, ◌<◌, ◌≤◌, ◌⊎◌, IsTrue, true, false};
 ghost use Rattle.races.specs.Blocks.{IsKnown};
 ghost use Rattle.races.specs.Clocks.{time_of};
 ghost use Rattle.races.specs.declared.latest.Latest.{Latest};
@@ -53,15 +53,24 @@ impl Block {
         !self.has_other || self.until < clocks.time(thread, self.other)
     }
 
-    /// The block once a thread accesses it, in the step of this index.
-    pub(crate) fn taken_by(self, thread: u8, step: u64) -> Block
-        ensures kept { (past : Latest) → IsKnown self past → IsKnown result past }
-        ensures own { (past : Latest) → past.site.thread ≡ thread → past.step ≡ step → IsKnown result past }
+    /// A thread accesses it, in the step of this index.
+    pub(crate) fn take(&mut self, thread: u8, step: u64)
+        ensures kept { (past : Latest) → IsKnown self.old past → IsKnown self.new past }
+        ensures own { (past : Latest) → past.site.thread ≡ thread → past.step ≡ step → IsKnown self.new past }
     {
-        let last = self.last.max(step);
-        if self.is_used && self.owner == thread {
-            return Block { last, ..self };
+        if !self.is_used || self.owner != thread {
+            *self = self.given_to(thread);
         }
+        self.last = self.last.max(step);
+    }
+
+    /// The block with a thread as its owner, which it was not.
+    fn given_to(self, thread: u8) -> Block
+        requires { (self.is_used ≡ false) ⊎ (self.owner ≢ thread) }
+        ensures kept { (past : Latest) → IsKnown self past → IsKnown result past }
+        ensures used { result.is_used ≡ true }
+        ensures owner { result.owner ≡ thread }
+    {
         Block {
             is_used: true,
             owner: thread,
@@ -69,7 +78,7 @@ impl Block {
             other: self.owner,
             is_shared: self.is_shared || self.has_other && self.other != thread,
             until: self.last,
-            last,
+            last: self.last,
         }
     }
 }

@@ -1,5 +1,5 @@
 //! Which of a word's four bytes.
-ghost use Rattle.std.specs.Prelude.{◌≡◌, ℕ, ◌&&◌, ◌||◌, IsTrue, not};
+ghost use Rattle.std.specs.Prelude.{◌≡◌, ℕ, ◌&&◌, ◌||◌, IsTrue, not, true};
 ghost use Rattle.races.specs.Bytes.{has, is_none};
 
 /// Some of a word's four bytes, which stand at the places 0 to 3.
@@ -49,6 +49,22 @@ impl ByteSet {
         } else {
             3
         }
+    }
+
+    /// Whether each byte is in the other set.
+    pub(crate) fn is_within(self, other: ByteSet) -> bool
+        ensures { IsTrue result → (place : ℕ) → has self place ≡ true → has other place ≡ true }
+    {
+        (!self.first || other.first)
+            && (!self.second || other.second)
+            && (!self.third || other.third)
+            && (!self.fourth || other.fourth)
+    }
+
+    /// A small number, another one for each byte alone.
+    #[inline(always)]
+    pub(crate) fn mixed(self) -> u32 {
+        u32::from(self.second) + 2 * u32::from(self.third) + 3 * u32::from(self.fourth)
     }
 
     /// The bytes that are in both.

@@ -27,21 +27,19 @@ impl Hint {
         }
     }
 
-    /// Whether the word may have an entry of these bytes by this instruction. If not, it has none.
+    /// Whether the word may have an entry of these bytes by this instruction.
     pub(crate) fn may_have(self, site: Site, bytes: ByteSet) -> bool {
         self.seen & bit(site, bytes) != 0
     }
 
     /// The hint once such an access is kept in the place of the entry of this number, which leads to another one.
     pub(crate) fn replaced(self, site: Site, bytes: ByteSet, number: u32, next: u32) -> Hint {
-        let begin = if number == self.next {
-            self.begin
-        } else {
-            number
-        };
+        if number == self.next {
+            return Hint { next, ..self };
+        }
         Hint {
             next,
-            begin,
+            begin: number,
             last: self.last,
             seen: self.seen | bit(site, bytes),
         }
@@ -60,7 +58,7 @@ impl Hint {
 
 /// The bit of an instruction with its bytes.
 fn bit(site: Site, bytes: ByteSet) -> u64 {
-    let place = u32::from(bytes.lowest()).wrapping_mul(11);
+    let place = bytes.mixed().wrapping_mul(11);
     let thread = u32::from(site.thread).wrapping_mul(23);
     let mixed = (site.pc / 4).wrapping_add(place).wrapping_add(thread);
     1 << (mixed % 64)

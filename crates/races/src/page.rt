@@ -140,7 +140,7 @@ impl Page {
     {
         let index = place / BLOCK_WORDS;
         if index < self.blocks.len() {
-            self.blocks[index] = self.blocks[index].taken_by(own.site.thread, own.step);
+            self.blocks[index].take(own.site.thread, own.step);
         }
     }
 
@@ -255,17 +255,13 @@ impl Page {
         ensures own { (entry : Kept) → IsAt self.old.entries.items index entry → IsKept own (latest_in self.old.entries.items entry.place) (latest_in self.new.entries.items entry.place) }
         ensures others { (entry : Kept) (other : ℕ) → IsAt self.old.entries.items index entry → (entry.place ≡ other → ⊥) → latest_in self.new.entries.items other ≡ latest_in self.old.entries.items other }
     {
-        let entry = self.entries[index];
-        self.entries[index] = Entry {
-            latest: own,
-            place: entry.place,
-            next: entry.next,
-        };
-        let place = entry.place as usize;
+        let Entry { place, next, .. } = self.entries[index];
+        self.entries[index].latest = own;
+        let place = place as usize;
         let hint = self.hint(place);
         self.set_hint(
             place,
-            hint.replaced(own.site, own.bytes, number_of(index), entry.next),
+            hint.replaced(own.site, own.bytes, number_of(index), next),
         );
     }
 
@@ -276,18 +272,14 @@ impl Page {
         ensures others { OnOk result ((entry : Kept) (other : ℕ) → IsAt self.old.entries.items index entry → (entry.place ≡ other → ⊥) → latest_in self.new.entries.items other ≡ latest_in self.old.entries.items other) }
     {
         let number = self.next_number()?;
-        let last = self.entries[index];
+        let place = self.entries[index].place;
         self.entries.push(Entry {
             latest: own,
-            place: last.place,
+            place,
             next: 0,
         })?;
-        self.entries[index] = Entry {
-            latest: last.latest,
-            place: last.place,
-            next: number,
-        };
-        let place = last.place as usize;
+        self.entries[index].next = number;
+        let place = place as usize;
         let hint = self.hint(place);
         self.set_hint(place, hint.pushed(own.site, own.bytes, number));
         Ok(())

@@ -1,6 +1,6 @@
 //! The accesses that were told lately, some of them.
 ghost use Rattle.std.specs.Prelude.{◌≡◌, ◌≤◌, ◌⊎◌, [], Contains, IsTrue};
-ghost use Rattle.races.specs.Recent.{IsSlotOf};
+ghost use Rattle.races.specs.Recent.{IsRecent, IsSlotOf};
 ghost use Rattle.races.specs.declared.slot.Slot.{Slot as Told};
 
 use crate::site::Access;
@@ -16,8 +16,9 @@ const SPREAD: u32 = 0x9e37_79b1;
 
 /// Some of the accesses that were told lately: an access that is made again is mostly among them.
 ///
-/// Each access has one slot, by its word and its instruction, which it shares with others. Slots become more as accesses are
-/// told, so that a short run has few. If there is no memory for more, those that are there are used on.
+/// Each access has one slot, by its word and its instruction, which it shares with others. Bytes of the word that its instruction accesses one
+/// after another in one turn are in it together. Slots become more as accesses are told, so that a short run has few. If there is no memory
+/// for more, those that are there are used on.
 #[derive(Drop)]
 pub(crate) struct Recent {
     alloc: Global,
@@ -46,10 +47,10 @@ impl Recent {
         }
     }
 
-    /// Whether an access is one of those that count, made again in its turn.
+    /// Whether the bytes of an access are just those of a slot that counts, by the same instruction in the same turn.
     #[inline(always)]
-    pub(crate) fn has(&self, access: &Access) -> bool
-        ensures { IsTrue result → (slot : Told) × Contains self.now.slots.items slot × (slot.access ≡ access.now) × (self.now.since ≤ slot.step) }
+    pub(crate) fn has_exactly(&self, access: &Access) -> bool
+        ensures { IsTrue result → IsRecent self.now access.now }
     {
         match self.slots.get(self.place_of(access)) {
             Some(slot) => slot.is_of(access) && self.since <= slot.step,
@@ -57,19 +58,26 @@ impl Recent {
         }
     }
 
+    /// Whether the bytes of an access are among those of a slot that counts, by the same instruction in the same turn.
+    pub(crate) fn has(&self, access: &Access) -> bool
+        ensures { IsTrue result → IsRecent self.now access.now }
+    {
+        match self.slots.get(self.place_of(access)) {
+            Some(slot) => slot.has(access) && self.since <= slot.step,
+            None => false,
+        }
+    }
+
     /// Notes an access, the step of this index.
     pub(crate) fn note(&mut self, access: &Access, step: u64)
-        ensures noted { (slot : Told) → Contains self.new.slots.items slot → IsSlotOf self.old.slots.items access.now step slot }
+        ensures noted { (slot : Told) → Contains self.new.slots.items slot → IsSlotOf self.old.slots.items self.old.since access.now step slot }
         ensures since { self.new.since ≡ self.old.since }
     {
         self.make_room();
         self.noted = self.noted.saturating_add(1);
         let place = self.place_of(access);
         if place < self.slots.len() {
-            self.slots[place] = Slot {
-                access: *access,
-                step,
-            };
+            self.slots[place] = self.slots[place].taken_by(access, step, self.since);
         }
     }
 

@@ -45,13 +45,13 @@ impl Steps {
         })
     }
 
-    /// Whether an access is one of the recent ones, made again. Then it is a step more, and nothing is kept of it.
+    /// Whether an access is known at one look to be one of the recent ones, made again. Then it is a step more, and nothing is kept of it.
     #[inline(always)]
     pub(crate) fn is_repeated(&mut self, access: &Access) -> bool
         ensures again { IsTrue result → (steps : List Step) → KnowsSteps self.old steps → KnowsSteps self.new (steps ++ Touch access.now ∷ []) }
         ensures stays { IsFalse result → self.new ≡ self.old }
     {
-        if self.count >= MOST_STEPS || !self.recent.has(access) {
+        if self.count >= MOST_STEPS || !self.recent.has_exactly(access) {
             return false;
         }
         self.count += 1;
@@ -63,6 +63,10 @@ impl Steps {
         ensures { OnOk result ((steps : List Step) → KnowsSteps self.old steps → KnowsSteps self.new (steps ++ Touch access.now ∷ [])) }
     {
         let more = self.more()?;
+        if self.recent.has(access) {
+            self.count = more;
+            return Ok(());
+        }
         self.words.touch(access, self.count, &self.clocks)?;
         self.recent.note(access, self.count);
         self.count = more;

@@ -1,4 +1,4 @@
-use Rattle.std.proofs.Common.{◌≡◌, ◌-◌, ◌<◌, ◌∙◌, ℕ, ap, arith, length, refl, subst, sym}
+use Rattle.std.proofs.Common.{◌≡◌, ◌-◌, ◌∙◌, ℕ, ap, arith, refl, subst, sym}
 use Rattle.std.specs.Prelude.{◌≢◌}
 use Rattle.races.specs.Linked.{IsAt}
 use Rattle.races.specs.declared.entry.Entry.{Entry}

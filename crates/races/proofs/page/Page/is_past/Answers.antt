@@ -1,4 +1,4 @@
-use Rattle.std.proofs.Common.{◌≡◌, ◌/◌, ◌<◌, ℕ, arith, length, subst, sym}
+use Rattle.std.proofs.Common.{◌/◌, ◌<◌, ℕ, arith, length, subst, sym}
 use Rattle.races.specs.Blocks.{IsBlockOf, IsKnown}
 use Rattle.races.specs.declared.block.Block.{Block}
 use Rattle.races.specs.declared.latest.Latest.{Latest}

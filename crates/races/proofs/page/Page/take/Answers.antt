@@ -11,11 +11,11 @@ invariant_of-self c =
     let long = page.blocks.ok.0 in
     let is_len = c.len.ensures in
     let inside : index < length blocks = omega (arith, c.if-index-len.true) in
-    let was : Block = c.index.result.now in
+    let was : Block = c.index_mut.result.now in
     record {
       sized = page.sized;
       linked = page.linked;
-      known = known_taken blocks page.entries.items index was c.taken_by.result inside c.index.ensures c.taken_by.ensures.kept page.known;
+      known = known_taken blocks page.entries.items index was c.take.new.self inside c.index_mut.ensures.value c.take.ensures.kept page.known;
     }
 
 pub returns-then-index-len-clause-may : goal.returns-then-index-len-clause-may
@@ -25,4 +25,4 @@ returns-then-index-len-clause-may c = λ block of.
     let long = page.blocks.ok.0 in
     let is_len = c.len.ensures in
     let inside : index < length page.blocks.items = omega (arith, c.if-index-len.true) in
-    own_taken page.blocks.items index c.taken_by.result c.args.own.now inside (c.taken_by.ensures.own c.args.own.now refl refl) block of
+    own_taken page.blocks.items index c.take.new.self c.args.own.now inside (c.take.ensures.own c.args.own.now refl refl) block of
