@@ -1,5 +1,5 @@
 //! Runs of files, with their texts put where they are to be.
-ghost use Rattle.std.specs.Prelude.{◌≡◌, ◌+◌, ◌-◌, ◌^◌, ◌<◌, [], IfSome, is_some};
+ghost use Rattle.std.specs.Prelude.{◌≡◌, ◌+◌, ◌-◌, ◌^◌, ◌<◌, [], IfSome, OnOk, is_some, false};
 ghost use Rattle.output_files.specs.Content.{Tells};
 ghost use Rattle.output_files.specs.Taken.{TakesAtMost};
 ghost use Rattle.run_limits.specs.Limits as limit;
@@ -37,6 +37,7 @@ pub fn run_file<'a, H: Threads + Wait + Sync, F: Files, R: Read, W: Write>(
     ensures input { TakesAtMost (limit.input + 1) (R.remaining stdin.old) (R.remaining stdin.new) }
     ensures answer { RunsInto (Tells F.Output.contents) (run_of file.entry (F.is_same files.old) (R.remaining stdin.old) config.now records.now)
         (host_of F.content W.contents files.old stdout.old) (host_of F.content W.contents files.new stdout.new) result }
+    ensures whole { OnOk result (stdout.new.is_lost ≡ false) }
     ensures unnamed { NamesNone records.now → files.new ≡ files.old }
 {
     if let Some((one, other)) = named_twice(alloc, file, records, files)? {
@@ -64,6 +65,7 @@ fn run_opened_file<'a, H: Threads + Wait + Sync, F: Files, W: Write>(
         → Concludes (Tells F.Output.contents) records.now symbols
         (host_of F.content W.contents files.old stdout.old) (host_of F.content W.contents files.new stdout.new)
         (point_of opened.start).setup result }
+    ensures whole { OnOk result (stdout.new.is_lost ≡ false) }
     ensures unnamed { NamesNone records.now → files.new ≡ files.old }
 {
     one_history();

@@ -1,5 +1,5 @@
 //! The command `run`: opens a file and its input, and runs them to their end.
-ghost use Rattle.std.specs.Prelude.{◌≡◌, ◌⊎◌, ◌+◌, [], IfErr, IfOk, OnErr, is_some, true};
+ghost use Rattle.std.specs.Prelude.{◌≡◌, ◌⊎◌, ◌+◌, [], IfErr, IfOk, OnErr, OnOk, is_some, true, false};
 ghost use Rattle.std.specs.Io.KnownBytes.{Appends};
 ghost use Rattle.output_files.specs.Content.{Content};
 ghost use Rattle.output_files.specs.Taken.{TakesAtMost};
@@ -9,6 +9,7 @@ ghost use Rattle.runtime.specs.Sending.{CountsFailures, SendsSoFar};
 ghost use Rattle.runtime.specs.declared.interruption.Interruption.TheVariants as stop;
 ghost use Rattle.token.specs.RunInTurn.{point_of};
 ghost use Rattle.command_outputs.specs.Recorders.{AreFor, AreSame, AreTold, Writes};
+ghost use Rattle.command_run.specs.Failure.{HasTimelineFailed};
 ghost use Rattle.observed_run.specs.Runs.{MayBegin};
 ghost use Rattle.command_run.specs.Observing.{AreFound};
 ghost use Rattle.command_run.specs.Serves.{AreRun, AreOpenedFrom, IsOpenedFrom, IsRefused, IsStopped, IsUnrun};
@@ -124,6 +125,7 @@ pub fn run_start<'a, H: Threads + Wait + Sync, O: Write, W: Write>(
     ensures races { IfOk result.result (λ ended. AreFound (is_some records.now.races) (point_of start).setup ended.1.items) }
     ensures same { AreSame recorders result.recorders }
     ensures sent { IfOk result.result (λ ended. Appends (W.contents stdout.old.writer) (W.contents stdout.new.writer) ended.0.output.items) }
+    ensures whole { OnOk result.result (stdout.new.is_lost ≡ false) }
     ensures stopped { IfErr result.result (λ failure. (files files' : Content) → IsStopped records.now.trace records.now.timeline (point_of start).setup
         (record { files = files; output = W.contents stdout.old.writer; failures = stdout.old.failures })
         (record { files = files'; output = W.contents stdout.new.writer; failures = stdout.new.failures }) failure) }
@@ -158,6 +160,8 @@ fn unwritten_destination<'a, O: Write>(
     recorders: &TextRecorders<O>,
 ) -> Option<Destination<'a>>
     requires { AreFor records.now recorders.now }
+    ensures timeline { HasTimelineFailed recorders.now → result ≡ records.now.timeline }
+    ensures trace { (HasTimelineFailed recorders.now → ⊥) → is_some records.now.trace ≡ true → result ≡ records.now.trace }
     ensures among { (result ≡ records.now.trace) ⊎ (result ≡ records.now.timeline) }
     ensures some { Writes recorders.now → is_some result ≡ true }
 {
