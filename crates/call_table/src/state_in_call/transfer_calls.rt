@@ -100,6 +100,7 @@ fn run_length(address: u32, count: u32) -> u32
     ensures some { 0 < result }
     ensures within { result ≤ count }
     ensures inside { address % layout.page_size + result ≤ layout.page_size }
+    ensures exact { result ≡ min count (layout.page_size - address % layout.page_size) }
 {
     count.min(PAGE_SIZE - address % PAGE_SIZE)
 }
