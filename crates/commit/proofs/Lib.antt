@@ -6,5 +6,6 @@ mod ByteMaps
 mod Merges
 mod Parts
 mod Growing
+mod OneGroup
 mod Comparing
 mod Viewed

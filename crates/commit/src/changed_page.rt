@@ -3,13 +3,13 @@ ghost use Rattle.std.specs.Prelude.{◌≡◌, ◌^◌, ◌<◌, [], ◌∷◌, 
 ghost use Rattle.std.specs.Arc.{arc_value};
 ghost use Rattle.guest_memory.specs.Layout.{page_size};
 ghost use Rattle.paged_memory.specs.Page.{PageValue};
-ghost use Rattle.commit.specs.Bytes.{differing_count, merged_bytes};
+ghost use Rattle.commit.specs.Bytes.{merged_bytes};
+ghost use Rattle.commit.specs.Groups.{IsComparison};
 ghost use Rattle.commit.specs.Mine.{bytes_left};
 ghost use Rattle.commit.specs.Patched.{PageChange};
 
 use crate::comparison::Comparison;
-use crate::group::Group;
-use crate::kernels::{count_group, count_page, merge_page, push_differing};
+use crate::kernels::{count_page, merge_page, push_differing};
 use crate::mine::Mine;
 use guest_memory::layout::PAGE_SIZE;
 use paged_memory::{Page, Snapshot};
@@ -40,8 +40,7 @@ impl ChangedPage {
     ghost use Rattle.commit.specs.Patched.{patched, addresses_in};
     ghost use Rattle.paged_memory.specs.Snapshot.{cells_of, pages_of};
 
-    /// A page as a thread found it and as it left it. Where all bytes that differ are of one group, only that
-    /// group is kept.
+    /// A page as a thread found it and as it left it.
     pub(crate) fn new(
         alloc: Global,
         number: u32,
@@ -50,18 +49,14 @@ impl ChangedPage {
         found: Comparison,
     ) -> Result<Self, AllocError>
         requires number { number < 2 ^ 20 }
-        requires found { found.count ≡ differing_count (arc_value copy.now).bytes mine.now.bytes }
+        requires found { IsComparison (arc_value copy.now).bytes mine.now.bytes found }
         ensures { IfOk result (λ page. page ≡ record { number = number; copy = (arc_value copy.now).bytes; mine = mine.now.bytes }) }
     {
-        let left = if count_group(copy.bytes(), mine.bytes(), found.last) == found.count {
-            Mine::Group(Group::of(mine.bytes(), found.last))
-        } else {
-            Mine::Page(Arc::new(alloc, *mine)?)
-        };
+        let mine = Mine::of(alloc, copy, mine, found)?;
         Ok(ChangedPage {
             number,
             copy: Arc::try_clone(copy)?,
-            mine: left,
+            mine,
         })
     }
 

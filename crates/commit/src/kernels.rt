@@ -5,6 +5,7 @@
 ghost use Rattle.std.specs.Prelude.{◌≡◌, ◌+◌, ◌%◌, ◌^◌, ◌≤◌, ◌++◌, OnOk, true, bit_xor, length};
 ghost use Rattle.std.specs.Simd.Lanes.{chunk, put_chunk, zip2};
 ghost use Rattle.commit.specs.Bytes.{differing_count, differing_from, merged_bytes};
+ghost use Rattle.commit.specs.Groups.{IsComparison};
 
 use crate::comparison::Comparison;
 use guest_memory::layout::PAGE_SIZE;
@@ -35,7 +36,7 @@ pub fn count_page(copy: &[u8; PAGE_BYTES], mine: &[u8; PAGE_BYTES]) -> u32
 
 /// How many bytes of two pages differ, and where the last group of such bytes begins.
 pub(crate) fn compare_page(copy: &[u8; PAGE_BYTES], mine: &[u8; PAGE_BYTES]) -> Comparison
-    ensures { result.count ≡ differing_count copy.now mine.now }
+    ensures { IsComparison copy.now mine.now result }
 {
     let mut count = 0;
     let mut last = 0;

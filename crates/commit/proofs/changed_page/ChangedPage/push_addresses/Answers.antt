@@ -1,11 +1,10 @@
-use Rattle.std.proofs.Common.{◌≡◌, ℕ, ◌+◌, ◌*◌, ◌≤◌, List, ◌++◌, Result, Ok, Err, length, refl, sym, ◌∙◌, ap, ap₂, arith}
+use Rattle.std.proofs.Common.{◌≡◌, ℕ, ◌+◌, ◌*◌, ◌≤◌, List, ◌++◌, Result, Ok, Err, length, ◌∙◌, ap, ap₂, arith}
 use Rattle.std.specs.Prelude.{OnOk}
 use Rattle.std.specs.Arc.{arc_value}
 use Rattle.paged_memory.specs.Page.{PageValue}
 use lib.Lanes.{chunk}
 use Rattle.commit.specs.Bytes.{differing_from}
 use Rattle.commit.specs.Mine.{bytes_left}
-use Rattle.commit.specs.Patched.{PageChange, addresses_in}
 use Rattle.commit.proofs.Parts.{differing-part, length-part}
 use Rattle.commit.proofs.changed_page.ChangedPage.push_addresses.Goals as goal
 

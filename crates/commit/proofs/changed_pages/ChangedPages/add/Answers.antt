@@ -20,7 +20,7 @@ invariant_of-self-then-found-gt0 c =
     let items : c.push.new.self.items ≡ c.self.inside.pages.items ++ change ∷ [] =
     c.in_ok-push.ensures.items ∙ ap (λ (one : PageChange). c.self.inside.pages.items ++ one ∷ []) c.in_ok-page.ensures in
     let copied : c.bytes.result.now ≡ change.copy = c.bytes.ensures.bytes ∙ ap (λ (value : PageValue). value.bytes) c.deref.ensures in
-    let count : c.from.result ≡ differing_count change.copy change.mine = rw (c.from.ensures, c.compare_page-found.ensures, copied, c.bytes-2.ensures.bytes) refl in
+    let count : c.from.result ≡ differing_count change.copy change.mine = rw (c.from.ensures, c.compare_page-found.ensures.count_is, copied, c.bytes-2.ensures.bytes) refl in
     rw (items, count)
     (AreCounted-more c.self.inside.pages.items change c.self.inside.count c.self.invariant (rw c.self.view_is c.requires.below) c.requires.number
     (rw (← c.deref.ensures) c.bytes.ensures.size) c.bytes-2.ensures.size)
@@ -35,7 +35,7 @@ returns-in_ok-push-clause-added c address =
 pub returns-else-found-gt0-clause-added : goal.returns-else-found-gt0-clause-added
 returns-else-found-gt0-clause-added c address =
     let copied : c.bytes.result.now ≡ (arc_value c.args.copy.now).bytes = c.bytes.ensures.bytes ∙ ap (λ (value : PageValue). value.bytes) c.deref.ensures in
-    let none : differing_count (arc_value c.args.copy.now).bytes c.args.mine.now.bytes ≡ 0 = rw (← copied, ← c.bytes-2.ensures.bytes) (omega arith) in
+    let none : differing_count (arc_value c.args.copy.now).bytes c.args.mine.now.bytes ≡ 0 = rw (← copied, ← c.bytes-2.ensures.bytes, ← c.compare_page-found.ensures.count_is) (omega arith) in
     let size : length (arc_value c.args.copy.now).bytes ≡ 4096 = rw (← c.deref.ensures) c.bytes.ensures.size in
     patched-same c.args.self.now c.args.number (λ place. changed_byte (slice_index (arc_value c.args.copy.now).bytes (place % 4096)) (slice_index c.args.mine.now.bytes (place % 4096)))
     c.requires.below (λ place here. changed_byte-none (arc_value c.args.copy.now).bytes c.args.mine.now.bytes (size ∙ sym c.bytes-2.ensures.size) none (place % 4096)) address
