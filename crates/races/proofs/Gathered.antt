@@ -11,12 +11,11 @@ use Rattle.std.proofs.lemmas.Map.Lookups.{exact_unsigned}
 use Rattle.std.proofs.lemmas.Map.Views.{btree_map_get_iff}
 use Rattle.races.specs.Races.{AreRaces, AreRacing, IsRace, IsToldBy}
 use Rattle.races.specs.Steps.{Step}
-use Rattle.races.specs.Words.{KnowsWords, KnowsFound, found_by, race_of, told_at, told_of}
+use Rattle.races.specs.Words.{KnowsWords, KnowsFound, PageList, found_by, race_of, told_at, told_of}
 use Rattle.races.specs.declared.race.Race.{Race}
 use Rattle.races.specs.declared.site.Access.{Access}
 use Rattle.races.specs.declared.told.Told.{Told}
 use Rattle.races.specs.declared.found.Found.{Found}
-use Rattle.races.specs.declared.page.Page.{Page}
 use Rattle.races.specs.declared.word_races.WordRaces.{WordRaces}
 use Rattle.races.proofs.Clocked.{none_contained}
 use Rattle.races.proofs.Kept.{contains_cases}
@@ -75,7 +74,7 @@ found_in : (words : BTreeMap ℕ WordRaces) (number : ℕ) (kept : Option WordRa
 found_in words number None found is ordered among = absurd (none_contained found among)
 found_in words number (Some word) found is ordered among = told_into words.entries number word found ((btree_map_get_iff nat_cmp_total exact_unsigned words ordered number word).0 is) among
 
-pub told_races : (steps : List Step) (pages : List Page) (words : BTreeMap ℕ WordRaces) → IsOrdered nat_cmp words → KnowsWords steps pages words → (sorted : List Told) → IsPermutation (told_of words.entries) sorted
+pub told_races : (steps : List Step) (pages : PageList) (words : BTreeMap ℕ WordRaces) → IsOrdered nat_cmp words → KnowsWords steps pages words → (sorted : List Told) → IsPermutation (told_of words.entries) sorted
     → AreRaces steps (map (λ (one : Told). one.race) sorted)
 told_races steps pages words ordered knows sorted permuted = record { sound = sound; complete = complete }
   where

@@ -7,10 +7,9 @@ use Rattle.std.proofs.lemmas.Bool.{cases_eq, eq-eqb, ne_eqb}
 use Rattle.races.specs.Races.{Renews}
 use Rattle.races.specs.Steps.{Step}
 use Rattle.races.specs.Steps.Step.{Touch, Renew}
-use Rattle.races.specs.Words.{IsRenewed, KnowsWord, KnowsWords, found_at, latest_at}
+use Rattle.races.specs.Words.{IsRenewed, KnowsWord, KnowsWords, PageList, found_at, latest_at}
 use Rattle.races.specs.declared.found.Found.{Found}
 use Rattle.races.specs.declared.latest.Latest.{Latest}
-use Rattle.races.specs.declared.page.Page.{Page}
 use Rattle.races.specs.declared.race_map.RaceMap.{RaceMap}
 use Rattle.races.specs.declared.site.Access.{Access}
 use Rattle.races.specs.declared.word_races.WordRaces.{WordRaces}
@@ -27,13 +26,13 @@ word_other steps step word latest found not_of not_renews knows = record {
 }
 
 -- what is kept of each word stays
-pub words_same : (steps : List Step) (old new : List Page) (was now : RaceMap) → ((word : ℕ) → latest_at new word ≡ latest_at old word) → now ≡ was → KnowsWords steps old was.words → KnowsWords steps new now.words
+pub words_same : (steps : List Step) (old new : PageList) (was now : RaceMap) → ((word : ℕ) → latest_at new word ≡ latest_at old word) → now ≡ was → KnowsWords steps old was.words → KnowsWords steps new now.words
 words_same steps old new was now stays same knows word =
     subst (λ (latest : List Latest). KnowsWord steps word latest (found_at now.words word)) (sym (stays word))
     (subst (λ (races : RaceMap). KnowsWord steps word (latest_at old word) (found_at races.words word)) (sym same) (knows word))
 
 -- an order changes no word
-pub words_ordered : (steps : List Step) (step : Step) (pages : List Page) (races : BTreeMap ℕ WordRaces) → ((access : Access) → step ≡ Touch access → ⊥) → ((word place : ℕ) → Renews step word place → ⊥) → KnowsWords steps pages races
+pub words_ordered : (steps : List Step) (step : Step) (pages : PageList) (races : BTreeMap ℕ WordRaces) → ((access : Access) → step ≡ Touch access → ⊥) → ((word place : ℕ) → Renews step word place → ⊥) → KnowsWords steps pages races
     → KnowsWords (steps ++ step ∷ []) pages races
 words_ordered steps step pages races no_access no_renewal knows word = word_other steps step word _ _ (λ access is of. no_access access is) (λ place small. no_renewal word place) (knows word)
 
@@ -44,7 +43,7 @@ words_none word = record {
 }
 
 -- the word that an access is of, and the others
-pub words_touched : (steps : List Step) (access : Access) (old new : List Page) (was now : BTreeMap ℕ WordRaces) → KnowsWord (steps ++ Touch access ∷ []) access.word (latest_at new access.word) (found_at now access.word)
+pub words_touched : (steps : List Step) (access : Access) (old new : PageList) (was now : BTreeMap ℕ WordRaces) → KnowsWord (steps ++ Touch access ∷ []) access.word (latest_at new access.word) (found_at now access.word)
     → ((other : ℕ) → (access.word ≡ other → ⊥) → latest_at new other ≡ latest_at old other) → ((other : ℕ) → (access.word ≡ other → ⊥) → found_at now other ≡ found_at was other) → KnowsWords steps old was
     → KnowsWords (steps ++ Touch access ∷ []) new now
 words_touched steps access old new was now own latest found knows other = ⊎_elim
@@ -57,7 +56,7 @@ words_touched steps access old new was now own latest found knows other = ⊎_el
     (cases_eq access.word other)
 
 -- bytes begin a new life
-pub words_renewed : (steps : List Step) (address long : ℕ) (old new : List Page) (races : BTreeMap ℕ WordRaces) → ((word : ℕ) → IsRenewed address long word (latest_at old word) (latest_at new word)) → KnowsWords steps old races
+pub words_renewed : (steps : List Step) (address long : ℕ) (old new : PageList) (races : BTreeMap ℕ WordRaces) → ((word : ℕ) → IsRenewed address long word (latest_at old word) (latest_at new word)) → KnowsWords steps old races
     → KnowsWords (steps ++ Renew address long ∷ []) new races
 words_renewed steps address long old new races renewed knows word = record {
   accesses = latest_renewed steps address long word (latest_at old word) (latest_at new word) (renewed word) (knows word).accesses;

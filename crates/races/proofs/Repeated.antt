@@ -13,11 +13,10 @@ use Rattle.races.specs.Recording.{KnowsSteps}
 use Rattle.races.specs.Recent.{IsNotedIn, IsRecent, IsSlotOf, IsWithin, KnowsRecent, WasAccessed}
 use Rattle.races.specs.Steps.{IsSameAuthor, IsSameInstruction, Step}
 use Rattle.races.specs.Steps.Step.{Touch}
-use Rattle.races.specs.Words.{KnowsFound, KnowsWords, Times, found_at, latest_at, race_of}
+use Rattle.races.specs.Words.{KnowsFound, KnowsWords, PageList, Times, found_at, latest_at, race_of}
 use Rattle.races.specs.declared.byte_set.ByteSet.{ByteSet}
 use Rattle.races.specs.declared.clocks.Clocks.{Clocks}
 use Rattle.races.specs.declared.found.Found.{Found}
-use Rattle.races.specs.declared.page.Page.{Page}
 use Rattle.races.specs.declared.place.Place.{Place}
 use Rattle.races.specs.declared.place.Place.TheVariants.{Thread}
 use Rattle.races.specs.declared.recent.Recent.{Recent}
@@ -172,7 +171,7 @@ module _ (steps : List Step) (access : Access) (before : (place : ℕ) → has a
           subst (λ (n : ℕ). AreRacing then earlier n one access access.word place) last (subst (λ (a : Access). AreRacing then earlier later one a access.word place) same race) in
           subst (λ (a : Access). (found_race : Found) × Contains found found_race × IsToldBy (race_of access.word found_race) one.site a.site access.word place) (sym same) (told_before steps access place (before place here.second_of.has_it) found knows earlier one here)
 
-  pub words_repeated : (pages : List Page) (races : BTreeMap ℕ WordRaces) → KnowsWords steps pages races → KnowsWords then pages races
+  pub words_repeated : (pages : PageList) (races : BTreeMap ℕ WordRaces) → KnowsWords steps pages races → KnowsWords then pages races
   words_repeated pages races knows = words_touched steps access pages pages races races (record {
     accesses = latest_repeated steps access (latest_at pages access.word) before (knows access.word).accesses;
     races = found_repeated (found_at races access.word) (knows access.word).races;
@@ -287,7 +286,7 @@ only_own steps clocks recent made access times knows is late place reaches = ⊎
     (own_cases (length steps) place access.site.thread)
 
 -- a recent access that is made again changes nothing that is kept of words
-words_again : (steps : List Step) (clocks : Clocks) (recent : Recent) (access : Access) (slot : Slot) (pages : List Page) (races : BTreeMap ℕ WordRaces) → Times steps clocks → KnowsRecent recent clocks steps
+words_again : (steps : List Step) (clocks : Clocks) (recent : Recent) (access : Access) (slot : Slot) (pages : PageList) (races : BTreeMap ℕ WordRaces) → Times steps clocks → KnowsRecent recent clocks steps
     → Contains recent.slots.items slot → IsWithin access slot.access → recent.since ≤ slot.step → KnowsWords steps pages races → KnowsWords (steps ++ Touch access ∷ []) pages races
 words_again steps clocks recent access slot pages races times knows_recent among within late knows = words_repeated steps access made_before pages races knows
   where

@@ -1,5 +1,6 @@
 -- What is kept of a word.
 use Rattle.std.specs.Prelude.{◌≡◌, ◌≢◌, ℕ, ◌/◌, ◌%◌, ◌<◌, ◌≤◌, ◌⊎◌, ◌||◌, true, Option, Some, None, List, [], ◌∷◌, ◌++◌, Contains, length, map, slice_get, slice_index_or, slice_set}
+use Rattle.std.specs.Global.{Box}
 use Rattle.std.specs.Ordering.{nat_cmp}
 use Rattle.std.specs.BTreeMap.{BTreeMap, get}
 use Rattle.races.specs.Before.{at}
@@ -105,13 +106,18 @@ pub record IsFinding (steps : List Step) (access : Access) (clocks : Clocks) (do
 abbrev pub Times : List Step → Clocks → Type 0
 Times steps clocks = Follows steps (time_at clocks (length steps))
 
+-- the pages by their numbers: there is one once one of its words was accessed
+abbrev pub PageList : Type 0
+PageList = List (Option (Box Page))
+
 -- of a word of a page
-abbrev pub latest_on : Option Page → (place : ℕ) → List Latest
+abbrev pub latest_on : Option (Option (Box Page)) → (place : ℕ) → List Latest
 latest_on None place = []
-latest_on (Some page) place = latest_in page.entries.items place
+latest_on (Some None) place = []
+latest_on (Some (Some page)) place = latest_in page.value.entries.items place
 
 -- a page has 4,096 words that follow each other
-abbrev pub latest_at : List Page → (word : ℕ) → List Latest
+abbrev pub latest_at : PageList → (word : ℕ) → List Latest
 latest_at pages word = latest_on (slice_get pages (word / 4096)) (word % 4096)
 
 -- the races that were found at a word
@@ -123,7 +129,7 @@ abbrev pub found_at : BTreeMap ℕ WordRaces → (word : ℕ) → List Found
 found_at races word = found_by (get nat_cmp races word)
 
 -- what is kept of each word
-abbrev pub KnowsWords : List Step → List Page → BTreeMap ℕ WordRaces → Type 0
+abbrev pub KnowsWords : List Step → PageList → BTreeMap ℕ WordRaces → Type 0
 KnowsWords steps pages races = (word : ℕ) → KnowsWord steps word (latest_at pages word) (found_at races word)
 
 -- a race with the index of its second step

@@ -1,5 +1,5 @@
 //! What is kept of the words of all pages.
-ghost use Rattle.std.specs.Prelude.{◌≡◌, ℕ, ◌+◌, ◌/◌, ◌%◌, ◌<◌, ◌^◌, [], MatchOption, OnOk, vec_len};
+ghost use Rattle.std.specs.Prelude.{◌≡◌, ℕ, ◌+◌, ◌/◌, ◌%◌, ◌<◌, ◌^◌, [], IfOk, MatchOption, OnOk, vec_len};
 ghost use Rattle.races.specs.Linked.{latest_in};
 ghost use Rattle.races.specs.Words.{IsKept, IsRenewed, latest_at};
 
@@ -8,11 +8,12 @@ use crate::latest::Latest;
 use crate::page::{PAGE_WORDS, Page};
 use std::alloc::{AllocError, Global};
 
-/// The pages by their numbers, as far as one of them was accessed.
+/// The pages by their numbers. A run's pages lie far apart, so those of which no word was accessed take next to no room.
 #[derive(Drop)]
 pub(crate) struct Pages {
     alloc: Global,
-    pages: Vec<Page>,
+    /// None for a page of which no word was accessed, and nothing for those past the last one of which one was.
+    pages: Vec<Option<Box<Page>>>,
 }
 
 impl Pages {
@@ -30,7 +31,10 @@ impl Pages {
     pub(crate) fn page(&self, word: u32) -> Option<&Page>
         ensures { MatchOption result (latest_at self.now.pages.items word ≡ []) (λ page. latest_in page.now.entries.items (word % 4096) ≡ latest_at self.now.pages.items word) }
     {
-        self.pages.get(page_of(word))
+        match self.pages.get(page_of(word)) {
+            Some(Some(page)) => Some(page),
+            _ => None,
+        }
     }
 
     /// Keeps an access of a word.
@@ -38,12 +42,20 @@ impl Pages {
         ensures own { OnOk result (IsKept own (latest_at self.old.pages.items word) (latest_at self.new.pages.items word)) }
         ensures others { OnOk result ((other : ℕ) → (word ≡ other → ⊥) → latest_at self.new.pages.items other ≡ latest_at self.old.pages.items other) }
     {
-        let page = page_of(word);
-        self.reach(page)?;
-        self.pages[page].keep(self.alloc, place_of(word), own)
+        let number = page_of(word);
+        self.reach(number)?;
+        let place = place_of(word);
+        let slot = &mut self.pages[number];
+        match slot {
+            Some(page) => page.keep(self.alloc, place, own),
+            None => {
+                *slot = Some(first_page(self.alloc, place, own)?);
+                Ok(())
+            }
+        }
     }
 
-    /// There is a page of a number.
+    /// There is a place for the page of a number.
     fn reach(&mut self, page: usize) -> Result<(), AllocError>
         requires { page < 2 ^ 63 }
         ensures inside { OnOk result (page < vec_len self.new.pages) }
@@ -54,7 +66,7 @@ impl Pages {
             return Ok(());
         }
         for _more in count..page + 1 {
-            self.pages.push(Page::new(self.alloc))?;
+            self.pages.push(None)?;
         }
         Ok(())
     }
@@ -65,10 +77,23 @@ impl Pages {
     {
         let from = page_of(fresh.first_word());
         let end = end_page(fresh.end_word()).min(self.pages.len());
-        for page in from..end {
-            self.pages[page].renew((page * PAGE_WORDS) as u32, fresh);
+        for number in from..end {
+            if let Some(page) = &mut self.pages[number] {
+                page.renew((number * PAGE_WORDS) as u32, fresh);
+            }
         }
     }
+}
+
+/// A page of which one word was accessed, the one at a place.
+fn first_page(alloc: Global, place: usize, own: Latest) -> Result<Box<Page>, AllocError>
+    requires { place < 4096 }
+    ensures own { IfOk result (λ page. IsKept own [] (latest_in page.value.entries.items place)) }
+    ensures others { IfOk result (λ page. (other : ℕ) → (place ≡ other → ⊥) → latest_in page.value.entries.items other ≡ []) }
+{
+    let mut page = Page::new(alloc);
+    page.keep(alloc, place, own)?;
+    Ok(Box::new(alloc, page)?)
 }
 
 /// The number of a word's page.

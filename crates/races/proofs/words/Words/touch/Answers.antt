@@ -1,8 +1,7 @@
 use Rattle.std.proofs.Common.{◌≡◌, ◌∙◌, ℕ, List, Ok, Err, Result, ap, length, subst}
 use Rattle.std.specs.Prelude.{OnOk}
-use Rattle.races.specs.Words.{IsKept, latest_at}
+use Rattle.races.specs.Words.{IsKept, PageList, latest_at}
 use Rattle.races.specs.declared.latest.Latest.{Latest}
-use Rattle.races.specs.declared.page.Page.{Page}
 use Rattle.races.specs.declared.pages.Pages.{Pages}
 use Rattle.races.proofs.Kept.{latest_kept}
 use Rattle.races.proofs.Mapped.{words_touched}
@@ -16,8 +15,8 @@ pub returns : goal.returns
 returns c =
     let access = c.args.access.now in
     let words = c.args.self.now in
-    let old : List Page = words.pages.pages.items in
-    let new : List Page = c.keep.new.self.pages.items in
+    let old : PageList = words.pages.pages.items in
+    let new : PageList = c.keep.new.self.pages.items in
     let same : (word : ℕ) → latest_at c.find.new.self.pages.pages.items word ≡ latest_at old word = λ word. ap (λ (pages : Pages). latest_at pages.pages.items word) c.in_ok-find.ensures.pages in
     both_ok c.keep.result
     (λ kept others steps knows times step.
