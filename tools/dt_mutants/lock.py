@@ -1,9 +1,9 @@
 """The file mutants.lock: for each crate with mutants, the sum of all that its last full round read.
 
-A round reads the crate's sources, specs and proofs, those of each crate of the repository below it, their lines of crates.txt, the
+A round reads the crate's sources, specs and proofs, its line of crates.txt, what each crate of the repository below it serves, the
 crate's mutants, the toolchain's logic, and the modules of this tool that plan and judge. It reads nothing else: no page, no must-fail
-edit and nothing in out/ changes a sum. Toolchains of one logic prove the same statements, so another version of the same logic has the
-same sums.
+edit and nothing in out/ changes a sum, nor does the body of a function of a crate below. Toolchains of one logic prove the same
+statements, so another version of the same logic has the same sums.
 """
 import functools
 import hashlib
@@ -11,6 +11,7 @@ import os
 
 from dt_commands import kit
 from dt_commands.repository import TOP, below, crates
+from dt_mutants import served
 
 LOCK = f"{TOP}/mutants.lock"
 # The folders of a crate that a check reads.
@@ -67,6 +68,19 @@ def own_sum(name):
 
 
 @functools.lru_cache(maxsize=None)
+def served_sum(name):
+    """Returns a sum of what a crate serves to those above it, and of its line of crates.txt."""
+    total, folder = hashlib.sha256(repr((name, crates()[name])).encode()), f"{TOP}/crates/{name}"
+    for file in (it for part in PARTS for it in files_in(f"{folder}/{part}")):
+        with open(file, "rb") as it:
+            path = os.path.relpath(file, folder)
+            data = served.of_file(path, it.read())
+        if data is not None:
+            total.update(repr((path, data)).encode())
+    return total.hexdigest()
+
+
+@functools.lru_cache(maxsize=None)
 def of_the_tool():
     """Returns a sum of the toolchain's logic and of the modules that decide."""
     modules = [f"{TOP}/tools/{it}" for it in MODULES]
@@ -81,10 +95,12 @@ def logic():
 
 def sum_of(name):
     """Returns the sum of all that a full round of a crate reads, as the files are."""
-    return hashlib.sha256(repr((of_the_tool(), [own_sum(it) for it in below(name)], sum_of_files(edit_files(name)))).encode()).hexdigest()
+    libraries = [served_sum(it) for it in below(name) if it != name]
+    return hashlib.sha256(repr((of_the_tool(), own_sum(name), libraries, sum_of_files(edit_files(name)))).encode()).hexdigest()
 
 
 def forget():
     """Has the next sums read the files anew."""
     own_sum.cache_clear()
+    served_sum.cache_clear()
     of_the_tool.cache_clear()
