@@ -1,14 +1,14 @@
 """The samples: listings, traces, reports and schedules in crates/test_guest_runs/data, and the ELF files made of them.
 
-The program test_guest_runs makes the ELF files beside their sources. All are copied to samples/, and the one that the gate runs the
-program dthreads on to crates/command/data.
+The ELF files are made of the listings, beside them. All are copied to samples/, and the one that the gate runs the program dthreads on
+to crates/command/data.
 """
 import glob
 import os
 import shutil
 import subprocess
 
-from dt_commands.progress import Progress
+from dt_commands import written_guests
 from dt_commands.repository import TOP
 from dt_commands.texts import contents
 
@@ -30,31 +30,31 @@ def copies():
 
 
 def differing():
-    """Returns the copies that differ from their sources, or lack one."""
+    """Returns the ELF files that aren't as their listings say, and the copies that differ from their sources, or lack one."""
+    files = [file for file, data in made().items() if contents(file) != data]
+    files += [it for it in glob.glob(f"{DATA}/*.elf") if it not in made()]
     lacking = [f"{SAMPLES}/{it}" for it in names_in(SAMPLES) if it not in names_in(DATA)]
-    return [copy for copy, source in copies().items() if contents(copy) != contents(source)] + lacking
+    return files + [copy for copy, source in copies().items() if contents(copy) != contents(source)] + lacking
 
 
 def check(options):
-    """Compares the copies of the samples with their sources."""
+    """Compares the ELF files of the samples with their listings, and the copies of the samples with their sources."""
     found = differing()
     for it in found:
         print(f"not as in {os.path.relpath(DATA, TOP)}: {os.path.relpath(it, TOP)}")
     return 1 if found else 0
 
 
-def make():
-    """Makes the ELF files of the samples, beside their sources."""
-    with Progress("programs built", 1) as progress:
-        progress.at = "test_guest_runs"
-        ran = subprocess.run(["rt", "run", "--", "write", "data"], cwd=CRATE, stdout=subprocess.PIPE, stderr=subprocess.STDOUT)
-    if ran.returncode:
-        raise SystemExit(ran.stdout.decode(errors="replace"))
+def made():
+    """Returns the ELF files of the samples, by their names, as their listings say."""
+    return {f"{DATA}/{it}.elf": written_guests.elf(it) for it in written_guests.names() if written_guests.is_sample(it)}
 
 
 def write(options):
     """Makes the ELF files of the samples, and copies all to samples/."""
-    make()
+    for file, data in made().items():
+        with open(file, "wb") as it:
+            it.write(data)
     for copy, source in copies().items():
         shutil.copyfile(source, copy)
     subprocess.run(["git", "-C", TOP, "status", "--short", "samples", DATA, os.path.dirname(OF_COMMAND)])

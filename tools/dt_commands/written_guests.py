@@ -23,9 +23,19 @@ def text_of(name):
     return contents(f"{DATA}/{name}.guest").decode()
 
 
+def head_of(name):
+    """Returns what a program's file has before its runs."""
+    return re.split(r"^run ", text_of(name), maxsplit=1, flags=re.M)[0]
+
+
+def is_sample(name):
+    """Returns whether a program is one of the samples."""
+    return bool(re.search(r"^sample$", head_of(name), re.M))
+
+
 def listing(name):
     """Returns the words of a program by their addresses, from its own listing or from the sample's beside it."""
-    head = re.split(r"^run ", text_of(name), maxsplit=1, flags=re.M)[0]
+    head = head_of(name)
     text = head if re.search(r"^listing$", head, re.M) else contents(f"{DATA}/{name}.listing").decode()
     return {int(address, 16): int(word, 16) for address, word in WORD.findall(text)}
 

@@ -20,7 +20,6 @@ mod replay_row;
 mod replay_text;
 mod rounds;
 mod row;
-mod samples;
 mod single_call;
 
 pub use data::{guests, path_of, replays, text_at};
@@ -35,5 +34,4 @@ pub use output::Output;
 pub use outputs::compare_outputs;
 pub use replay_row::{ReplayEnd, ReplayRow};
 pub use row::{is_chosen, show};
-pub use samples::write_samples;
 pub use single_call::SingleCall;

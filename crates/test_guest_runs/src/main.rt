@@ -3,7 +3,7 @@
 //! It runs in the folder data/, whose file `list` names the programs, or in the one that has it. With no arguments it prints a line
 //! for each row: `NAME: ok`, or what differs. `test_guest_runs NAME..` does so for the rows whose names begin with these words; after
 //! the word `brief` it makes runs that take long once. `test_guest_runs walk N [SEED]` walks N times through the short runs by
-//! events that are picked from the seed, and `test_guest_runs write FOLDER` writes the ELF files of the samples to a folder.
+//! events that are picked from the seed.
 //!
 //! Only what goes through the command line is here: a change of the commands has this crate proved again, and neither
 //! `test_guest_rows` nor `test_run_ways`.
@@ -18,7 +18,7 @@ mod rows;
 use anyhow::Result;
 use rows::show_rows;
 use std::env;
-use test_guest_rows::{decimal, write_samples};
+use test_guest_rows::decimal;
 use test_run_ways::{Effort, show_walks};
 
 fn main(rt: HostRuntime) -> Result<()> {
@@ -28,7 +28,6 @@ fn main(rt: HostRuntime) -> Result<()> {
         [_, action, chosen @ ..] if action.as_str() == "brief" => {
             show_rows(&rt, Effort::Brief, chosen)
         }
-        [_, action, folder] if action.as_str() == "write" => write_samples(&rt, folder.as_str()),
         [_, action, rounds] if action.as_str() == "walk" => {
             show_walks(&rt, decimal(rounds.as_str())?, 1)
         }
