@@ -1,5 +1,5 @@
 //! A plain detector of races: it looks at each two events, and asks whether one happens before the other.
-use crate::step::Step;
+use crate::step::{Step, Way};
 use races::{Access, ByteSet, Race, Site};
 use std::alloc::{AllocError, Global};
 
@@ -86,12 +86,12 @@ fn comes_before(steps: &[Step], known: &[bool], step: &Step) -> bool {
 
 /// Whether a step passes its past on to a later one.
 fn passes_on(earlier: &Step, later: &Step) -> bool {
-    for way in &earlier.to {
-        if later.from.contains(way) {
-            return true;
-        }
-    }
-    false
+    takes_over(later, earlier.to[0]) || takes_over(later, earlier.to[1])
+}
+
+/// Whether a step takes over what comes by a way.
+fn takes_over(step: &Step, way: Option<Way>) -> bool {
+    way.is_some() && (step.from[0] == way || step.from[1] == way)
 }
 
 /// Adds the races of an access with those before it.

@@ -8,12 +8,14 @@ mod dice;
 mod histories;
 mod literal;
 mod random;
+mod recorded;
 mod regions;
 mod rows;
 mod step;
+mod told;
 
 use anyhow::Result;
-use random::{Kind, show_random};
+use random::{MANY_TURNS, ONE_TURN, show_random};
 use rows::show_rows;
 use std::env;
 
@@ -21,20 +23,20 @@ fn main(rt: HostRuntime) -> Result<()> {
     let arguments: Vec<String> = env::args(&rt)?.collect(rt.alloc())?;
     match arguments.as_slice() {
         [_, action, count] if action.as_str() == "random" => {
-            show_random(&rt, count.as_str().parse()?, 1, Kind::OneTurn)
+            show_random(&rt, count.as_str().parse()?, 1, ONE_TURN)
         }
         [_, action, count, seed] if action.as_str() == "random" => {
             show_random(
                 &rt,
                 count.as_str().parse()?,
                 seed.as_str().parse()?,
-                Kind::OneTurn,
+                ONE_TURN,
             )
         }
         _ => {
             show_rows(&rt)?;
-            show_random(&rt, 300, 1, Kind::ManyTurns)?;
-            show_random(&rt, 100, 1, Kind::OneTurn)
+            show_random(&rt, 300, 1, MANY_TURNS)?;
+            show_random(&rt, 100, 1, ONE_TURN)
         }
     }
 }

@@ -1,23 +1,34 @@
 //! Random histories, told to a recorder and to the plain detector.
 use crate::dice::Dice;
 use crate::literal::{is_race, races_of};
+use crate::recorded::{recorded, text_of};
 use crate::step::{Step, steps_of};
-use anyhow::{Result, anyhow};
-use races::{Access, ByteSet, Event, Race, RaceRecorder, Site, races_text};
+use crate::told::Told;
+use anyhow::{Error, Result, anyhow};
+use races::{Access, ByteSet, Race, Site};
 use std::alloc::{AllocError, Global};
-use symbols::Symbols;
 
 /// How many events a history has at most.
 const EVENTS: u8 = 60;
 
-/// What random histories are like.
-#[derive(Clone, Copy, Debug)]
-pub enum Kind {
-    /// Of a hundred turns: hardly an access is made again in its turn.
-    ManyTurns,
-    /// Of one turn: many accesses are made again.
-    OneTurn,
+/// What random histories are like: how many turns they have, and what that is called.
+#[derive(Clone, Copy)]
+pub struct Kind {
+    turns: u8,
+    name: &'static str,
 }
+
+/// Of a hundred turns: hardly an access is made again in its turn.
+pub const MANY_TURNS: Kind = Kind {
+    turns: 100,
+    name: "many turns",
+};
+
+/// Of one turn: many accesses are made again.
+pub const ONE_TURN: Kind = Kind {
+    turns: 1,
+    name: "one turn",
+};
 
 /// Looks at so many random histories, and prints how many there were and how many races they had.
 pub fn show_random<R: Print>(rt: &R, count: u32, seed: u64, kind: Kind) -> Result<()>
@@ -27,47 +38,34 @@ where
     let mut dice = Dice::new(seed);
     let mut races: u64 = 0;
     for number in 0..count {
-        let events = history(rt.alloc(), &mut dice, turns_of(kind))?;
-        let found = look_at(rt.alloc(), &events, number)?;
+        let found = look_at_random(rt.alloc(), &mut dice, kind.turns, number)?;
         races = races.saturating_add(found);
     }
-    println!(rt;
-        "{count} random histories, {}: {races} races",
-        name_of(kind)
-    )?;
-    Ok(())
+    Ok(println!(rt; "{count} random histories, {}: {races} races", kind.name)?)
 }
 
-fn turns_of(kind: Kind) -> u8 {
-    match kind {
-        Kind::ManyTurns => 100,
-        Kind::OneTurn => 1,
-    }
-}
-
-fn name_of(kind: Kind) -> &'static str {
-    match kind {
-        Kind::ManyTurns => "many turns",
-        Kind::OneTurn => "one turn",
-    }
+/// How many races a random history has.
+fn look_at_random(alloc: Global, dice: &mut Dice, turns: u8, number: u32) -> Result<u64> {
+    let history = history(alloc, dice, turns)?;
+    look_at(alloc, &history, number)
 }
 
 /// How many races a history has, by the recorder and by the plain detector.
-fn look_at(alloc: Global, events: &[Event], number: u32) -> Result<u64> {
-    let mut recorder = RaceRecorder::new(alloc)?;
-    for event in events {
-        recorder.record(event)?;
-    }
-    let races = recorder.races()?;
-    let steps = steps_of(alloc, events)?;
+fn look_at(alloc: Global, history: &[Told], number: u32) -> Result<u64> {
+    let races = recorded(alloc, history)?;
+    let steps = steps_of(alloc, history)?;
     let wanted = races_of(alloc, &steps)?;
-    if !are_same(&races, &wanted) || !are_races(alloc, &steps, &races)? {
-        let symbols = Symbols::read(alloc, b"")?;
-        let text = races_text(alloc, &races, &symbols)?;
-        let wanted_text = races_text(alloc, &wanted, &symbols)?;
-        return Err(anyhow!("history {number} has\n{wanted_text}and not\n{text}"));
+    if are_same(&races, &wanted) && are_races(alloc, &steps, &races)? {
+        return Ok(races.len() as u64);
     }
-    Ok(races.len() as u64)
+    Err(difference(alloc, number, &races, &wanted)?)
+}
+
+/// That a history has other races than the wanted ones.
+fn difference(alloc: Global, number: u32, races: &[Race], wanted: &[Race]) -> Result<Error> {
+    let text = text_of(alloc, races)?;
+    let wanted_text = text_of(alloc, wanted)?;
+    Ok(anyhow!("history {number} has\n{wanted_text}and not\n{text}"))
 }
 
 /// Whether races are the same, in the order of their second accesses. Which of the earlier accesses a race names is left open.
@@ -102,54 +100,34 @@ fn is_same_race(one: &Race, other: &Race) -> bool {
 }
 
 /// A random history.
-fn history(alloc: Global, dice: &mut Dice, turns: u8) -> Result<Vec<Event>, AllocError> {
-    let mut events = Vec::new(alloc);
+fn history(alloc: Global, dice: &mut Dice, turns: u8) -> Result<Vec<Told>, AllocError> {
+    let mut history = Vec::new(alloc);
     for _ in 0..dice.below(EVENTS) {
-        events.push(event(alloc, dice, turns)?)?;
+        history.push(event(dice, turns))?;
     }
-    Ok(events)
+    Ok(history)
 }
 
 /// A random event of one of four threads.
-fn event(alloc: Global, dice: &mut Dice, turns: u8) -> Result<Event, AllocError> {
+fn event(dice: &mut Dice, turns: u8) -> Told {
     let thread = dice.below(4);
     let object = u32::from(dice.below(2));
     let other = dice.below(4);
-    Ok(match dice.below(28) {
-        0 => Event::Create {
-            thread,
-            created: other,
-        },
-        1 => Event::End { thread },
-        2 => Event::Join {
-            thread,
-            ended: other,
-        },
-        3 => Event::Unlock {
-            thread,
-            mutex: object,
-        },
-        4 => Event::Lock {
-            thread,
-            mutex: object,
-        },
-        5 => Event::LetGo {
-            thread,
-            waiter: other,
-        },
-        6 => Event::Round {
-            threads: vec![in alloc; thread, other]?,
-        },
-        7 => Event::Acquire { thread, object },
-        8 => Event::Release { thread, object },
-        9 => Event::Enter { thread },
-        10 => Event::Leave { thread },
-        11 => Event::Fresh {
-            address: u32::from(dice.below(12)),
-            length: u32::from(dice.below(9)),
-        },
-        _ => Event::Access(access(thread, dice, turns)),
-    })
+    match dice.below(28) {
+        0 => Told::Create(thread, other),
+        1 => Told::End(thread),
+        2 => Told::Join(thread, other),
+        3 => Told::Unlock(thread, object),
+        4 => Told::Lock(thread, object),
+        5 => Told::LetGo(thread, other),
+        6 => Told::Round(thread, other),
+        7 => Told::Acquire(thread, object),
+        8 => Told::Release(thread, object),
+        9 => Told::Enter(thread),
+        10 => Told::Leave(thread),
+        11 => Told::Fresh(u32::from(dice.below(12)), u32::from(dice.below(9))),
+        _ => Told::Access(access(thread, dice, turns)),
+    }
 }
 
 /// A random access of one of three words by one of four instructions.

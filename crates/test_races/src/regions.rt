@@ -1,13 +1,13 @@
 //! How many library regions each thread is in, counted plainly from the events before.
-use races::Event;
+use crate::told::Told;
 
 /// Whether a thread is in a library region after these events.
-pub fn is_inside(events: &[Event], thread: u8) -> bool {
+pub fn is_inside(history: &[Told], thread: u8) -> bool {
     let mut depth: u64 = 0;
-    for event in events {
-        match event {
-            Event::Enter { thread: other } if *other == thread => depth = depth.saturating_add(1),
-            Event::Leave { thread: other } if *other == thread => depth = depth.saturating_sub(1),
+    for told in history {
+        match *told {
+            Told::Enter(other) if other == thread => depth = depth.saturating_add(1),
+            Told::Leave(other) if other == thread => depth = depth.saturating_sub(1),
             _ => {}
         }
     }

@@ -1,143 +1,150 @@
-//! What is looked at of an event, as lists of what it takes over and passes on.
+//! What is looked at of an event: what it takes over and what it passes on.
 use crate::regions::is_inside;
-use races::{Access, Event};
+use crate::told::Told;
+use races::Access;
 use std::alloc::{AllocError, Global};
 
 /// What order passes through.
-#[derive(Clone, Copy, Debug, PartialEq, Eq)]
-pub enum Way {
+#[derive(Clone, Copy, PartialEq, Eq)]
+enum Through {
     /// What a thread does later.
-    Thread(u8),
+    Thread,
     /// The joins of a thread.
-    Joins(u8),
+    Joins,
     /// The later acquisitions of a mutex.
-    Mutex(u32),
+    Mutex,
     /// The later acquisitions of an object.
-    Object(u32),
+    Object,
+}
+
+/// A way of order: through what, and the number of the thread, the mutex or the object.
+#[derive(Clone, Copy, PartialEq, Eq)]
+pub struct Way {
+    through: Through,
+    number: u32,
 }
 
 /// What is looked at of an event.
-#[derive(Drop)]
+#[derive(Clone, Copy)]
 pub struct Step {
     /// What it takes over.
-    pub from: Vec<Way>,
+    pub from: [Option<Way>; 2],
     /// What it passes its past on to.
-    pub to: Vec<Way>,
+    pub to: [Option<Way>; 2],
     /// The access that it is, if it is one.
     pub access: Option<Access>,
     /// The bytes that begin a new life, by address and length.
     pub fresh: Option<(u32, u32)>,
 }
 
-/// The steps of some events.
-pub fn steps_of(alloc: Global, events: &[Event]) -> Result<Vec<Step>, AllocError> {
+/// The steps of a history.
+pub fn steps_of(alloc: Global, history: &[Told]) -> Result<Vec<Step>, AllocError> {
     let mut steps = Vec::new(alloc);
-    for (index, event) in events.iter().enumerate() {
-        let (before, _) = events.split_at(index);
-        if let Some(step) = step_of(alloc, before, event)? {
-            steps.push(step)?;
+    for (index, told) in history.iter().enumerate() {
+        let (before, _) = history.split_at(index);
+        if !is_hidden(before, *told) {
+            steps.push(step_of(before, *told))?;
         }
     }
     Ok(steps)
 }
 
-/// The step of an event after others, if anything of it is looked at.
-fn step_of(alloc: Global, before: &[Event], event: &Event) -> Result<Option<Step>, AllocError> {
-    let step = match event {
-        Event::Access(access) => Step {
-            from: Vec::new(alloc),
-            to: Vec::new(alloc),
-            access: Some(*access),
-            fresh: None,
-        },
-        Event::Fresh { address, length } => Step {
-            from: Vec::new(alloc),
-            to: Vec::new(alloc),
-            access: None,
-            fresh: Some((*address, *length)),
-        },
-        Event::Round { threads } => return Ok(Some(round(alloc, before, threads)?)),
-        _ => passing(alloc, event)?,
-    };
-    finish(step, before, event)
-}
-
-/// The step with its thread's way, unless a library region hides it.
-fn finish(mut step: Step, before: &[Event], event: &Event) -> Result<Option<Step>, AllocError> {
-    let Some((thread, is_hidden_inside)) = thread_of(event) else {
-        return Ok(Some(step));
-    };
-    if is_hidden_inside && is_inside(before, thread) || is_for_one_inside(before, event) {
-        return Ok(None);
-    }
-    step.from.push(Way::Thread(thread))?;
-    step.to.push(Way::Thread(thread))?;
-    Ok(Some(step))
-}
-
-/// Whether an event lets a thread go that waited in a library region.
-fn is_for_one_inside(before: &[Event], event: &Event) -> bool {
-    match event {
-        Event::LetGo { waiter, .. } => is_inside(before, *waiter),
+/// Whether a library region hides an event after others: its thread is in one, or it lets a thread go that waited in one.
+fn is_hidden(before: &[Told], told: Told) -> bool {
+    match told {
+        Told::Access(access) => is_inside(before, access.site.thread),
+        Told::End(thread)
+        | Told::Join(thread, _)
+        | Told::Unlock(thread, _)
+        | Told::Lock(thread, _) => is_inside(before, thread),
+        Told::LetGo(thread, waiter) => is_inside(before, thread) || is_inside(before, waiter),
         _ => false,
     }
 }
 
-/// The thread of an event that has one, and whether a library region hides it.
-fn thread_of(event: &Event) -> Option<(u8, bool)> {
-    match event {
-        Event::Access(access) => Some((access.site.thread, true)),
-        Event::End { thread }
-        | Event::Join { thread, .. }
-        | Event::Unlock { thread, .. }
-        | Event::Lock { thread, .. }
-        | Event::LetGo { thread, .. } => Some((*thread, true)),
-        Event::Create { thread, .. }
-        | Event::Acquire { thread, .. }
-        | Event::Release { thread, .. }
-        | Event::Enter { thread }
-        | Event::Leave { thread } => Some((*thread, false)),
-        Event::Round { .. } | Event::Fresh { .. } => None,
-    }
-}
-
-/// What a call or a hint takes over and passes on, beside its own thread.
-fn passing(alloc: Global, event: &Event) -> Result<Step, AllocError> {
-    let mut from = Vec::new(alloc);
-    let mut to = Vec::new(alloc);
-    match event {
-        Event::Create { created, .. } => to.push(Way::Thread(*created))?,
-        Event::End { thread } => to.push(Way::Joins(*thread))?,
-        Event::Join { ended, .. } => from.push(Way::Joins(*ended))?,
-        Event::Unlock { mutex, .. } => to.push(Way::Mutex(*mutex))?,
-        Event::Lock { mutex, .. } => from.push(Way::Mutex(*mutex))?,
-        Event::LetGo { waiter, .. } => to.push(Way::Thread(*waiter))?,
-        Event::Acquire { object, .. } => from.push(Way::Object(*object))?,
-        Event::Release { object, .. } => to.push(Way::Object(*object))?,
-        _ => {}
-    }
-    Ok(Step {
-        from,
-        to,
-        access: None,
-        fresh: None,
-    })
-}
-
-/// What each thread of a round did comes before what each does.
-fn round(alloc: Global, before: &[Event], threads: &[u8]) -> Result<Step, AllocError> {
-    let mut from = Vec::new(alloc);
-    let mut to = Vec::new(alloc);
-    for thread in threads {
-        if !is_inside(before, *thread) {
-            from.push(Way::Thread(*thread))?;
-            to.push(Way::Thread(*thread))?;
+/// The step of an event after others that no library region hides.
+fn step_of(before: &[Told], told: Told) -> Step {
+    let (from, to) = match told {
+        Told::Round(first, second) => {
+            let passing = [outside(before, first), outside(before, second)];
+            (passing, passing)
         }
-    }
-    Ok(Step {
+        _ => {
+            let own = own_way(told);
+            ([own, taken_over(told)], [own, passed_on(told)])
+        }
+    };
+    let access = match told {
+        Told::Access(access) => Some(access),
+        _ => None,
+    };
+    let fresh = match told {
+        Told::Fresh(address, length) => Some((address, length)),
+        _ => None,
+    };
+    Step {
         from,
         to,
-        access: None,
-        fresh: None,
-    })
+        access,
+        fresh,
+    }
+}
+
+/// The way of a thread of a round, unless it is in a library region.
+fn outside(before: &[Told], thread: u8) -> Option<Way> {
+    if is_inside(before, thread) {
+        None
+    } else {
+        Some(thread_way(thread))
+    }
+}
+
+/// The way of the thread of an event that has one.
+fn own_way(told: Told) -> Option<Way> {
+    match told {
+        Told::Access(access) => Some(thread_way(access.site.thread)),
+        Told::Create(thread, _)
+        | Told::End(thread)
+        | Told::Join(thread, _)
+        | Told::Unlock(thread, _)
+        | Told::Lock(thread, _)
+        | Told::LetGo(thread, _)
+        | Told::Acquire(thread, _)
+        | Told::Release(thread, _)
+        | Told::Enter(thread)
+        | Told::Leave(thread) => Some(thread_way(thread)),
+        Told::Round(_, _) | Told::Fresh(_, _) => None,
+    }
+}
+
+/// What a call or a hint takes over, beside its own thread.
+fn taken_over(told: Told) -> Option<Way> {
+    let (through, number) = match told {
+        Told::Join(_, ended) => (Through::Joins, u32::from(ended)),
+        Told::Lock(_, mutex) => (Through::Mutex, mutex),
+        Told::Acquire(_, object) => (Through::Object, object),
+        _ => return None,
+    };
+    Some(Way { through, number })
+}
+
+/// What a call or a hint passes on to, beside its own thread.
+fn passed_on(told: Told) -> Option<Way> {
+    let (through, number) = match told {
+        Told::Create(_, created) => (Through::Thread, u32::from(created)),
+        Told::End(thread) => (Through::Joins, u32::from(thread)),
+        Told::Unlock(_, mutex) => (Through::Mutex, mutex),
+        Told::LetGo(_, waiter) => (Through::Thread, u32::from(waiter)),
+        Told::Release(_, object) => (Through::Object, object),
+        _ => return None,
+    };
+    Some(Way { through, number })
+}
+
+/// What a thread does later.
+fn thread_way(thread: u8) -> Way {
+    Way {
+        through: Through::Thread,
+        number: u32::from(thread),
+    }
 }
