@@ -1,6 +1,6 @@
 //! A generator of pseudo-random numbers from a seed.
 /// Picks numbers by a seed: the same ones each time.
-#[derive(Clone, Copy, Debug)]
+#[derive(Clone, Copy)]
 pub struct Dice {
     state: u64,
 }

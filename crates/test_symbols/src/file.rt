@@ -2,7 +2,7 @@
 use std::alloc::{AllocError, Global};
 
 /// The fields of a symbol (System V ABI, Symbol Table), with its name in place of the name's offset.
-#[derive(Clone, Copy, Debug)]
+#[derive(Clone, Copy)]
 pub struct Written {
     /// Its name.
     pub name: &'static str,

@@ -1,6 +1,6 @@
 //! A plain reader of symbol tables: for each question it goes over the bytes of the file anew, as the standard tells them.
 /// A name, and how far after the symbol's first byte an address is.
-#[derive(Clone, Copy, Debug, PartialEq, Eq)]
+#[derive(Clone, Copy)]
 pub struct Found<'a> {
     pub name: &'a [u8],
     pub offset: u64,

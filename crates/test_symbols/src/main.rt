@@ -19,7 +19,8 @@ mod rows;
 use anyhow::Result;
 use names::show_names;
 use random::show_random;
-use rows::show_rows;
+use row::show_rows;
+use rows::ROWS;
 use std::env;
 
 /// How many random files are looked at if no number is given.
@@ -41,7 +42,7 @@ fn main(rt: HostRuntime) -> Result<()> {
             count.as_str().parse()?,
         ),
         _ => {
-            show_rows(&rt)?;
+            show_rows(&rt, &ROWS)?;
             show_random(&rt, FILES, 1)
         }
     }

@@ -1,5 +1,5 @@
 //! Prints what the addresses of a file are called.
-use crate::named::text_of;
+use crate::named::names_of;
 use anyhow::Result;
 use std::fs;
 use std::rt::Files;
@@ -10,13 +10,19 @@ pub fn show_names<R: Print + Files>(rt: &R, file: &str, first: u32, count: u32) 
 where
     R: AllocGlobal,
 {
-    let bytes = fs::read(rt, file)?;
-    let symbols = Symbols::read(rt.alloc(), bytes.as_slice())?;
+    let symbols = Symbols::read(rt.alloc(), &fs::read(rt, file)?)?;
+    show_all(rt, &symbols, first, count)
+}
+
+/// Prints the lines of so many addresses.
+fn show_all<R: Print>(rt: &R, symbols: &Symbols, first: u32, count: u32) -> Result<()>
+where
+    R: AllocGlobal,
+{
     for step in 0..count {
         let address = first.wrapping_add(step);
-        let object = text_of(rt.alloc(), symbols.object_at(address))?;
-        let function = text_of(rt.alloc(), symbols.function_at(address))?;
-        println!(rt; "{address:08x} object={object} in={function}")?;
+        let line = names_of(rt.alloc(), symbols, address, [" object=", " in=", ""])?;
+        rt.println(line.as_str())?;
     }
     Ok(())
 }
