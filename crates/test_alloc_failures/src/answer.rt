@@ -2,7 +2,7 @@
 use std::fmt;
 
 /// What a case came to.
-#[derive(Clone, Copy, Debug, PartialEq, Eq)]
+#[derive(Clone, Copy)]
 pub struct Answer {
     /// How many it were: pages, bytes or turns.
     pub count: u64,
@@ -30,4 +30,12 @@ pub fn digest_of(bytes: &[u8]) -> u64 {
 /// A digest with a further number.
 pub fn mixed(digest: u64, number: u64) -> u64 {
     (digest ^ number).wrapping_mul(0x0100_0000_01b3)
+}
+
+/// The first of some numbers, or 0.
+pub fn first_of(numbers: &[u32]) -> u32 {
+    match numbers.first() {
+        Some(first) => *first,
+        None => 0,
+    }
 }

@@ -1,16 +1,36 @@
 //! The cases, by name.
 use crate::answer::Answer;
 use crate::failed::Failed;
+use crate::snapshots::{Change, STORES};
 use crate::{commits, recorders, runs, snapshots, views, whole, worlds};
-use data_guest_programs::{ECHO, QUOTIENTS, RACE, RELEASE_RACE, SIGNAL};
-use data_written_schedules::{EARLY_TURN, KEPT_STORE, SIGNAL as WOKEN, SKIP};
+use data_guest_programs::{ECHO, Program, QUOTIENTS, RACE, RELEASE_RACE, SIGNAL};
+use data_written_schedules::{EARLY_TURN, KEPT_STORE, SIGNAL as WOKEN, SKIP, Schedule};
 use std::alloc::Global;
 use std::sync::Wait;
 use std::thread::Threads;
 
 /// A call that is made, and again where it is refused.
-#[derive(Clone, Copy, Debug)]
 pub enum Case {
+    /// A call of a memory, a view or a patch.
+    Memory(MemoryCase),
+    /// A run of a program with an input.
+    Run(&'static Program, &'static [u8], runs::Way),
+    /// A run of a program that is recorded.
+    Recorded(&'static Program),
+    /// A run that goes by a schedule.
+    Played(&'static Schedule, worlds::Way),
+    /// The text of a schedule.
+    Events(&'static Schedule),
+    /// The file of a program.
+    ReadFile(&'static Program),
+    /// A whole run of a program.
+    RunWhole(&'static Program),
+    /// A whole run of a program with an input, whose output goes to a sink.
+    RunToSink(&'static Program, &'static [u8]),
+}
+
+/// A call of a memory, a view or a patch.
+pub enum MemoryCase {
     OfImage,
     TryClone,
     MapZero,
@@ -21,97 +41,105 @@ pub enum Case {
     PatchOf,
     Addresses,
     Apply,
-    Open,
-    Quotients,
-    Race,
-    Signal,
-    Echo,
-    ReleaseRace,
-    RecordedRace,
-    OpenWorld,
-    Events,
-    EarlyTurn,
-    KeptStore,
-    Woken,
-    Skipped,
-    AllEvents,
-    ReadFile,
-    RunRace,
-    RunSignal,
-    RunReleaseRace,
-    RunToSink,
 }
 
 /// The cases with their names, in the order in which they are performed.
 pub const CASES: [(&str, Case); 29] = [
-    ("Snapshot::of_image", Case::OfImage),
-    ("Snapshot::try_clone", Case::TryClone),
-    ("Snapshot::map_zero", Case::MapZero),
-    ("Snapshot::unmap", Case::Unmap),
-    ("stores to a snapshot", Case::SnapshotStore),
-    ("first stores to a view", Case::ViewStore),
-    ("View::dirty", Case::Dirty),
-    ("Patch::of", Case::PatchOf),
-    ("changed_addresses", Case::Addresses),
-    ("apply", Case::Apply),
-    ("Start::open", Case::Open),
-    ("turns of quotients", Case::Quotients),
-    ("turns of race", Case::Race),
-    ("turns of signal", Case::Signal),
-    ("turns of echo", Case::Echo),
-    ("turns of release-race", Case::ReleaseRace),
-    ("turns of race, recorded", Case::RecordedRace),
-    ("World::open", Case::OpenWorld),
-    ("schedule_text::parse", Case::Events),
-    ("events with an early turn", Case::EarlyTurn),
-    ("events with a keeper's store", Case::KeptStore),
-    ("events with a wake", Case::Woken),
-    ("events with a note and a skip", Case::Skipped),
-    ("World::apply_all", Case::AllEvents),
-    ("read", Case::ReadFile),
-    ("run of race", Case::RunRace),
-    ("run of signal", Case::RunSignal),
-    ("run of release-race", Case::RunReleaseRace),
-    ("run_into of echo", Case::RunToSink),
+    ("Snapshot::of_image", Case::Memory(MemoryCase::OfImage)),
+    ("Snapshot::try_clone", Case::Memory(MemoryCase::TryClone)),
+    ("Snapshot::map_zero", Case::Memory(MemoryCase::MapZero)),
+    ("Snapshot::unmap", Case::Memory(MemoryCase::Unmap)),
+    (
+        "stores to a snapshot",
+        Case::Memory(MemoryCase::SnapshotStore),
+    ),
+    (
+        "first stores to a view",
+        Case::Memory(MemoryCase::ViewStore),
+    ),
+    ("View::dirty", Case::Memory(MemoryCase::Dirty)),
+    ("Patch::of", Case::Memory(MemoryCase::PatchOf)),
+    ("changed_addresses", Case::Memory(MemoryCase::Addresses)),
+    ("apply", Case::Memory(MemoryCase::Apply)),
+    ("Start::open", Case::Run(&ECHO, b"ab", runs::Way::Opened)),
+    (
+        "turns of quotients",
+        Case::Run(&QUOTIENTS, b"", runs::Way::ToEnd),
+    ),
+    ("turns of race", Case::Run(&RACE, b"", runs::Way::ToEnd)),
+    ("turns of signal", Case::Run(&SIGNAL, b"", runs::Way::ToEnd)),
+    ("turns of echo", Case::Run(&ECHO, b"ab", runs::Way::ToEnd)),
+    (
+        "turns of release-race",
+        Case::Run(&RELEASE_RACE, b"", runs::Way::ToEnd),
+    ),
+    ("turns of race, recorded", Case::Recorded(&RACE)),
+    (
+        "World::open",
+        Case::Played(&EARLY_TURN, worlds::Way::Opened),
+    ),
+    ("schedule_text::parse", Case::Events(&EARLY_TURN)),
+    (
+        "events with an early turn",
+        Case::Played(&EARLY_TURN, worlds::Way::InTurn),
+    ),
+    (
+        "events with a keeper's store",
+        Case::Played(&KEPT_STORE, worlds::Way::InTurn),
+    ),
+    (
+        "events with a wake",
+        Case::Played(&WOKEN, worlds::Way::InTurn),
+    ),
+    (
+        "events with a note and a skip",
+        Case::Played(&SKIP, worlds::Way::InTurn),
+    ),
+    (
+        "World::apply_all",
+        Case::Played(&EARLY_TURN, worlds::Way::AtOnce),
+    ),
+    ("read", Case::ReadFile(&RELEASE_RACE)),
+    ("run of race", Case::RunWhole(&RACE)),
+    ("run of signal", Case::RunWhole(&SIGNAL)),
+    ("run of release-race", Case::RunWhole(&RELEASE_RACE)),
+    ("run_into of echo", Case::RunToSink(&ECHO, b"ab")),
 ];
 
 impl Case {
     /// Performs it.
     pub fn perform<R: Threads + Wait + Sync>(
-        self,
+        &self,
         rt: &R,
         alloc: Global,
     ) -> Result<Answer, Failed> {
         match self {
-            Case::OfImage => snapshots::of_image(alloc),
-            Case::TryClone => snapshots::try_clone(alloc),
-            Case::MapZero => snapshots::map_zero(alloc),
-            Case::Unmap => snapshots::unmap(alloc),
-            Case::SnapshotStore => snapshots::store(alloc),
-            Case::ViewStore => views::store(alloc),
-            Case::Dirty => views::dirty(alloc),
-            Case::PatchOf => commits::patch_of(alloc),
-            Case::Addresses => commits::addresses(alloc),
-            Case::Apply => commits::commit(alloc),
-            Case::Open => runs::open(alloc, &ECHO, b"ab"),
-            Case::Quotients => runs::turns(alloc, &QUOTIENTS, b""),
-            Case::Race => runs::turns(alloc, &RACE, b""),
-            Case::Signal => runs::turns(alloc, &SIGNAL, b""),
-            Case::Echo => runs::turns(alloc, &ECHO, b"ab"),
-            Case::ReleaseRace => runs::turns(alloc, &RELEASE_RACE, b""),
-            Case::RecordedRace => recorders::recorded(alloc, &RACE, b""),
-            Case::OpenWorld => worlds::open(alloc, &EARLY_TURN),
-            Case::Events => worlds::parsed(alloc, &EARLY_TURN),
-            Case::EarlyTurn => worlds::apply(alloc, &EARLY_TURN),
-            Case::KeptStore => worlds::apply(alloc, &KEPT_STORE),
-            Case::Woken => worlds::apply(alloc, &WOKEN),
-            Case::Skipped => worlds::apply(alloc, &SKIP),
-            Case::AllEvents => worlds::apply_all(alloc, &EARLY_TURN),
-            Case::ReadFile => whole::read_file(alloc, &RELEASE_RACE),
-            Case::RunRace => whole::run_whole(rt, alloc, &RACE, b""),
-            Case::RunSignal => whole::run_whole(rt, alloc, &SIGNAL, b""),
-            Case::RunReleaseRace => whole::run_whole(rt, alloc, &RELEASE_RACE, b""),
-            Case::RunToSink => whole::run_to_sink(rt, alloc, &ECHO, b"ab"),
+            Case::Memory(case) => case.perform(alloc),
+            Case::Run(program, input, way) => runs::run(alloc, program, input, way),
+            Case::Recorded(program) => recorders::recorded(alloc, program),
+            Case::Played(schedule, way) => worlds::played(alloc, schedule, way),
+            Case::Events(schedule) => worlds::parsed(alloc, schedule),
+            Case::ReadFile(program) => whole::read_file(alloc, program),
+            Case::RunWhole(program) => whole::run_whole(rt, alloc, program),
+            Case::RunToSink(program, input) => whole::run_to_sink(rt, alloc, program, input),
+        }
+    }
+}
+
+impl MemoryCase {
+    /// Performs it.
+    fn perform(&self, alloc: Global) -> Result<Answer, Failed> {
+        match self {
+            MemoryCase::OfImage => snapshots::of_image(alloc),
+            MemoryCase::TryClone => snapshots::try_clone(alloc),
+            MemoryCase::MapZero => snapshots::changed(alloc, &[Change::MapZero]),
+            MemoryCase::Unmap => snapshots::changed(alloc, &[Change::Unmap]),
+            MemoryCase::SnapshotStore => snapshots::changed(alloc, &STORES),
+            MemoryCase::ViewStore => views::store(alloc),
+            MemoryCase::Dirty => views::dirty(alloc),
+            MemoryCase::PatchOf => commits::patch_of(alloc),
+            MemoryCase::Addresses => commits::addresses(alloc),
+            MemoryCase::Apply => commits::commit(alloc),
         }
     }
 }

@@ -6,81 +6,68 @@ use std::alloc::{AllocError, Global};
 use token::{RunOutcome, Turn};
 use twins::View;
 
-/// A copy of the hart and the memory of a worker's job.
-#[derive(Drop)]
-struct Job {
-    hart: Hart,
-    memory: Picture,
-}
-
-impl Job {
-    /// The copy of what a world lends of a job.
-    fn of(alloc: Global, lent: Option<(&Hart, &View)>) -> Result<Option<Self>, AllocError> {
-        match lent {
-            Some((hart, view)) => Ok(Some(Job {
-                hart: *hart,
-                memory: Picture::of(alloc, view)?,
-            })),
-            None => Ok(None),
-        }
-    }
-
-    /// Whether a world lends the same.
-    fn is_of(&self, alloc: Global, lent: Option<(&Hart, &View)>) -> Result<bool, AllocError> {
-        match lent {
-            Some((hart, view)) => Ok(self.hart == *hart && self.memory.is_of(alloc, view)?),
-            None => Ok(false),
-        }
-    }
-}
-
 /// A copy of all that a world of two workers lends.
 #[derive(Drop)]
 pub struct Lent {
     turns: Vec<Turn>,
     outcome: Option<RunOutcome>,
-    now: Picture,
-    first: Option<Job>,
-    second: Option<Job>,
+    /// The harts of the workers' jobs.
+    first: Option<Hart>,
+    second: Option<Hart>,
+    /// The present memory, and those of the workers' jobs.
+    memories: Picture,
 }
 
 impl Lent {
     /// The copy of a world.
     pub fn of(alloc: Global, world: &World) -> Result<Self, AllocError> {
-        Ok(Lent {
-            turns: Vec::from_slice(alloc, world.turns())?,
+        let memories = Picture::of(alloc, world.now())?;
+        let mut lent = Lent {
+            turns: Vec::new(alloc),
             outcome: world.outcome(),
-            now: Picture::of(alloc, world.now())?,
-            first: Job::of(alloc, world.private(0))?,
-            second: Job::of(alloc, world.private(1))?,
-        })
+            first: hart_of(world.private(0)),
+            second: hart_of(world.private(1)),
+            memories,
+        };
+        lent.push(world)?;
+        Ok(lent)
+    }
+
+    /// Adds the turns and the memories of the workers' jobs.
+    fn push(&mut self, world: &World) -> Result<(), AllocError> {
+        self.turns.extend_from_slice(world.turns())?;
+        push_memory(&mut self.memories, world.private(0))?;
+        push_memory(&mut self.memories, world.private(1))
     }
 
     /// Whether a world lends the same.
     pub fn is_of(&self, alloc: Global, world: &World) -> Result<bool, AllocError> {
-        Ok(
-            self.turns.as_slice() == world.turns()
-                && self.outcome == world.outcome()
-                && self.now.is_of(alloc, world.now())?
-                && is_job(alloc, &self.first, world.private(0))?
-                && is_job(alloc, &self.second, world.private(1))?,
-        )
+        let other = Lent::of(alloc, world)?;
+        Ok(self.is_same(&other))
     }
 
-    /// The present memory.
-    pub fn now(&self) -> &Picture {
-        &self.now
+    /// Whether it is the copy of what another is the copy of.
+    fn is_same(&self, other: &Lent) -> bool {
+        self.turns.as_slice() == other.turns.as_slice()
+            && self.outcome == other.outcome
+            && self.first == other.first
+            && self.second == other.second
+            && self.memories.is_same(&other.memories)
     }
 }
 
-/// Whether a world lends this job, or none where this is none.
-fn is_job(
-    alloc: Global,
-    job: &Option<Job>,
-    lent: Option<(&Hart, &View)>,
-) -> Result<bool, AllocError> {
-    match job {
-        Some(job) => job.is_of(alloc, lent),
-        None => Ok(lent.is_none()),
+/// The hart of what a world lends of a job, none where it lends none.
+fn hart_of(lent: Option<(&Hart, &View)>) -> Option<Hart> {
+    match lent {
+        Some((hart, _)) => Some(*hart),
+        None => None,
+    }
+}
+
+/// Adds the memory of what a world lends of a job, where it lends one.
+fn push_memory(memories: &mut Picture, lent: Option<(&Hart, &View)>) -> Result<(), AllocError> {
+    match lent {
+        Some((_, view)) => memories.push_memory(view),
+        None => Ok(()),
     }
 }

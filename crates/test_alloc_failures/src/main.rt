@@ -17,6 +17,7 @@ mod retry;
 mod runs;
 mod snapshots;
 mod standing;
+mod stores;
 mod tables;
 mod taker;
 mod views;
@@ -33,12 +34,23 @@ use std::sync::Wait;
 use std::thread::Threads;
 
 fn main(rt: HostRuntime) -> io::Result<()> {
-    for (name, case) in CASES {
-        print_answer(&rt, name, perform(&rt, rt.alloc(), case))?;
+    print_cases(&rt, rt.alloc())?;
+    print_quiet_cases(&rt, rt.alloc())
+}
+
+/// Prints what the calls come to that take memory.
+fn print_cases<R: Print + Threads + Wait + Sync>(rt: &R, alloc: Global) -> io::Result<()> {
+    for (name, case) in &CASES {
+        print_answer(rt, name, perform(rt, alloc, case))?;
     }
-    match quiet_after_set_up(rt.alloc()) {
-        Ok(mut quiet) => print_quiet(&rt, rt.alloc(), &mut quiet),
-        Err(failed) => println!(rt; "{failed}"),
+    Ok(())
+}
+
+/// Makes what the calls work on that take no memory, and prints what they come to.
+fn print_quiet_cases<R: Print>(rt: &R, alloc: Global) -> io::Result<()> {
+    match quiet_after_set_up(alloc) {
+        Ok(mut quiet) => print_quiet(rt, alloc, &mut quiet),
+        Err(failed) => println!(rt; "{}", failed.text()),
     }
 }
 
@@ -46,10 +58,16 @@ fn main(rt: HostRuntime) -> io::Result<()> {
 /// after them, so that who refuses all from the first on can see that these and no others were made.
 fn print_quiet<R: Print>(rt: &R, alloc: Global, quiet: &mut Quiet) -> io::Result<()> {
     print_request(rt, alloc, "before them")?;
+    print_groups(rt, quiet)?;
+    print_request(rt, alloc, "after them")
+}
+
+/// Prints what each group of calls comes to that take no memory.
+fn print_groups<R: Print>(rt: &R, quiet: &mut Quiet) -> io::Result<()> {
     for (name, case) in QUIET_CASES {
         print_answer(rt, name, quiet.perform(case))?;
     }
-    print_request(rt, alloc, "after them")
+    Ok(())
 }
 
 /// Asks for memory once, and prints whether it was given.
@@ -64,22 +82,22 @@ fn print_request<R: Print>(rt: &R, alloc: Global, place: &str) -> io::Result<()>
 fn print_answer<R: Print>(rt: &R, name: &str, answer: Result<Answer, Failed>) -> io::Result<()> {
     match answer {
         Ok(answer) => println!(rt; "{name}: {answer}"),
-        Err(failed) => println!(rt; "{name}: {failed}"),
+        Err(failed) => println!(rt; "{name}: {}", failed.text()),
     }
 }
 
 /// What the calls work on that take no memory. Where memory had run out, it is made once more.
 fn quiet_after_set_up(alloc: Global) -> Result<Quiet, Failed> {
     match Quiet::set_up(alloc) {
-        Err(Failed::SetUp(_)) => Quiet::set_up(alloc),
+        Err(Failed::SetUp) => Quiet::set_up(alloc),
         done => done,
     }
 }
 
 /// Performs a case. Where its set-up is refused, it is performed once more from the start.
-fn perform<R: Threads + Wait + Sync>(rt: &R, alloc: Global, case: Case) -> Result<Answer, Failed> {
+fn perform<R: Threads + Wait + Sync>(rt: &R, alloc: Global, case: &Case) -> Result<Answer, Failed> {
     match case.perform(rt, alloc) {
-        Err(Failed::SetUp(_)) => case.perform(rt, alloc),
+        Err(Failed::SetUp) => case.perform(rt, alloc),
         done => done,
     }
 }

@@ -1,7 +1,8 @@
 //! A picture of a memory, by which it is compared before and after a refusal.
 ghost use Rattle.std.specs.Prelude.{◌+◌, ◌^◌, ◌≤◌};
 
-use crate::answer::digest_of;
+use crate::answer::{Answer, digest_of};
+use crate::failed::Failed;
 use guest_memory::layout::{HEAP_START, PAGE_SIZE, STACK_END, STACK_START};
 use paged_memory::{Page, PageMemory};
 use std::alloc::{AllocError, Global};
@@ -32,25 +33,35 @@ impl Picture {
             bytes: Vec::with_capacity(alloc, ROOM * PAGE_TAKES)?,
             mapped: 0,
         };
-        picture.push_pages(memory, 0, IMAGE_LOOKED_AT)?;
-        picture.push_pages(memory, HEAP_START / PAGE_SIZE, HEAP_LOOKED_AT)?;
-        picture.push_pages(
+        picture.push_memory(memory)?;
+        Ok(picture)
+    }
+
+    /// Adds a memory.
+    pub fn push_memory<M: PageMemory>(&mut self, memory: &M) -> Result<(), AllocError> {
+        self.push_pages(memory, 0, IMAGE_LOOKED_AT)?;
+        self.push_pages(memory, HEAP_START / PAGE_SIZE, HEAP_LOOKED_AT)?;
+        self.push_pages(
             memory,
             STACK_START / PAGE_SIZE,
             (STACK_END - STACK_START) / PAGE_SIZE,
-        )?;
-        Ok(picture)
+        )
+    }
+
+    /// Adds bytes.
+    pub fn push_bytes(&mut self, bytes: &[u8]) -> Result<(), AllocError> {
+        self.bytes.extend_from_slice(bytes)
     }
 
     /// Whether a memory looks the same.
     pub fn is_of<M: PageMemory>(&self, alloc: Global, memory: &M) -> Result<bool, AllocError> {
         let other = Picture::of(alloc, memory)?;
-        Ok(self.bytes.as_slice() == other.bytes.as_slice())
+        Ok(self.is_same(&other))
     }
 
-    /// How many pages are mapped.
-    pub fn mapped(&self) -> u64 {
-        self.mapped
+    /// Whether it looks the same as another.
+    pub fn is_same(&self, other: &Picture) -> bool {
+        self.bytes.as_slice() == other.bytes.as_slice()
     }
 
     /// A digest of it.
@@ -68,21 +79,36 @@ impl Picture {
         requires { first + count ≤ 2 ^ 20 }
     {
         for done in 0..count {
-            match memory.find_page(first + done) {
-                Some(page) => self.push_page(page)?,
-                None => self.bytes.push(0)?,
-            }
+            self.push_page(memory.find_page(first + done))?;
         }
         Ok(())
     }
 
-    /// Adds a page.
-    fn push_page(&mut self, page: &Page) -> Result<(), AllocError> {
+    /// Adds a page, or that none is mapped.
+    fn push_page(&mut self, page: Option<&Page>) -> Result<(), AllocError> {
+        let Some(page) = page else {
+            return self.push_bytes(&[0]);
+        };
         let perm = page.perm();
         let flags = 8 + u8::from(perm.read) * 4 + u8::from(perm.write) * 2 + u8::from(perm.execute);
-        self.bytes.push(flags)?;
-        self.bytes.extend_from_slice(page.bytes())?;
         self.mapped = self.mapped.wrapping_add(1);
-        Ok(())
+        self.push_bytes(&[flags])?;
+        self.push_bytes(page.bytes())
     }
+}
+
+/// Whether two memories look the same.
+pub fn look_same<M: PageMemory>(alloc: Global, one: &M, other: &M) -> Result<bool, AllocError> {
+    let picture = Picture::of(alloc, one)?;
+    picture.is_of(alloc, other)
+}
+
+/// An answer with a memory: how many of its pages are mapped, a value, and the digest of its picture.
+pub fn answer_with<M: PageMemory>(alloc: Global, memory: &M, value: u32) -> Result<Answer, Failed> {
+    let picture = Picture::of(alloc, memory)?;
+    Ok(Answer {
+        count: picture.mapped,
+        value,
+        digest: picture.digest(),
+    })
 }

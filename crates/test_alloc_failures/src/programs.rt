@@ -1,14 +1,17 @@
 //! Images of guest programs.
 use crate::failed::Failed;
+use crate::retry::again;
 use data_guest_programs::Program;
 use elf32_reader::{Image, read};
-use std::alloc::{AllocError, Global};
+use std::alloc::Global;
 
 /// The image of a guest program.
 pub fn image_of(alloc: Global, program: &Program) -> Result<Image, Failed> {
     let file = program.file(alloc)?;
-    match read(alloc, &file) {
-        Ok(image) => Ok(image),
-        Err(_) => Err(Failed::SetUp(AllocError)),
-    }
+    image_in(alloc, &file)
+}
+
+/// The image that a file is read as.
+fn image_in(alloc: Global, file: &[u8]) -> Result<Image, Failed> {
+    again!(read(alloc, file))
 }

@@ -9,73 +9,95 @@ use token::{Kept, Need, Serial, Turn, TurnChange};
 pub struct Standing {
     need: Need,
     phase: u64,
-    list: Vec<u32>,
     threads: Vec<Thread>,
-    output: Vec<u8>,
-    fresh: Vec<u8>,
     turns: Vec<Turn>,
-    changes: Vec<u32>,
-    base: Picture,
-    now: Picture,
+    /// How many threads have a turn in the phase and how many bytes the last turn wrote, those threads, and the changes.
+    numbers: Vec<u32>,
+    /// The memories at the phase's start and at present, the output, and what the last turn wrote of it.
+    bytes: Picture,
 }
 
 impl Standing {
     /// The copy of a run.
     pub fn of(alloc: Global, serial: &Serial<Kept>) -> Result<Self, AllocError> {
-        Ok(Standing {
+        let bytes = Picture::of(alloc, serial.base())?;
+        let mut standing = Standing {
             need: serial.need(),
             phase: serial.phase(),
-            list: Vec::from_slice(alloc, serial.list())?,
-            threads: copied(alloc, serial.threads())?,
-            output: Vec::from_slice(alloc, serial.output())?,
-            fresh: Vec::from_slice(alloc, serial.fresh())?,
-            turns: Vec::from_slice(alloc, serial.turns())?,
-            changes: flattened(alloc, serial.changes())?,
-            base: Picture::of(alloc, serial.base())?,
-            now: Picture::of(alloc, serial.now())?,
-        })
+            threads: Vec::new(alloc),
+            turns: Vec::new(alloc),
+            numbers: Vec::new(alloc),
+            bytes,
+        };
+        standing.push(serial)?;
+        Ok(standing)
+    }
+
+    /// Adds all but the memory at the phase's start.
+    fn push(&mut self, serial: &Serial<Kept>) -> Result<(), AllocError> {
+        push_bytes(&mut self.bytes, serial)?;
+        push_threads(&mut self.threads, serial.threads())?;
+        self.turns.extend_from_slice(serial.turns())?;
+        push_numbers(&mut self.numbers, serial)
     }
 
     /// Whether a run lends the same.
     pub fn is_of(&self, alloc: Global, serial: &Serial<Kept>) -> Result<bool, AllocError> {
-        let memory = self.base.is_of(alloc, serial.base())? && self.now.is_of(alloc, serial.now())?;
-        let changes = flattened(alloc, serial.changes())?;
-        let threads = copied(alloc, serial.threads())?;
-        Ok(
-            memory
-                && self.need == serial.need()
-                && self.phase == serial.phase()
-                && self.list.as_slice() == serial.list()
-                && self.threads.as_slice() == threads.as_slice()
-                && self.output.as_slice() == serial.output()
-                && self.fresh.as_slice() == serial.fresh()
-                && self.turns.as_slice() == serial.turns()
-                && self.changes.as_slice() == changes.as_slice(),
-        )
+        let other = Standing::of(alloc, serial)?;
+        Ok(self.is_same(&other))
     }
 
-    /// The present memory.
-    pub fn now(&self) -> &Picture {
-        &self.now
+    /// Whether it is the copy of what another is the copy of.
+    fn is_same(&self, other: &Standing) -> bool {
+        self.need == other.need
+            && self.phase == other.phase
+            && self.threads.as_slice() == other.threads.as_slice()
+            && self.turns.as_slice() == other.turns.as_slice()
+            && self.numbers.as_slice() == other.numbers.as_slice()
+            && self.bytes.is_same(&other.bytes)
     }
 }
 
-/// The threads, side by side.
-fn copied(alloc: Global, threads: &Threads) -> Result<Vec<Thread>, AllocError> {
-    let mut copy = Vec::new(alloc);
+/// Adds the present memory and the output.
+fn push_bytes(bytes: &mut Picture, serial: &Serial<Kept>) -> Result<(), AllocError> {
+    bytes.push_memory(serial.now())?;
+    bytes.push_bytes(serial.output())?;
+    bytes.push_bytes(serial.fresh())
+}
+
+/// Adds how many threads have a turn in the phase and how many bytes the last turn wrote, those threads, and the changes.
+fn push_numbers(numbers: &mut Vec<u32>, serial: &Serial<Kept>) -> Result<(), AllocError> {
+    push_count(numbers, serial.list().len())?;
+    push_count(numbers, serial.fresh().len())?;
+    numbers.extend_from_slice(serial.list())?;
+    push_changes(numbers, serial.changes())
+}
+
+/// Adds the threads, side by side.
+fn push_threads(copy: &mut Vec<Thread>, threads: &Threads) -> Result<(), AllocError> {
     for number in 0..threads.len() {
         copy.push(*threads.get(number as u32))?;
     }
-    Ok(copy)
+    Ok(())
 }
 
-/// Of each change its thread, how many addresses it has, and these.
-fn flattened(alloc: Global, changes: &[TurnChange]) -> Result<Vec<u32>, AllocError> {
-    let mut numbers = Vec::new(alloc);
+/// Adds the changes, one after another.
+fn push_changes(numbers: &mut Vec<u32>, changes: &[TurnChange]) -> Result<(), AllocError> {
     for change in changes {
-        numbers.push(change.thread())?;
-        numbers.push((change.phase() % 0x1_0000_0000) as u32)?;
-        numbers.extend_from_slice(change.addresses())?;
+        push_change(numbers, change)?;
     }
-    Ok(numbers)
+    Ok(())
+}
+
+/// Adds of a change its thread, its phase, how many addresses it has, and these.
+fn push_change(numbers: &mut Vec<u32>, change: &TurnChange) -> Result<(), AllocError> {
+    let phase = (change.phase() % 0x1_0000_0000) as u32;
+    numbers.extend_from_slice(&[change.thread(), phase])?;
+    push_count(numbers, change.addresses().len())?;
+    numbers.extend_from_slice(change.addresses())
+}
+
+/// Adds how many something are.
+fn push_count(numbers: &mut Vec<u32>, count: usize) -> Result<(), AllocError> {
+    Ok(numbers.push((count % 0x1_0000_0000) as u32)?)
 }

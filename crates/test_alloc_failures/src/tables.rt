@@ -76,9 +76,14 @@ pub fn harts() -> Answer {
 /// A table with a second thread, which the first one joins before and after its end.
 pub fn threads() -> Answer {
     let mut threads = Threads::new();
+    answer_of_threads(&mut threads)
+}
+
+/// What the calls of a table without a thread answer.
+fn answer_of_threads(threads: &mut Threads) -> Answer {
     let hart = Hart::new(IMAGE_START, STACK_POINTER, 0, 0);
-    let numbers = [threads.create(hart), threads.create(hart)];
-    let made = numbers.iter().flatten().count();
+    let first = threads.create(hart).is_some();
+    let second = threads.create(hart).is_some();
     let mut waits = false;
     let mut joiners = 0;
     if threads.len() > 1 {
@@ -87,7 +92,7 @@ pub fn threads() -> Answer {
     }
     let digest = mixed(joiners as u64, threads.ready_list().len() as u64);
     Answer {
-        count: made as u64,
+        count: u64::from(first) + u64::from(second),
         value: u32::from(waits),
         digest: mixed(digest, threads.serial_list().len() as u64),
     }
@@ -96,10 +101,21 @@ pub fn threads() -> Answer {
 /// A mutex, a condition variable and a barrier of two threads.
 pub fn objects() -> Answer {
     let mut objects = Objects::new();
-    let mut digest = 0;
-    for reply in [objects.lock(0, 3), objects.unlock(0, 3), objects.lock(1, 3)] {
-        digest = mixed(digest, u64::from(reply == Reply::Waits));
-    }
+    let digest = digest_of_replies(&mut objects);
+    answer_of_objects(&mut objects, digest)
+}
+
+/// A digest of whether the calls of a mutex wait that two threads lock, and that one of them unlocks.
+fn digest_of_replies(objects: &mut Objects) -> u64 {
+    let first = objects.lock(0, 3) == Reply::Waits;
+    let second = objects.unlock(0, 3) == Reply::Waits;
+    let third = objects.lock(1, 3) == Reply::Waits;
+    let digest = mixed(mixed(0, u64::from(first)), u64::from(second));
+    mixed(digest, u64::from(third))
+}
+
+/// What the calls of a mutex that a thread holds, of a condition variable and of a barrier answer.
+fn answer_of_objects(objects: &mut Objects, digest: u64) -> Answer {
     objects.release_all(1);
     objects.take_back(0, 3);
     let held = objects.holds(0);

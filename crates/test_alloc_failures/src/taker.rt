@@ -5,7 +5,7 @@ use runtime::{Sink, SinkFault};
 const ROOM: usize = 16;
 
 /// A sink that takes a byte at a time, keeps the first 16, and never fails. It takes no memory.
-#[derive(Clone, Copy, Debug, Drop)]
+#[derive(Clone, Copy)]
 pub struct Taker {
     bytes: [u8; ROOM],
     count: usize,

@@ -2,63 +2,118 @@
 use crate::answer::{Answer, digest_of, mixed};
 use crate::failed::Failed;
 use crate::lent::Lent;
+use crate::picture::Picture;
 use crate::programs::image_of;
 use crate::retry::again;
 use crate::runs::BOUND;
 use data_written_schedules::Schedule;
+use elf32_reader::Image;
 use schedule::Event;
 use schedule_core::{EventFault, RefusedEvent, World};
 use schedule_text::parse;
-use std::alloc::{AllocError, Global};
+use std::alloc::Global;
 use token::RunOutcome;
 use tracer::trace_text;
 
 /// How many workers there are.
 const WORKERS: u32 = 2;
 
-/// A run opened.
-pub fn open(alloc: Global, schedule: &Schedule) -> Result<Answer, Failed> {
+/// How a run goes by the events of a schedule.
+pub enum Way {
+    /// It is opened alone.
+    Opened,
+    /// The events happen one after another, each by itself.
+    InTurn,
+    /// The events happen all at once.
+    AtOnce,
+}
+
+/// A run that goes by the events of a schedule.
+pub fn played(alloc: Global, schedule: &Schedule, way: &Way) -> Result<Answer, Failed> {
+    let mut world = world_of(alloc, schedule)?;
+    play(alloc, &mut world, schedule, way)
+}
+
+/// Has a run go by the events of a schedule, and answers what it came to.
+fn play(
+    alloc: Global,
+    world: &mut World,
+    schedule: &Schedule,
+    way: &Way,
+) -> Result<Answer, Failed> {
+    match way {
+        Way::Opened => answer_of(alloc, world),
+        Way::InTurn => apply_in_turn(alloc, world, schedule),
+        Way::AtOnce => apply_at_once(alloc, world, schedule),
+    }
+}
+
+/// A run of which nothing has happened.
+fn world_of(alloc: Global, schedule: &Schedule) -> Result<World, Failed> {
     let image = image_of(alloc, &schedule.program)?;
-    let world = again!(World::open(alloc, &image, b"", BOUND, None, WORKERS), true);
-    answer_of(alloc, &world)
+    world_in(alloc, &image)
+}
+
+/// A run of an image, of which nothing has happened.
+fn world_in(alloc: Global, image: &Image) -> Result<World, Failed> {
+    again!(World::open(alloc, image, b"", BOUND, None, WORKERS))
 }
 
 /// The events of a schedule's text.
 pub fn parsed(alloc: Global, schedule: &Schedule) -> Result<Answer, Failed> {
     let text = schedule.whole_text(alloc)?;
-    let events = again!(parse(alloc, text.as_bytes()), true);
+    answer_of_text(alloc, text.as_bytes())
+}
+
+/// The events in a text, and the digest of the text.
+fn answer_of_text(alloc: Global, text: &[u8]) -> Result<Answer, Failed> {
+    let events = events_in(alloc, text)?;
     Ok(Answer {
         count: events.len() as u64,
         value: 0,
-        digest: digest_of(text.as_bytes()),
+        digest: digest_of(text),
     })
 }
 
-/// The events of a schedule, each by itself.
-pub fn apply(alloc: Global, schedule: &Schedule) -> Result<Answer, Failed> {
+/// The events of a schedule.
+fn events_of(alloc: Global, schedule: &Schedule) -> Result<Vec<Event>, Failed> {
+    let text = schedule.whole_text(alloc)?;
+    events_in(alloc, text.as_bytes())
+}
+
+/// The events in a text.
+fn events_in(alloc: Global, text: &[u8]) -> Result<Vec<Event>, Failed> {
+    again!(parse(alloc, text))
+}
+
+/// The events of a schedule, one after another.
+fn apply_in_turn(alloc: Global, world: &mut World, schedule: &Schedule) -> Result<Answer, Failed> {
     let events = events_of(alloc, schedule)?;
-    let mut world = world_of(alloc, schedule)?;
-    for event in events.as_slice() {
-        apply_event(alloc, &mut world, *event)?;
+    apply_events(alloc, world, &events)?;
+    answer_of(alloc, world)
+}
+
+/// Events, one after another.
+fn apply_events(alloc: Global, world: &mut World, events: &[Event]) -> Result<(), Failed> {
+    for event in events {
+        apply_event(alloc, world, *event)?;
     }
-    answer_of(alloc, &world)
+    Ok(())
 }
 
 /// An event.
 fn apply_event(alloc: Global, world: &mut World, event: Event) -> Result<(), Failed> {
     let before = Lent::of(alloc, world)?;
-    again!(world.apply(event), before.is_of(alloc, world)?);
-    Ok(())
+    again!(world.apply(event), before.is_of(alloc, world)?)
 }
 
 /// The events of a schedule, all at once, and again from the one for which memory ran out.
-pub fn apply_all(alloc: Global, schedule: &Schedule) -> Result<Answer, Failed> {
+fn apply_at_once(alloc: Global, world: &mut World, schedule: &Schedule) -> Result<Answer, Failed> {
     let events = events_of(alloc, schedule)?;
-    let mut world = world_of(alloc, schedule)?;
-    if let Err(refused) = world.apply_all(events.as_slice()) {
-        go_on(&mut world, events.as_slice(), refused)?;
+    if let Err(refused) = world.apply_all(&events) {
+        go_on(world, &events, refused)?;
     }
-    answer_of(alloc, &world)
+    answer_of(alloc, world)
 }
 
 /// The events from the one on for which memory ran out.
@@ -74,32 +129,27 @@ fn go_on(world: &mut World, events: &[Event], refused: RefusedEvent) -> Result<(
 
 /// A run amid a schedule, after its first events.
 pub fn world_amid(alloc: Global, schedule: &Schedule, count: usize) -> Result<World, Failed> {
-    let events = events_of(alloc, schedule)?;
     let mut world = world_of(alloc, schedule)?;
+    apply_first(alloc, &mut world, schedule, count)?;
+    Ok(world)
+}
+
+/// The first events of a schedule.
+fn apply_first(
+    alloc: Global,
+    world: &mut World,
+    schedule: &Schedule,
+    count: usize,
+) -> Result<(), Failed> {
+    let events = events_of(alloc, schedule)?;
     match events.get(..count) {
-        Some(first) if world.apply_all(first).is_ok() => Ok(world),
-        _ => Err(Failed::SetUp(AllocError)),
-    }
-}
-
-/// A run of which nothing has happened.
-fn world_of(alloc: Global, schedule: &Schedule) -> Result<World, Failed> {
-    let image = image_of(alloc, &schedule.program)?;
-    Ok(World::open(alloc, &image, b"", BOUND, None, WORKERS)?)
-}
-
-/// The events of a schedule.
-fn events_of(alloc: Global, schedule: &Schedule) -> Result<Vec<Event>, Failed> {
-    let text = schedule.whole_text(alloc)?;
-    match parse(alloc, text.as_bytes()) {
-        Ok(events) => Ok(events),
-        Err(_) => Err(Failed::SetUp(AllocError)),
+        Some(first) if world.apply_all(first).is_ok() => Ok(()),
+        _ => Err(Failed::SetUp),
     }
 }
 
 /// What a run came to so far.
 fn answer_of(alloc: Global, world: &World) -> Result<Answer, Failed> {
-    let trace = trace_text(alloc, world.turns())?;
     let status = match world.outcome() {
         Some(RunOutcome::Exit(status)) => status,
         Some(_) => return Err(Failed::Other),
@@ -108,9 +158,13 @@ fn answer_of(alloc: Global, world: &World) -> Result<Answer, Failed> {
     Ok(Answer {
         count: world.turns().len() as u64,
         value: status,
-        digest: mixed(
-            Lent::of(alloc, world)?.now().digest(),
-            digest_of(trace.as_bytes()),
-        ),
+        digest: digest_at(alloc, world)?,
     })
+}
+
+/// A digest of a run's present memory and of its trace so far.
+fn digest_at(alloc: Global, world: &World) -> Result<u64, Failed> {
+    let trace = trace_text(alloc, world.turns())?;
+    let memory = Picture::of(alloc, world.now())?;
+    Ok(mixed(memory.digest(), digest_of(trace.as_bytes())))
 }
