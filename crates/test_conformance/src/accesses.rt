@@ -1,9 +1,14 @@
 //! Loads and stores.
 
-use crate::fixtures::{assert_status, memory_of};
-use data_guest_programs::{CODE, DATA, ECALL, load};
-use hart::{Hart, Stop, run_to_stop};
+use crate::fixtures::{assert_row, assert_same, assert_status, hart_at, memory_of};
+use data_guest_programs::{CODE, DATA, ECALL, EXIT, load};
+use hart::{Stop, run_to_stop};
+use paged_memory::WholeMemory;
+use std::alloc::Global;
+use std::process::Abort;
+use std::sync::Wait;
 use std::test::Fail;
+use std::thread::Threads;
 
 /// `sw x6,0(x5)`.
 const STORE: u32 = 0x0062_A023;
@@ -48,35 +53,61 @@ static STORES: [(u32, u32, u32); 6] = [
     (0x0062_A023, 0x1234_8765, 0x1234_8765),
 ];
 
+/// `sb x6,0(x5)`, `sh x6,2(x5)`, `sw x6,4(x5)` and `ecall`.
+static IN_ORDER: [u32; 4] = [0x0062_8023, 0x0062_9123, 0x0062_A223, ECALL];
+
+/// What they store of 0x12348765 at `DATA`, and the byte after it.
+static STORED: [u8; 9] = [0x65, 0x00, 0x65, 0x87, 0x65, 0x87, 0x34, 0x12, 0x00];
+
+/// Asserts what a load reads of a word.
+fn assert_load(
+    rt: &(impl Abort + Threads + Wait + Sync),
+    alloc: Global,
+    &(word, value, wanted): &(u32, u32, u32),
+) {
+    let words = [STORE, word, EXIT[0], EXIT[1]];
+    assert_status(rt, alloc, (DATA, value), &words, wanted);
+}
+
+/// Asserts what a store leaves in memory.
+fn assert_store(
+    rt: &(impl Abort + Threads + Wait + Sync),
+    alloc: Global,
+    &(word, value, wanted): &(u32, u32, u32),
+) {
+    let [upper, lower] = load(6, value);
+    let words = [STORE, upper, lower, word, LOAD, EXIT[0], EXIT[1]];
+    assert_status(rt, alloc, (DATA, 0x5555_5555), &words, wanted);
+}
+
 #[test]
-fn loads_and_stores(rt: HostRuntime) -> Result<(), Fail> {
-    for (word, value, wanted) in &LOADS {
-        let operands = (DATA, *value);
-        assert_status(&rt, rt.alloc(), operands, &[STORE, *word], *wanted)?;
+fn loads_and_stores(rt: HostRuntime) {
+    for row in &LOADS {
+        assert_load(&rt, rt.alloc(), row);
     }
-    for (word, value, wanted) in &STORES {
-        let [upper, lower] = load(6, *value);
-        let words = [STORE, upper, lower, *word, LOAD];
-        assert_status(&rt, rt.alloc(), (DATA, 0x5555_5555), &words, *wanted)?;
+    for row in &STORES {
+        assert_store(&rt, rt.alloc(), row);
     }
+}
+
+/// Asserts that these bytes stand at `DATA`.
+fn assert_stored(rt: &impl Abort, memory: &WholeMemory, stored: &[u8]) {
+    for (address, byte) in (DATA..).zip(stored) {
+        assert_row(rt, (address, 0), &memory.byte(address), &Some(*byte));
+    }
+}
+
+/// Asserts what the program of `IN_ORDER` does in its memory.
+fn assert_stores(rt: &impl Abort, memory: &mut WholeMemory) -> Result<(), Fail> {
+    let mut hart = hart_at(CODE, (DATA, 0x1234_8765));
+    let stopped = run_to_stop(&mut hart, memory, 100, None)?;
+    assert_same(rt, &stopped, &(Stop::Ecall, 4));
+    assert_stored(rt, memory, &STORED);
     Ok(())
 }
 
-/// `sb x6,0(x5)`, `sh x6,2(x5)`, `sw x6,4(x5)` and `ecall`.
 #[test]
 fn stores_bytes_in_order(rt: HostRuntime) -> Result<(), Fail> {
-    let words = [0x0062_8023, 0x0062_9123, 0x0062_A223, ECALL];
-    let mut memory = memory_of(rt.alloc(), &words)?;
-    let mut hart = Hart::new(CODE, 0, 0, 0);
-    hart.set_reg(5, 0x0002_0000);
-    hart.set_reg(6, 0x1234_8765);
-    assert_eq!(rt;
-        run_to_stop(&mut hart, &mut memory, 100, None)?,
-        (Stop::Ecall, 4)
-    );
-    let stored = [0x65, 0x00, 0x65, 0x87, 0x65, 0x87, 0x34, 0x12, 0x00];
-    for (address, byte) in (0x0002_0000..).zip(stored) {
-        assert_eq!(rt; memory.byte(address), Some(byte), "{address:x}");
-    }
-    Ok(())
+    let mut memory = memory_of(rt.alloc(), &IN_ORDER)?;
+    assert_stores(&rt, &mut memory)
 }

@@ -1,7 +1,11 @@
 //! What the instructions compute of registers and immediates.
 
 use crate::fixtures::assert_status;
-use std::test::Fail;
+use data_guest_programs::EXIT;
+use std::alloc::Global;
+use std::process::Abort;
+use std::sync::Wait;
+use std::thread::Threads;
 
 /// An instruction of x10, x5 and x6, what x5 and x6 hold, and what x10 then holds.
 type Row = (u32, u32, u32, u32);
@@ -156,16 +160,17 @@ static OF_IMMEDIATES: [Row; 38] = [
     (0x41F2_D513, 0x8000_0000, 0, 0xFFFF_FFFF),
 ];
 
-#[test]
-fn computes(rt: HostRuntime) -> Result<(), Fail> {
-    for table in [
-        OF_REGISTERS.as_slice(),
-        PRODUCTS_AND_QUOTIENTS.as_slice(),
-        OF_IMMEDIATES.as_slice(),
-    ] {
-        for (word, a, b, wanted) in table {
-            assert_status(&rt, rt.alloc(), (*a, *b), &[*word], *wanted)?;
-        }
+/// Asserts what each of some instructions computes, by the status of a program that exits with x10.
+fn assert_computes(rt: &(impl Abort + Threads + Wait + Sync), alloc: Global, rows: &[Row]) {
+    for (word, a, b, wanted) in rows {
+        let words = [*word, EXIT[0], EXIT[1]];
+        assert_status(rt, alloc, (*a, *b), &words, *wanted);
     }
-    Ok(())
+}
+
+#[test]
+fn computes(rt: HostRuntime) {
+    assert_computes(&rt, rt.alloc(), &OF_REGISTERS);
+    assert_computes(&rt, rt.alloc(), &PRODUCTS_AND_QUOTIENTS);
+    assert_computes(&rt, rt.alloc(), &OF_IMMEDIATES);
 }

@@ -1,9 +1,12 @@
 //! Branches and jumps, and instructions that write no register.
 
-use crate::fixtures::{assert_status, memory_of};
+use crate::fixtures::{assert_row, assert_status, hart_at, step_among};
 use data_guest_programs::{CODE, EXIT};
-use hart::{Hart, Stepped, step};
+use std::alloc::Global;
+use std::process::Abort;
+use std::sync::Wait;
 use std::test::Fail;
+use std::thread::Threads;
 
 /// A branch on x5 and x6, over the instruction after it, what x5 and x6 hold, and whether it is taken.
 static BRANCHES: [(u32, u32, u32, bool); 34] = [
@@ -49,7 +52,10 @@ static BRANCHES: [(u32, u32, u32, bool); 34] = [
     (0x0062_F463, 0x0000_0000, 0xFFFF_FFFF, false),
 ];
 
-/// An instruction at 0x00010020, what x5 and x6 hold, the address of the next instruction, and what x5 holds there.
+/// Where the instructions of `STEPS` stand.
+const PLACE: u32 = 0x0001_0020;
+
+/// An instruction at `PLACE`, what x5 and x6 hold, the address of the next instruction, and what x5 holds there.
 static STEPS: [(u32, u32, u32, u32, u32); 17] = [
     // JALR, with bit 0 of the target cleared.
     (0xFFF3_02E7, 9, 0x0001_1006, 0x0001_1004, 0x0001_0024),
@@ -77,36 +83,48 @@ static STEPS: [(u32, u32, u32, u32, u32); 17] = [
     (0x0002_82E7, 0x0001_0011, 0, 0x0001_0010, 0x0001_0024),
 ];
 
-/// A loop back: `addi x10,x10,3`, `addi x5,x5,-1`, `bne x5,x0,-8`.
-const LOOP: [u32; 3] = [0x0035_0513, 0xFFF2_8293, 0xFE02_9CE3];
+/// A loop back: `addi x10,x10,3`, `addi x5,x5,-1`, `bne x5,x0,-8`, and the call exit.
+static LOOP: [u32; 5] = [0x0035_0513, 0xFFF2_8293, 0xFE02_9CE3, EXIT[0], EXIT[1]];
 
 /// JAL over JALR to a function and back: `jal x1,16`, the call exit, a word that is skipped, and at the function
 /// `addi x10,x1,0` and `jalr x0,0(x1)`.
-const FUNCTION: [u32; 6] = [0x0100_00EF, EXIT[0], EXIT[1], 0, 0x0000_8513, 0x0000_8067];
+static FUNCTION: [u32; 6] = [0x0100_00EF, EXIT[0], EXIT[1], 0, 0x0000_8513, 0x0000_8067];
 
-/// Each branch after `addi x10,x0,1` and ahead of `addi x10,x0,0`.
+/// Asserts whether a branch is taken, after `addi x10,x0,1` and ahead of `addi x10,x0,0`.
+fn assert_branch(
+    rt: &(impl Abort + Threads + Wait + Sync),
+    alloc: Global,
+    &(word, a, b, taken): &(u32, u32, u32, bool),
+) {
+    let words = [0x0010_0513, word, 0x0000_0513, EXIT[0], EXIT[1]];
+    assert_status(rt, alloc, (a, b), &words, u32::from(taken));
+}
+
 #[test]
-fn branches_and_calls(rt: HostRuntime) -> Result<(), Fail> {
-    for (word, a, b, taken) in &BRANCHES {
-        let words = [0x0010_0513, *word, 0x0000_0513];
-        assert_status(&rt, rt.alloc(), (*a, *b), &words, u32::from(*taken))?;
+fn branches_and_calls(rt: HostRuntime) {
+    for branch in &BRANCHES {
+        assert_branch(&rt, rt.alloc(), branch);
     }
-    assert_status(&rt, rt.alloc(), (5, 0), &LOOP, 15)?;
-    assert_status(&rt, rt.alloc(), (0, 0), &FUNCTION, CODE + 0x14)?;
+    assert_status(&rt, rt.alloc(), (5, 0), &LOOP, 15);
+    assert_status(&rt, rt.alloc(), (0, 0), &FUNCTION, CODE + 0x14);
+}
+
+/// Asserts what an instruction at `PLACE` leaves. It changes no register but x5.
+fn assert_step(
+    rt: &impl Abort,
+    alloc: Global,
+    &(word, x5, x6, next, after): &(u32, u32, u32, u32, u32),
+) -> Result<(), Fail> {
+    let words = [0, 0, 0, 0, 0, 0, 0, 0, word];
+    let step = step_among(alloc, &words, PLACE, (x5, x6))?;
+    assert_row(rt, (word, x6), &step, &(Ok(()), hart_at(next, (after, x6))));
     Ok(())
 }
 
 #[test]
 fn steps(rt: HostRuntime) -> Result<(), Fail> {
-    for (word, x5, x6, next, after) in &STEPS {
-        let mut memory = memory_of(rt.alloc(), &[0, 0, 0, 0, 0, 0, 0, 0, *word])?;
-        let mut hart = Hart::new(0x0001_0020, 0, 0, 0);
-        hart.set_reg(5, *x5);
-        hart.set_reg(6, *x6);
-        let stepped = step(&mut hart, &mut memory);
-        assert!(rt; matches!(stepped, Stepped::Next), "{word:08x}");
-        let left = [hart.pc(), hart.reg(0), hart.reg(5), hart.reg(6)];
-        assert_eq!(rt; left, [*next, 0, *after, *x6], "{word:08x}");
+    for row in &STEPS {
+        assert_step(&rt, rt.alloc(), row)?;
     }
     Ok(())
 }

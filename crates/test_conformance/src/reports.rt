@@ -1,17 +1,10 @@
 //! Runs of two guest programs, and what sinks are offered.
 
+use crate::fixtures::{CONFIG, assert_same, ending_into, ends, report_into};
 use data_guest_programs::{QUOTIENTS, SEVEN};
-use runtime::{
-    Config, MAX_BOUND, OpenGate, RunFault, RunOutcome, Sink, SinkFault, WriteSink, run, run_into,
-};
+use runtime::{OpenGate, Report, RunFault, RunOutcome, Sink, SinkFault, WriteSink, run};
+use std::process::Abort;
 use std::test::Fail;
-
-/// As many instructions as a run may have, no quantum, and one worker.
-const CONFIG: Config = Config {
-    bound: MAX_BOUND,
-    quantum: None,
-    workers: 1,
-};
 
 /// What `quotients` writes.
 static OUTPUT: [u8; 8] = [0x00, 0x00, 0x00, 0x80, 0x00, 0x00, 0x00, 0x80];
@@ -67,56 +60,57 @@ impl Sink for OneByte {
     }
 }
 
+/// Asserts the outcome of a run of `seven`, how many bytes it wrote, how many turns it had, and the first byte of its code.
+fn assert_seven(rt: &impl Abort, report: &Report) {
+    let byte = report.memory.byte(0x0001_0000);
+    let seen = (report.output.len(), report.trace.len(), byte);
+    assert_same(rt, &report.outcome, &RunOutcome::Exit(7));
+    assert_same(rt, &seen, &(0, 1, Some(0x93)));
+}
+
 #[test]
 fn exits(rt: HostRuntime) -> Result<(), Fail> {
     let file = SEVEN.file(rt.alloc())?;
     let report = run(&rt, rt.alloc(), &file, &[], &CONFIG, &OpenGate)?;
-    assert_eq!(rt; report.outcome, RunOutcome::Exit(7));
-    assert_eq!(rt; report.output.len(), 0);
-    assert_eq!(rt; report.trace.len(), 1);
-    assert_eq!(rt; report.memory.byte(0x0001_0000), Some(0x93));
+    assert_seven(&rt, &report);
     Ok(())
+}
+
+/// Asserts the outcome of a run of `quotients`, and that the report and the sink have its output.
+fn assert_quotients(rt: &impl Abort, report: &Report, sink: &WriteSink<Vec<u8>>) {
+    let ended = (report.outcome, sink.failures());
+    assert_same(rt, &ended, &(RunOutcome::Exit(0), 0));
+    assert_same(rt, &report.output.as_slice(), &OUTPUT.as_slice());
+    assert_same(rt, &sink.writer.as_slice(), &OUTPUT.as_slice());
 }
 
 #[test]
 fn writes_to_a_vec(rt: HostRuntime) -> Result<(), Fail> {
-    let file = QUOTIENTS.file(rt.alloc())?;
     let mut sink = WriteSink::new(Vec::new(rt.alloc()));
-    let report = run_into(&rt, rt.alloc(), &file, &[], &CONFIG, &OpenGate, &mut sink)?;
-    assert_eq!(rt; report.outcome, RunOutcome::Exit(0));
-    assert_eq!(rt; report.output.as_slice(), OUTPUT.as_slice());
-    assert_eq!(rt; sink.writer.as_slice(), OUTPUT.as_slice());
-    assert_eq!(rt; sink.failures(), 0);
+    let report = report_into(&rt, rt.alloc(), &QUOTIENTS, 1, &OpenGate, &mut sink)?;
+    assert_quotients(&rt, &report, &sink);
     Ok(())
 }
 
 #[test]
-fn offers_what_is_left(rt: HostRuntime) -> Result<(), Fail> {
-    let file = QUOTIENTS.file(rt.alloc())?;
+fn offers_what_is_left(rt: HostRuntime) {
     let mut sink = ThreeAtATime {
         offered: [0; 4],
         puts: 0,
     };
-    let _report = run_into(&rt, rt.alloc(), &file, &[], &CONFIG, &OpenGate, &mut sink)?;
-    assert_eq!(rt; sink.offered, [8, 5, 2, 0]);
-    assert_eq!(rt; sink.puts, 3);
-    Ok(())
+    let ending = ending_into(&rt, rt.alloc(), &QUOTIENTS, 1, &mut sink);
+    let wanted = (ends(RunOutcome::Exit(0)), [8, 5, 2, 0], 3);
+    assert_same(&rt, &(ending, sink.offered, sink.puts), &wanted);
 }
 
 #[test]
-fn stops_where_the_sink_fails(rt: HostRuntime) -> Result<(), Fail> {
-    let file = QUOTIENTS.file(rt.alloc())?;
+fn stops_where_the_sink_fails(rt: HostRuntime) {
     let mut sink = OneByte {
         byte: None,
         failures: 0,
     };
-    let answer = run_into(&rt, rt.alloc(), &file, &[], &CONFIG, &OpenGate, &mut sink);
-    let Err(fault) = answer else {
-        return Err(Fail::from(RunFault::BadConfig));
-    };
-    assert_eq!(rt; fault, RunFault::WriteFailed);
-    assert_eq!(rt; fault.number(), 5);
-    assert_eq!(rt; sink.byte, Some(0));
-    assert_eq!(rt; sink.failures(), 1);
-    Ok(())
+    let ending = ending_into(&rt, rt.alloc(), &QUOTIENTS, 1, &mut sink);
+    let wanted = (Err(RunFault::WriteFailed), Some(0), 1);
+    assert_same(&rt, &(ending, sink.byte, sink.failures), &wanted);
+    assert_same(&rt, &RunFault::WriteFailed.number(), &5);
 }

@@ -1,15 +1,18 @@
 //! How whole runs end: at limits, and where the configuration, the input or the file is refused.
 
-use crate::fixtures::{CONFIG, Ending, WORKERS, ending, ends};
-use data_guest_programs::{CODE, SEVEN, file_of};
+use crate::fixtures::{CONFIG, Ending, WORKERS, assert_same, ending, ends};
+use data_guest_programs::{CODE, SEVEN, file_of, file_of_headers};
 use elf32_reader::ElfFault;
 use hart::{Cause, Trap};
 use runtime::{Config, MAX_BOUND, MAX_INPUT, MAX_WORKERS, RunFault, RunOutcome};
-use std::alloc::Global;
+use std::alloc::{AllocError, Global};
 use std::process::Abort;
 use std::sync::Wait;
 use std::test::Fail;
 use std::thread::Threads;
+
+/// As many instructions as a run may have, and no quantum.
+const UNLIMITED: (u64, Option<u64>) = (MAX_BOUND, None);
 
 /// A program of one word that is no instruction: of zeros, FENCE.I, and SLLI with bit 25 set.
 static ILLEGAL: [u32; 3] = [0x0000_0000, 0x0000_100F, 0x0202_9293];
@@ -49,6 +52,19 @@ fn trap(pc: u32, cause: Cause, value: u32) -> RunOutcome {
     }
 }
 
+/// Asserts how the run of a file on an input ends.
+fn assert_ending(
+    rt: &(impl Abort + Threads + Wait + Sync),
+    alloc: Global,
+    file: &[u8],
+    input: &[u8],
+    config: &Config,
+    wanted: Ending,
+) {
+    let answer = ending(rt, alloc, file, input, config);
+    assert_same(rt, &(*config, answer), &(*config, wanted));
+}
+
 /// Asserts how the runs of a file end under limits, with few and with many workers.
 fn assert_ends(
     rt: &(impl Abort + Threads + Wait + Sync),
@@ -63,24 +79,44 @@ fn assert_ends(
             quantum,
             workers,
         };
-        assert_eq!(rt; ending(rt, alloc, file, &[], &config), wanted, "{config:?}");
+        assert_ending(rt, alloc, file, &[], &config, wanted);
     }
+}
+
+/// Asserts how the runs of `seven`, a file, end under limits.
+fn assert_stops(
+    rt: &(impl Abort + Threads + Wait + Sync),
+    alloc: Global,
+    seven: &[u8],
+    &(bound, quantum, stop): &(u64, Option<u64>, Option<u32>),
+) {
+    let outcome = match stop {
+        None => RunOutcome::Exit(7),
+        Some(pc) => trap(pc, Cause::BoundReached, 0),
+    };
+    assert_ends(rt, alloc, seven, (bound, quantum), ends(outcome));
+}
+
+/// Asserts that a program of one word ends by a trap there.
+fn assert_illegal(
+    rt: &(impl Abort + Threads + Wait + Sync),
+    alloc: Global,
+    word: u32,
+) -> Result<(), AllocError> {
+    let file = file_of(alloc, &[word])?;
+    let outcome = trap(CODE, Cause::IllegalInstruction, word);
+    assert_ends(rt, alloc, &file, UNLIMITED, ends(outcome));
+    Ok(())
 }
 
 #[test]
 fn runs_stop_at_limits_and_illegal_words(rt: HostRuntime) -> Result<(), Fail> {
-    let file = SEVEN.file(rt.alloc())?;
-    for (bound, quantum, stop) in LIMITS {
-        let outcome = match stop {
-            None => RunOutcome::Exit(7),
-            Some(pc) => trap(pc, Cause::BoundReached, 0),
-        };
-        assert_ends(&rt, rt.alloc(), &file, (bound, quantum), ends(outcome));
+    for word in &ILLEGAL {
+        assert_illegal(&rt, rt.alloc(), *word)?;
     }
-    for word in ILLEGAL {
-        let file = file_of(rt.alloc(), &[word])?;
-        let outcome = trap(CODE, Cause::IllegalInstruction, word);
-        assert_ends(&rt, rt.alloc(), &file, (MAX_BOUND, None), ends(outcome));
+    let file = SEVEN.file(rt.alloc())?;
+    for row in &LIMITS {
+        assert_stops(&rt, rt.alloc(), &file, row);
     }
     Ok(())
 }
@@ -89,56 +125,96 @@ fn runs_stop_at_limits_and_illegal_words(rt: HostRuntime) -> Result<(), Fail> {
 #[test]
 fn a_run_begins_at_the_entry(rt: HostRuntime) -> Result<(), Fail> {
     let mut file = file_of(rt.alloc(), &[0, 0x0010_0073])?;
-    *file.get_mut(24).ok_or("its entry")? = 4;
+    if let Some(entry) = file.get_mut(24) {
+        *entry = 4;
+    }
     let outcome = trap(CODE + 4, Cause::Breakpoint, 0);
-    assert_ends(&rt, rt.alloc(), &file, (MAX_BOUND, None), ends(outcome));
+    assert_ends(&rt, rt.alloc(), &file, UNLIMITED, ends(outcome));
     Ok(())
 }
 
+/// Asserts that a file is refused so.
+fn assert_refused(
+    rt: &(impl Abort + Threads + Wait + Sync),
+    alloc: Global,
+    file: &[u8],
+    fault: ElfFault,
+) {
+    assert_ends(rt, alloc, file, UNLIMITED, Err(RunFault::Elf(fault)));
+}
+
+/// Asserts that no byte of a file, and 51 of them, are refused, and what the refusal is told as.
+fn assert_truncated(
+    rt: &(impl Abort + Threads + Wait + Sync),
+    alloc: Global,
+    file: &[u8],
+) -> Result<(), Fail> {
+    assert_refused(rt, alloc, &[], ElfFault::Truncated);
+    let cut = file.get(..51).ok_or("51 bytes")?;
+    assert_refused(rt, alloc, cut, ElfFault::Truncated);
+    let text = RunFault::Elf(ElfFault::Truncated).to_string(alloc)?;
+    assert_same(rt, &text.as_str(), &"elf refused: 2 Truncated");
+    Ok(())
+}
+
+/// The last file is a header without segments.
 #[test]
 fn refuses_files(rt: HostRuntime) -> Result<(), Fail> {
-    let limits = (MAX_BOUND, None);
-    let file = SEVEN.file(rt.alloc())?;
-    let truncated = RunFault::Elf(ElfFault::Truncated);
-    assert_ends(&rt, rt.alloc(), &[], limits, Err(truncated));
-    assert_ends(
-        &rt,
-        rt.alloc(),
-        file.get(..51).ok_or("51 bytes")?,
-        limits,
-        Err(truncated),
-    );
-    let text = truncated.to_string(rt.alloc())?;
-    assert_eq!(rt; text.as_str(), "elf refused: 2 Truncated");
-    let mut header = file.get(..52).ok_or("a header")?.to_vec(rt.alloc())?;
-    *header.get_mut(44).ok_or("its number of segments")? = 0;
-    let fault = RunFault::Elf(ElfFault::BadEntry);
-    assert_ends(&rt, rt.alloc(), &header, limits, Err(fault));
+    assert_truncated(&rt, rt.alloc(), &SEVEN.file(rt.alloc())?)?;
+    let header = file_of_headers(rt.alloc(), &[], &[])?;
+    assert_refused(&rt, rt.alloc(), &header, ElfFault::BadEntry);
     Ok(())
+}
+
+/// Asserts that each bad configuration is refused, with a file and an input.
+fn assert_bad_configs(
+    rt: &(impl Abort + Threads + Wait + Sync),
+    alloc: Global,
+    file: &[u8],
+    input: &[u8],
+) {
+    for (bound, quantum, workers) in BAD_CONFIGS {
+        let config = Config {
+            bound,
+            quantum,
+            workers,
+        };
+        assert_ending(rt, alloc, file, input, &config, Err(RunFault::BadConfig));
+    }
+}
+
+/// Asserts what is refused with a file: the configuration ahead of the input, and the input ahead of the file.
+fn assert_refused_with(
+    rt: &(impl Abort + Threads + Wait + Sync),
+    alloc: Global,
+    file: &[u8],
+    large: &[u8],
+) {
+    assert_bad_configs(rt, alloc, file, &[]);
+    assert_bad_configs(rt, alloc, file, large);
+    let wanted = Err(RunFault::InputTooLarge);
+    assert_ending(rt, alloc, file, large, &CONFIG, wanted);
+}
+
+/// Asserts that with a file an input of a byte too much is refused, and one of as many bytes as there may be isn't.
+fn assert_inputs(
+    rt: &(impl Abort + Threads + Wait + Sync),
+    alloc: Global,
+    seven: &[u8],
+    large: &[u8],
+) {
+    assert!(rt; large.len() == 16_777_217);
+    assert_refused_with(rt, alloc, seven, large);
+    assert_refused_with(rt, alloc, &[], large);
+    let wanted = ends(RunOutcome::Exit(7));
+    assert_ending(rt, alloc, seven, &large[1..], &CONFIG, wanted);
 }
 
 /// The configuration is looked at ahead of the input, and the input ahead of the file.
 #[test]
 fn refuses_configurations_and_inputs(rt: HostRuntime) -> Result<(), Fail> {
-    let large = vec![in rt.alloc(); 0; MAX_INPUT + 1]?;
-    assert_eq!(rt; large.len(), 16_777_217);
     let seven = SEVEN.file(rt.alloc())?;
-    for file in [seven.as_slice(), [].as_slice()] {
-        for (bound, quantum, workers) in BAD_CONFIGS {
-            let config = Config {
-                bound,
-                quantum,
-                workers,
-            };
-            for input in [[].as_slice(), large.as_slice()] {
-                let answer = ending(&rt, rt.alloc(), file, input, &config);
-                assert_eq!(rt; answer, Err(RunFault::BadConfig), "{config:?}");
-            }
-        }
-        let answer = ending(&rt, rt.alloc(), file, &large, &CONFIG);
-        assert_eq!(rt; answer, Err(RunFault::InputTooLarge));
-    }
-    let answer = ending(&rt, rt.alloc(), &seven, &large[1..], &CONFIG);
-    assert_eq!(rt; answer, ends(RunOutcome::Exit(7)));
+    let large = vec![in rt.alloc(); 0; MAX_INPUT + 1]?;
+    assert_inputs(&rt, rt.alloc(), &seven, &large);
     Ok(())
 }

@@ -2,22 +2,25 @@
 
 ghost use Rattle.std.specs.Prelude.{◌≡◌};
 
+use crate::fixtures::{Ending, assert_same, ending_into, ends, report_into};
 use data_guest_programs::{QUOTIENTS, TWO_WRITES};
-use runtime::{Config, Gate, MAX_BOUND, OpenGate, RunFault, RunOutcome, Sink, SinkFault, run_into};
+use runtime::{Gate, RunFault, RunOutcome, Sink, SinkFault};
+use std::alloc::Global;
+use std::process::Abort;
+use std::sync::Wait;
 use std::sync::atomic::{AtomicU64, Ordering};
 use std::test::Fail;
+use std::thread::Threads;
 
 /// What `quotients` writes.
 const OUTPUT: [u8; 8] = [0, 0, 0, 0x80, 0, 0, 0, 0x80];
 
-/// As many instructions as a run may have, and no quantum.
-const fn config(workers: u32) -> Config {
-    Config {
-        bound: MAX_BOUND,
-        quantum: None,
-        workers,
-    }
-}
+/// How many bytes the sink takes at a time, and of how many puts the output of `two-writes` then is.
+static PIECES: [(usize, u64); 5] = [(1, 12), (3, 5), (5, 3), (8, 2), (100, 2)];
+
+/// The put that fails, and how many bytes were taken before it. With three bytes at a time the puts are of 3, 3, 2, 3 and 1
+/// bytes.
+static FAILED: [(u64, usize); 5] = [(0, 0), (1, 3), (2, 6), (3, 8), (4, 11)];
 
 /// A sink that takes a few bytes at a time, and fails at one of its puts and all after it.
 #[derive(Drop)]
@@ -103,64 +106,82 @@ impl Gate for Watching<'_> {
     }
 }
 
-#[test]
-fn output_is_sent_at_its_turn(rt: HostRuntime) -> Result<(), Fail> {
-    let file = QUOTIENTS.file(rt.alloc())?;
-    let taken = AtomicU64::new(0);
-    let gate = Watching {
-        taken: &taken,
-        passes: AtomicU64::new(0),
-        at_first: AtomicU64::new(1),
-        at_second: AtomicU64::new(0),
-    };
-    let mut sink = Counting { taken: &taken };
-    let report = run_into(&rt, rt.alloc(), &file, &[], &config(1), &gate, &mut sink)?;
-    assert_eq!(rt; report.output.as_slice(), OUTPUT.as_slice());
-    assert_eq!(rt; gate.at_first.load(Ordering::SeqCst), 0);
-    assert_eq!(rt; gate.at_second.load(Ordering::SeqCst), 8);
-    assert_eq!(rt; gate.passes.load(Ordering::SeqCst), 2);
-    Ok(())
-}
-
-#[test]
-fn sinks_take_all_in_pieces(rt: HostRuntime) -> Result<(), Fail> {
-    let file = TWO_WRITES.file(rt.alloc())?;
-    for workers in [1, 2, 64] {
-        for (most, puts) in [(1, 12), (3, 5), (5, 3), (8, 2), (100, 2)] {
-            let mut sink = Pieces::new(most, u64::MAX);
-            let report = run_into(
-                &rt,
-                rt.alloc(),
-                &file,
-                &[],
-                &config(workers),
-                &OpenGate,
-                &mut sink,
-            )?;
-            assert_eq!(rt; report.outcome, RunOutcome::Exit(3));
-            assert_eq!(rt; (sink.puts, sink.taken), (puts, 12), "{most}");
+impl<'a> Watching<'a> {
+    fn of(taken: &'a AtomicU64) -> Self {
+        Watching {
+            taken,
+            passes: AtomicU64::new(0),
+            at_first: AtomicU64::new(1),
+            at_second: AtomicU64::new(0),
         }
     }
+
+    /// What had been taken at the first and at the second pass, and how many passes there were.
+    fn seen(&self) -> [u64; 3] {
+        [
+            self.at_first.load(Ordering::SeqCst),
+            self.at_second.load(Ordering::SeqCst),
+            self.passes.load(Ordering::SeqCst),
+        ]
+    }
+}
+
+/// Asserts what `quotients` writes, and when a sink takes it.
+fn assert_watched(
+    rt: &(impl Abort + Threads + Wait + Sync),
+    alloc: Global,
+    gate: &Watching<'_>,
+) -> Result<(), RunFault> {
+    let mut sink = Counting { taken: gate.taken };
+    let report = report_into(rt, alloc, &QUOTIENTS, 1, gate, &mut sink)?;
+    assert_same(rt, &report.output.as_slice(), &OUTPUT.as_slice());
+    assert_same(rt, &gate.seen(), &[0, 8, 2]);
     Ok(())
 }
 
 #[test]
-fn a_failed_put_is_a_failed_write(rt: HostRuntime) -> Result<(), Fail> {
-    let file = TWO_WRITES.file(rt.alloc())?;
-    // With three bytes at a time the puts are of 3, 3, 2, 3 and 1 bytes.
-    for (fails_at, taken) in [(0, 0), (1, 3), (2, 6), (3, 8), (4, 11)] {
-        let mut sink = Pieces::new(3, fails_at);
-        let answer = run_into(
-            &rt,
-            rt.alloc(),
-            &file,
-            &[],
-            &config(1),
-            &OpenGate,
-            &mut sink,
-        );
-        assert_eq!(rt; answer.err(), Some(RunFault::WriteFailed));
-        assert_eq!(rt; (sink.taken, sink.failures), (taken, 1), "{fails_at}");
+fn output_is_sent_at_its_turn(rt: HostRuntime) -> Result<(), Fail> {
+    let taken = AtomicU64::new(0);
+    let gate = Watching::of(&taken);
+    Ok(assert_watched(&rt, rt.alloc(), &gate)?)
+}
+
+/// A number of workers, how many bytes the sink takes at a time, and the put at which it fails.
+type Case = (u32, usize, u64);
+
+/// Asserts how the run of `two-writes` ends, how many puts and bytes its sink took, and how often it failed.
+fn assert_sent(
+    rt: &(impl Abort + Threads + Wait + Sync),
+    alloc: Global,
+    case: Case,
+    wanted: (Ending, u64, usize, u64),
+) {
+    let (workers, most, fails_at) = case;
+    let mut sink = Pieces::new(most, fails_at);
+    let ending = ending_into(rt, alloc, &TWO_WRITES, workers, &mut sink);
+    let sent = (ending, sink.puts, sink.taken, sink.failures);
+    assert_same(rt, &(case, sent), &(case, wanted));
+}
+
+/// Asserts that a sink takes all in pieces.
+fn assert_pieces(rt: &(impl Abort + Threads + Wait + Sync), alloc: Global, workers: u32) {
+    for (most, puts) in &PIECES {
+        let wanted = (ends(RunOutcome::Exit(3)), *puts, 12, 0);
+        assert_sent(rt, alloc, (workers, *most, u64::MAX), wanted);
     }
-    Ok(())
+}
+
+#[test]
+fn sinks_take_all_in_pieces(rt: HostRuntime) {
+    for workers in [1, 2, 64] {
+        assert_pieces(&rt, rt.alloc(), workers);
+    }
+}
+
+#[test]
+fn a_failed_put_is_a_failed_write(rt: HostRuntime) {
+    for (fails_at, taken) in &FAILED {
+        let wanted = (Err(RunFault::WriteFailed), *fails_at, *taken, 1);
+        assert_sent(&rt, rt.alloc(), (1, 3, *fails_at), wanted);
+    }
 }

@@ -1,7 +1,9 @@
 //! Lines of the trace that no run of the guest programs has: the names of calls, and numbers at their ends.
 
-use abi::{CallKind, Code, Reply};
-use std::test::Fail;
+use crate::fixtures::assert_same;
+use abi::{Code, Reply};
+use std::alloc::{AllocError, Global};
+use std::process::Abort;
 use token::TurnStop;
 use tracer::{Turn, line, trace_text};
 
@@ -28,55 +30,92 @@ static NAMES: [(u32, &str); 19] = [
     (0xFFFF_FFFF, "call_ffffffff"),
 ];
 
-/// A turn that stopped so. No line shows which version it worked on a copy of.
-fn turn(phase: u64, thread: u32, stop: TurnStop, changed: u64, ran: u64) -> Turn {
-    Turn {
-        phase,
-        thread,
-        base: 0,
-        stop,
-        changed,
-        ran,
-    }
+/// Turns and their lines. No line shows which version a turn worked on a copy of.
+static LINES: [(Turn, &str); 3] = [
+    (
+        Turn {
+            phase: 3,
+            thread: 255,
+            base: 0,
+            stop: TurnStop::Call {
+                number: 10,
+                arguments: [1, 2, 3],
+                reply: Reply::Completed {
+                    code: Code::CountDiffers,
+                    value: None,
+                },
+            },
+            changed: 4096,
+            ran: 1 << 40,
+        },
+        "3 255 barrier 00000001 00000002 00000003 -> 9 changed=4096 ran=1099511627776\n",
+    ),
+    (
+        Turn {
+            phase: 4,
+            thread: 1,
+            base: 0,
+            stop: TurnStop::Wake { mutex: 63 },
+            changed: 0,
+            ran: 0,
+        },
+        "4 1 wake 63 changed=0 ran=0\n",
+    ),
+    (
+        Turn {
+            phase: 1,
+            thread: 0,
+            base: 0,
+            stop: TurnStop::Quantum { pc: 0x0001_0004 },
+            changed: 11,
+            ran: 1,
+        },
+        "1 0 quantum 00010004 changed=11 ran=1\n",
+    ),
+];
+
+/// Asserts the line of a turn.
+fn assert_line(rt: &impl Abort, alloc: Global, turn: &Turn, shown: &str) -> Result<(), AllocError> {
+    assert_same(rt, &line(alloc, turn)?.as_str(), &shown);
+    Ok(())
 }
 
-/// A call that gave a code alone.
-fn called(number: u32, arguments: [u32; 3], code: Code) -> TurnStop {
-    let reply = Reply::Completed { code, value: None };
-    TurnStop::Call {
-        number,
-        arguments,
-        reply,
+/// Asserts the line of a turn whose call has this number, and this name in the line.
+fn assert_name(rt: &impl Abort, alloc: Global, number: u32, name: &str) -> Result<(), AllocError> {
+    let reply = Reply::Completed {
+        code: Code::NoSuchCall,
+        value: None,
+    };
+    let turn = Turn {
+        phase: 1,
+        thread: 0,
+        base: 0,
+        stop: TurnStop::Call {
+            number,
+            arguments: [0, 0, 0],
+            reply,
+        },
+        changed: 0,
+        ran: 1,
+    };
+    let shown = format!(in alloc; "1 0 {name} 00000000 00000000 00000000 -> 1 changed=0 ran=1\n")?;
+    assert_line(rt, alloc, &turn, shown.as_str())
+}
+
+/// Asserts the line of each name.
+fn assert_names(rt: &impl Abort, alloc: Global) -> Result<(), AllocError> {
+    for (number, name) in &NAMES {
+        assert_name(rt, alloc, *number, name)?;
     }
+    Ok(())
 }
 
 #[test]
-fn shows_lines(rt: HostRuntime) -> Result<(), Fail> {
-    let barrier = called(CallKind::Barrier.number(), [1, 2, 3], Code::CountDiffers);
-    for (turn, shown) in [
-        (
-            turn(3, 255, barrier, 4096, 1 << 40),
-            "3 255 barrier 00000001 00000002 00000003 -> 9 changed=4096 ran=1099511627776\n",
-        ),
-        (
-            turn(4, 1, TurnStop::Wake { mutex: 63 }, 0, 0),
-            "4 1 wake 63 changed=0 ran=0\n",
-        ),
-        (
-            turn(1, 0, TurnStop::Quantum { pc: 0x0001_0004 }, 11, 1),
-            "1 0 quantum 00010004 changed=11 ran=1\n",
-        ),
-    ] {
-        assert_eq!(rt; line(rt.alloc(), &turn)?.as_str(), shown);
+fn shows_lines(rt: HostRuntime) -> Result<(), AllocError> {
+    for (turn, shown) in &LINES {
+        assert_line(&rt, rt.alloc(), turn, shown)?;
     }
-    for (number, name) in NAMES {
-        let call = called(number, [0, 0, 0], Code::NoSuchCall);
-        let shown = line(rt.alloc(), &turn(1, 0, call, 0, 1))?;
-        let wanted = format!(in rt.alloc();
-            "1 0 {name} 00000000 00000000 00000000 -> 1 changed=0 ran=1\n"
-        )?;
-        assert_eq!(rt; shown.as_str(), wanted.as_str());
-    }
-    assert_eq!(rt; trace_text(rt.alloc(), &[])?.as_str(), "");
+    assert_names(&rt, rt.alloc())?;
+    assert_same(&rt, &trace_text(rt.alloc(), &[])?.as_str(), &"");
     Ok(())
 }
