@@ -1,13 +1,15 @@
 //! Measures single accesses on a whole memory and on a view, and how long a view takes to open.
 ghost use Rattle.std.specs.Prelude.{◌≡◌, ◌%◌, ◌^◌, ◌<◌};
 
-use crate::timing::each;
+use crate::memories::{change, mapped, view_of};
+use crate::timing::Timed;
 use anyhow::Result;
 use elf32_reader::Image;
-use guest_memory::layout::{HEAP_START, IMAGE_START, PAGE_SIZE, STACK_START};
-use guest_memory::{GuestMemory, Perm};
+use guest_memory::GuestMemory;
+use guest_memory::layout::{IMAGE_START, PAGE_SIZE, STACK_START};
 use paged_memory::{Snapshot, WholeMemory};
 use std::alloc::Global;
+use std::io;
 use std::rt::Clock;
 use std::time::Instant;
 use twins::View;
@@ -15,9 +17,15 @@ use twins::View;
 /// The bytes of thread 0's stack, which the loads and stores go through.
 const SPAN: u32 = 64 * PAGE_SIZE;
 
-/// Loads words, each a stride after the last, and answers their sum.
+/// Loads words, each a stride after the last. The sum is theirs.
 #[inline(never)]
-fn load_words<M: GuestMemory>(memory: &M, stride: u32, count: u64) -> u32 {
+fn load_words<R: Clock, M: GuestMemory>(
+    rt: &R,
+    memory: &M,
+    stride: u32,
+    count: u64,
+) -> io::Result<Timed> {
+    let start = Instant::now(rt)?;
     let mut sum: u32 = 0;
     let mut offset: u32 = 0;
     for _ in 0..count {
@@ -26,12 +34,18 @@ fn load_words<M: GuestMemory>(memory: &M, stride: u32, count: u64) -> u32 {
         }
         offset = offset.wrapping_add(stride) % SPAN;
     }
-    sum
+    Timed::since(rt, &start, count, u64::from(sum))
 }
 
-/// Stores words, each a stride after the last, and answers how many.
+/// Stores words, each a stride after the last. The sum is how many.
 #[inline(never)]
-fn store_words<M: GuestMemory>(memory: &mut M, stride: u32, count: u64) -> u32 {
+fn store_words<R: Clock, M: GuestMemory>(
+    rt: &R,
+    memory: &mut M,
+    stride: u32,
+    count: u64,
+) -> io::Result<Timed> {
+    let start = Instant::now(rt)?;
     let mut sum: u32 = 0;
     let mut offset: u32 = 0;
     for _ in 0..count {
@@ -43,79 +57,31 @@ fn store_words<M: GuestMemory>(memory: &mut M, stride: u32, count: u64) -> u32 {
         }
         offset = offset.wrapping_add(stride) % SPAN;
     }
-    sum
+    Timed::since(rt, &start, count, u64::from(sum))
 }
 
-/// Fetches four words from an address on over and over, and answers their sum.
+/// Fetches the first four words of the image over and over. The sum is theirs.
 #[inline(never)]
-fn fetch_words<M: GuestMemory>(memory: &M, start: u32, count: u64) -> u32
-    requires aligned { start % 4 ≡ 0 }
-    requires below { start < 2 ^ 31 }
-{
+fn fetch_words<R: Clock, M: GuestMemory>(rt: &R, memory: &M, count: u64) -> io::Result<Timed> {
+    let start = Instant::now(rt)?;
     let mut sum: u32 = 0;
     for round in 0..count {
-        if let Some(word) = memory.fetch(start + (round % 4) as u32 * 4) {
+        if let Some(word) = memory.fetch(IMAGE_START + (round % 4) as u32 * 4) {
             sum = sum.wrapping_add(word);
         }
     }
-    sum
+    Timed::since(rt, &start, count, u64::from(sum))
 }
 
-/// Opens views of a snapshot, makes some first stores in each, and answers how many views they were.
+/// Opens views of a snapshot, and makes some first stores in each. The sum is how many views they were.
 #[inline(never)]
-fn open_views(snapshot: &Snapshot, stores: u32, count: u64) -> Result<u32> {
-    let mut opened: u32 = 0;
+fn open_views<R: Clock>(rt: &R, snapshot: &Snapshot, stores: u32, count: u64) -> Result<Timed> {
+    let start = Instant::now(rt)?;
     for _ in 0..count {
-        let mut view = View::open(snapshot.try_clone()?);
-        for page in 0..stores {
-            let _ = view.store8(STACK_START.wrapping_add(page.wrapping_mul(PAGE_SIZE)), 1);
-        }
-        opened = opened.wrapping_add(1);
+        let mut view = view_of(snapshot)?;
+        change(&mut view, STACK_START, 1, stores);
     }
-    Ok(opened)
-}
-
-/// What a store takes on a memory, and how many were made.
-fn timed_stores<R: Clock, M: GuestMemory>(
-    rt: &R,
-    memory: &mut M,
-    stride: u32,
-    count: u64,
-) -> Result<(u128, u32)> {
-    let start = Instant::now(rt)?;
-    let stored = store_words(memory, stride, count);
-    Ok((each(rt, &start, count)?, stored))
-}
-
-/// What a load takes on a memory, and the sum of what was loaded.
-fn timed_loads<R: Clock, M: GuestMemory>(
-    rt: &R,
-    memory: &M,
-    stride: u32,
-    count: u64,
-) -> Result<(u128, u32)> {
-    let start = Instant::now(rt)?;
-    let sum = load_words(memory, stride, count);
-    Ok((each(rt, &start, count)?, sum))
-}
-
-/// What a fetch takes on a memory, and the sum of what was fetched.
-fn timed_fetches<R: Clock, M: GuestMemory>(rt: &R, memory: &M, count: u64) -> Result<(u128, u32)> {
-    let start = Instant::now(rt)?;
-    let sum = fetch_words(memory, IMAGE_START, count);
-    Ok((each(rt, &start, count)?, sum))
-}
-
-/// What the opening of a view and a few first stores take, and how many views were opened.
-fn timed_opens<R: Clock>(
-    rt: &R,
-    snapshot: &Snapshot,
-    stores: u32,
-    count: u64,
-) -> Result<(u128, u32)> {
-    let start = Instant::now(rt)?;
-    let opened = open_views(snapshot, stores, count)?;
-    Ok((each(rt, &start, count)?, opened))
+    Ok(Timed::since(rt, &start, count, count)?)
 }
 
 /// Prints what a store takes on a whole memory, and on a view whose pages are private.
@@ -125,14 +91,18 @@ fn measure_stores<R: Clock + Print>(
     written: &mut View,
     stride: u32,
     count: u64,
-) -> Result<()> {
-    let (whole_store, stored) = timed_stores(rt, whole, stride, count)?;
-    store_words(written, stride, 1000);
-    let (view_store, again) = timed_stores(rt, written, stride, count)?;
+) -> io::Result<()> {
+    let on_whole = store_words(rt, whole, stride, count)?;
+    store_words(rt, written, stride, 1000)?;
+    let on_view = store_words(rt, written, stride, count)?;
+    print_stores(rt, stride, &on_whole, &on_view)
+}
+
+fn print_stores<R: Print>(rt: &R, stride: u32, whole: &Timed, view: &Timed) -> io::Result<()> {
     println!(rt;
-        "store32, stride {stride}: whole {whole_store} ps, view {view_store} ps ({stored} {again})"
-    )?;
-    Ok(())
+        "store32, stride {stride}: whole {} ps, view {} ps ({} {})",
+        whole.picoseconds, view.picoseconds, whole.sum, view.sum
+    )
 }
 
 /// Prints what a load takes on a whole memory, on a view of it, and on a view whose pages are private.
@@ -143,14 +113,24 @@ fn measure_loads<R: Clock + Print>(
     written: &View,
     stride: u32,
     count: u64,
-) -> Result<()> {
-    let (whole_load, one) = timed_loads(rt, whole, stride, count)?;
-    let (base_load, two) = timed_loads(rt, fresh, stride, count)?;
-    let (private_load, three) = timed_loads(rt, written, stride, count)?;
+) -> io::Result<()> {
+    let on_whole = load_words(rt, whole, stride, count)?;
+    let on_base = load_words(rt, fresh, stride, count)?;
+    let on_private = load_words(rt, written, stride, count)?;
+    print_loads(rt, stride, &on_whole, &on_base, &on_private)
+}
+
+fn print_loads<R: Print>(
+    rt: &R,
+    stride: u32,
+    whole: &Timed,
+    base: &Timed,
+    private: &Timed,
+) -> io::Result<()> {
     println!(rt;
-        "load32, stride {stride}: whole {whole_load} ps, base {base_load} ps, private {private_load} ps ({one} {two} {three})"
-    )?;
-    Ok(())
+        "load32, stride {stride}: whole {} ps, base {} ps, private {} ps ({} {} {})",
+        whole.picoseconds, base.picoseconds, private.picoseconds, whole.sum, base.sum, private.sum
+    )
 }
 
 /// Prints what a fetch takes on a whole memory, on a snapshot and on a view.
@@ -160,14 +140,23 @@ fn measure_fetches<R: Clock + Print>(
     snapshot: &Snapshot,
     view: &View,
     count: u64,
-) -> Result<()> {
-    let (whole_fetch, one) = timed_fetches(rt, whole, count)?;
-    let (snapshot_fetch, two) = timed_fetches(rt, snapshot, count)?;
-    let (view_fetch, three) = timed_fetches(rt, view, count)?;
+) -> io::Result<()> {
+    let on_whole = fetch_words(rt, whole, count)?;
+    let on_snapshot = fetch_words(rt, snapshot, count)?;
+    let on_view = fetch_words(rt, view, count)?;
+    print_fetches(rt, &on_whole, &on_snapshot, &on_view)
+}
+
+fn print_fetches<R: Print>(
+    rt: &R,
+    whole: &Timed,
+    snapshot: &Timed,
+    view: &Timed,
+) -> io::Result<()> {
     println!(rt;
-        "fetch: whole {whole_fetch} ps, snapshot {snapshot_fetch} ps, view {view_fetch} ps ({one} {two} {three})"
-    )?;
-    Ok(())
+        "fetch: whole {} ps, snapshot {} ps, view {} ps ({} {} {})",
+        whole.picoseconds, snapshot.picoseconds, view.picoseconds, whole.sum, snapshot.sum, view.sum
+    )
 }
 
 /// Prints what an access takes on a whole memory, on a view of it, and on a view whose pages are private.
@@ -179,13 +168,46 @@ pub fn measure_accesses<R: Clock + Print>(
 ) -> Result<()> {
     let mut whole = WholeMemory::of_image(alloc, image)?;
     let snapshot = Snapshot::of_image(alloc, image)?;
-    let fresh = View::open(snapshot.try_clone()?);
-    let mut written = View::open(snapshot.try_clone()?);
+    measure_beside(rt, &mut whole, &snapshot, count)
+}
+
+/// The same beside a view of a snapshot.
+fn measure_beside<R: Clock + Print>(
+    rt: &R,
+    whole: &mut WholeMemory,
+    snapshot: &Snapshot,
+    count: u64,
+) -> Result<()> {
+    let fresh = view_of(snapshot)?;
+    measure_views(rt, whole, snapshot, &fresh, count)
+}
+
+/// The same beside a view that is stored to.
+fn measure_views<R: Clock + Print>(
+    rt: &R,
+    whole: &mut WholeMemory,
+    snapshot: &Snapshot,
+    fresh: &View,
+    count: u64,
+) -> Result<()> {
+    let mut written = view_of(snapshot)?;
+    measure_words(rt, whole, fresh, &mut written, count)?;
+    Ok(measure_fetches(rt, whole, snapshot, &written, count)?)
+}
+
+/// Prints what stores and loads take, with two strides.
+fn measure_words<R: Clock + Print>(
+    rt: &R,
+    whole: &mut WholeMemory,
+    fresh: &View,
+    written: &mut View,
+    count: u64,
+) -> io::Result<()> {
     for stride in [4, 4100] {
-        measure_stores(rt, &mut whole, &mut written, stride, count)?;
-        measure_loads(rt, &whole, &fresh, &written, stride, count)?;
+        measure_stores(rt, whole, written, stride, count)?;
+        measure_loads(rt, whole, fresh, written, stride, count)?;
     }
-    measure_fetches(rt, &whole, &snapshot, &written, count)
+    Ok(())
 }
 
 /// Prints what opening a view and a few first stores take, where few and where many pages are mapped.
@@ -196,14 +218,13 @@ pub fn measure_opens<R: Clock + Print>(
     count: u64,
 ) -> Result<()> {
     for pages in [100, 16_000] {
-        let mut snapshot = Snapshot::of_image(alloc, image)?;
-        snapshot.map_zero(HEAP_START / PAGE_SIZE, pages, Perm::READ_WRITE)?;
+        let snapshot = mapped(alloc, image, pages)?;
         measure_opens_of(rt, &snapshot, pages, count)?;
     }
     Ok(())
 }
 
-/// Prints what opening a view of a snapshot with so many pages of the heap and a few first stores take.
+/// Prints what they take of a snapshot with so many pages of the heap.
 fn measure_opens_of<R: Clock + Print>(
     rt: &R,
     snapshot: &Snapshot,
@@ -211,10 +232,15 @@ fn measure_opens_of<R: Clock + Print>(
     count: u64,
 ) -> Result<()> {
     for stores in [0, 1, 2] {
-        let (time, opened) = timed_opens(rt, snapshot, stores, count)?;
-        println!(rt;
-            "open with {stores} first stores, {pages} pages mapped: {time} ps ({opened})"
-        )?;
+        let opened = open_views(rt, snapshot, stores, count)?;
+        print_opened(rt, stores, pages, &opened)?;
     }
     Ok(())
+}
+
+fn print_opened<R: Print>(rt: &R, stores: u32, pages: u32, opened: &Timed) -> io::Result<()> {
+    println!(rt;
+        "open with {stores} first stores, {pages} pages mapped: {} ps ({})",
+        opened.picoseconds, opened.sum
+    )
 }

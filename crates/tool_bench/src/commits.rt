@@ -1,12 +1,15 @@
 //! Measures the merging of pages, and the commit of a patch.
-use crate::timing::each;
+ghost use Rattle.std.specs.Prelude.{◌≤◌};
+
+use crate::memories::{change, mapped, view_of};
+use crate::timing::Timed;
 use anyhow::Result;
 use commit::{Patch, apply, changed, changed_addresses, count_page, merge_page};
 use elf32_reader::Image;
-use guest_memory::layout::{HEAP_START, PAGE_SIZE};
-use guest_memory::{GuestMemory, Perm};
+use guest_memory::layout::HEAP_START;
 use paged_memory::Snapshot;
 use std::alloc::Global;
+use std::io;
 use std::rt::Clock;
 use std::time::Instant;
 use twins::View;
@@ -23,6 +26,15 @@ enum Work {
     MergePlainly,
     Copy,
 }
+
+/// The works on pages, by the names that are printed.
+static WORKS: [(&str, Work); 5] = [
+    ("count_page", Work::Count),
+    ("count byte by byte", Work::CountPlainly),
+    ("merge_page", Work::Merge),
+    ("merge byte by byte", Work::MergePlainly),
+    ("copy of a page", Work::Copy),
+];
 
 /// The differing bytes of two pages, counted one by one.
 #[inline(never)]
@@ -52,13 +64,14 @@ fn copy_page(now: &mut [u8; 4096], mine: &[u8; 4096]) {
     *now = *mine;
 }
 
-/// Does the work on pages of which one byte changes each time, and answers a sum of what came out.
+/// Does the work on pages of which one byte changes each time.
 #[inline(never)]
-fn repeat(work: Work, count: u64) -> u32 {
+fn repeat<R: Clock>(rt: &R, work: Work, count: u64) -> io::Result<Timed> {
     let mut now = [9; 4096];
     let copy = [1; 4096];
     let mut mine = [1; 4096];
     let mut sum: u32 = 0;
+    let start = Instant::now(rt)?;
     for round in 0..count {
         let place = (round.wrapping_mul(37) % 4096) as usize;
         mine[place] ^= 2;
@@ -80,97 +93,55 @@ fn repeat(work: Work, count: u64) -> u32 {
         };
         sum = sum.wrapping_add(done);
     }
-    sum
+    Timed::since(rt, &start, count, u64::from(sum))
 }
 
 /// Prints what counting and merging a page take, by lanes and byte by byte, and what a copy of a page takes.
 pub fn measure_merges<R: Clock + Print>(rt: &R, count: u64) -> Result<()> {
-    for (name, work) in [
-        ("count_page", Work::Count),
-        ("count byte by byte", Work::CountPlainly),
-        ("merge_page", Work::Merge),
-        ("merge byte by byte", Work::MergePlainly),
-        ("copy of a page", Work::Copy),
-    ] {
-        let start = Instant::now(rt)?;
-        let sum = repeat(work, count);
-        let time = each(rt, &start, count)?;
-        println!(rt; "{name}: {time} ps ({sum})")?;
+    for (name, work) in &WORKS {
+        let repeated = repeat(rt, *work, count)?;
+        print_merge(rt, name, &repeated)?;
     }
     Ok(())
 }
 
-/// A view of a snapshot with a byte changed in each of some pages of the heap.
-fn changed_view(snapshot: &Snapshot, stride: u32) -> Result<View> {
-    let mut view = View::open(snapshot.try_clone()?);
-    for page in 0..CHANGED_PAGES {
-        let offset = page.wrapping_mul(stride).wrapping_mul(PAGE_SIZE);
-        let _ = view.store8(HEAP_START.wrapping_add(offset), 1);
-    }
-    Ok(view)
+fn print_merge<R: Print>(rt: &R, name: &str, repeated: &Timed) -> io::Result<()> {
+    println!(rt; "{name}: {} ps ({})", repeated.picoseconds, repeated.sum)
 }
 
-/// Commits a patch to a snapshot over and over, each time from the start, and answers how often.
+/// Commits a patch to a snapshot over and over, each time from the start. The sum is of its bytes.
 #[inline(never)]
-fn apply_often(snapshot: &Snapshot, patch: &Patch, count: u64) -> Result<u64> {
+fn apply_often<R: Clock>(rt: &R, snapshot: &Snapshot, patch: &Patch, count: u64) -> Result<Timed> {
+    let start = Instant::now(rt)?;
     let mut done: u64 = 0;
     for _ in 0..count {
         let mut now = snapshot.try_clone()?;
         apply(&mut now, patch)?;
         done = done.wrapping_add(changed(patch));
     }
-    Ok(done)
+    Ok(Timed::since(rt, &start, count, done)?)
 }
 
-/// Makes the patch of a view over and over, and answers how many bytes they have.
+/// Makes the patch of a view over and over. The sum is of their bytes.
 #[inline(never)]
-fn compare_often(alloc: Global, view: &View, count: u64) -> Result<u64> {
+fn compare_often<R: Clock>(rt: &R, alloc: Global, view: &View, count: u64) -> Result<Timed> {
+    let start = Instant::now(rt)?;
     let mut done: u64 = 0;
     for _ in 0..count {
         done = done.wrapping_add(changed(&Patch::of(alloc, view)?));
     }
-    Ok(done)
+    Ok(Timed::since(rt, &start, count, done)?)
 }
 
-/// Lists the addresses of a patch over and over, and answers how many they are.
+/// Lists the addresses of a patch over and over. The sum is how many they are.
 #[inline(never)]
-fn list_often(alloc: Global, patch: &Patch, count: u64) -> Result<usize> {
-    let mut done: usize = 0;
+fn list_often<R: Clock>(rt: &R, alloc: Global, patch: &Patch, count: u64) -> Result<Timed> {
+    let start = Instant::now(rt)?;
+    let mut done: u64 = 0;
     for _ in 0..count {
-        done = done.wrapping_add(changed_addresses(alloc, patch)?.len());
+        done = done.wrapping_add(changed_addresses(alloc, patch)?.len() as u64);
     }
-    Ok(done)
-}
-
-/// What making the patch of a view takes, and how many bytes the patches had.
-fn timed_compares<R: Clock>(rt: &R, alloc: Global, view: &View, count: u64) -> Result<(u128, u64)> {
-    let start = Instant::now(rt)?;
-    let compared = compare_often(alloc, view, count)?;
-    Ok((each(rt, &start, count)?, compared))
-}
-
-/// What the commit of a patch takes, and how many bytes were committed.
-fn timed_applies<R: Clock>(
-    rt: &R,
-    snapshot: &Snapshot,
-    patch: &Patch,
-    count: u64,
-) -> Result<(u128, u64)> {
-    let start = Instant::now(rt)?;
-    let applied = apply_often(snapshot, patch, count)?;
-    Ok((each(rt, &start, count)?, applied))
-}
-
-/// What the list of a patch's addresses takes, and how many they were.
-fn timed_lists<R: Clock>(
-    rt: &R,
-    alloc: Global,
-    patch: &Patch,
-    count: u64,
-) -> Result<(u128, usize)> {
-    let start = Instant::now(rt)?;
-    let listed = list_often(alloc, patch, count)?;
-    Ok((each(rt, &start, count)?, listed))
+    Ok(Timed::since(rt, &start, count, done)?)
 }
 
 /// Prints what the patch of 16 changed pages, its commit and the list of its addresses take, where few and
@@ -181,13 +152,26 @@ pub fn measure_commits<R: Clock + Print>(
     image: &Image,
     count: u64,
 ) -> Result<()> {
-    for (pages, stride) in [(100, 1), (100, 6), (16_000, 1), (16_000, 6), (16_000, 1000)] {
-        let mut snapshot = Snapshot::of_image(alloc, image)?;
-        snapshot.map_zero(HEAP_START / PAGE_SIZE, pages, Perm::READ_WRITE)?;
-        print!(rt; "{pages} pages mapped, a changed page in {stride}: ")?;
-        measure_commit(rt, alloc, &snapshot, stride, count)?;
+    for (pages, apart) in [(100, 1), (100, 6), (16_000, 1), (16_000, 6), (16_000, 1000)] {
+        print!(rt; "{pages} pages mapped, a changed page in {apart}: ")?;
+        measure_mapped(rt, alloc, image, pages, apart, count)?;
     }
     Ok(())
+}
+
+/// Prints what they take where so many pages are mapped, and the changed ones are so many apart.
+fn measure_mapped<R: Clock + Print>(
+    rt: &R,
+    alloc: Global,
+    image: &Image,
+    pages: u32,
+    apart: u32,
+    count: u64,
+) -> Result<()>
+    requires { pages ≤ 16000 }
+{
+    let snapshot = mapped(alloc, image, pages)?;
+    measure_commit(rt, alloc, &snapshot, apart, count)
 }
 
 /// Prints what they take for one snapshot.
@@ -195,16 +179,43 @@ fn measure_commit<R: Clock + Print>(
     rt: &R,
     alloc: Global,
     snapshot: &Snapshot,
-    stride: u32,
+    apart: u32,
     count: u64,
 ) -> Result<()> {
-    let view = changed_view(snapshot, stride)?;
+    let mut view = view_of(snapshot)?;
+    change(&mut view, HEAP_START, apart, CHANGED_PAGES);
     let patch = Patch::of(alloc, &view)?;
-    let (of, compared) = timed_compares(rt, alloc, &view, count)?;
-    let (commit, applied) = timed_applies(rt, snapshot, &patch, count)?;
-    let (list, listed) = timed_lists(rt, alloc, &patch, count)?;
+    measure_patch(rt, alloc, snapshot, &view, &patch, count)
+}
+
+/// Prints what they take for one patch.
+fn measure_patch<R: Clock + Print>(
+    rt: &R,
+    alloc: Global,
+    snapshot: &Snapshot,
+    view: &View,
+    patch: &Patch,
+    count: u64,
+) -> Result<()> {
+    let compared = compare_often(rt, alloc, view, count)?;
+    let applied = apply_often(rt, snapshot, patch, count)?;
+    let listed = list_often(rt, alloc, patch, count)?;
+    Ok(print_patch(rt, &compared, &applied, &listed)?)
+}
+
+fn print_patch<R: Print>(
+    rt: &R,
+    compared: &Timed,
+    applied: &Timed,
+    listed: &Timed,
+) -> io::Result<()> {
     println!(rt;
-        "Patch::of {of} ps, apply {commit} ps, changed_addresses {list} ps ({compared} {applied} {listed})"
-    )?;
-    Ok(())
+        "Patch::of {} ps, apply {} ps, changed_addresses {} ps ({} {} {})",
+        compared.picoseconds,
+        applied.picoseconds,
+        listed.picoseconds,
+        compared.sum,
+        applied.sum,
+        listed.sum
+    )
 }

@@ -64,7 +64,7 @@ fn each_time<R: Clock>(
     for _ in 0..count {
         run_each(alloc, jobs, base)?;
     }
-    each(rt, &start, count)
+    Ok(each(rt, &start, count)?)
 }
 
 /// What a phase takes by so many workers, so many times.
@@ -82,7 +82,23 @@ fn phase_time<R: Clock + Threads + Sync>(
     for _ in 0..count {
         run_phase(rt, alloc, jobs, workers, &OpenGate, base)?;
     }
-    each(rt, &start, count)
+    Ok(each(rt, &start, count)?)
+}
+
+/// Times the jobs one after another, and a phase of them by 1, 2 and 4 workers, and keeps the least of each.
+fn time_round<R: Clock + Threads + Sync>(
+    rt: &R,
+    alloc: Global,
+    jobs: &[Job; PHASE_JOBS],
+    base: &Snapshot,
+    count: u64,
+    least: &mut [u128; 4],
+) -> Result<()> {
+    least[0] = least[0].min(each_time(rt, alloc, jobs, base, count)?);
+    for (place, workers) in [(1, 1), (2, 2), (3, 4)] {
+        least[place] = least[place].min(phase_time(rt, alloc, jobs, workers, base, count)?);
+    }
+    Ok(())
 }
 
 /// Prints what a phase of jobs of so many instructions takes by 1, 2 and 4 workers, and its segments one after another.
@@ -97,11 +113,13 @@ fn measure_phase<R: Clock + Print + Threads + Sync>(
     let jobs = jobs_of(image, instructions);
     let mut least = [u128::MAX; 4];
     for _ in 0..ROUNDS {
-        least[0] = least[0].min(each_time(rt, alloc, &jobs, base, count)?);
-        least[1] = least[1].min(phase_time(rt, alloc, &jobs, 1, base, count)?);
-        least[2] = least[2].min(phase_time(rt, alloc, &jobs, 2, base, count)?);
-        least[3] = least[3].min(phase_time(rt, alloc, &jobs, 4, base, count)?);
+        time_round(rt, alloc, &jobs, base, count, &mut least)?;
     }
+    print_phase(rt, instructions, least)
+}
+
+/// Prints what the jobs took one after another, and by 1, 2 and 4 workers.
+fn print_phase<R: Print>(rt: &R, instructions: u64, least: [u128; 4]) -> Result<()> {
     let [alone, one, two, four] = least;
     println!(rt;
         "4 jobs of {instructions}: {alone} ps one after another, {one} ps with 1 worker, {two} ps with 2, {four} ps with 4"
@@ -146,11 +164,18 @@ fn look_often(draws: &Draws, seat: &mut DrawSeat)
 /// What a draw takes, and a look for the least noted number, in picoseconds.
 fn draw_times<R: Clock>(rt: &R, alloc: Global) -> Result<(u128, u128)> {
     let (draws, mut seats) = Draws::new(alloc, MANY_JOBS, 1)?;
+    draw_and_look(rt, &draws, &mut seats[0])
+}
+
+/// The same by a seat that has done nothing.
+fn draw_and_look<R: Clock>(rt: &R, draws: &Draws, seat: &mut DrawSeat) -> Result<(u128, u128)>
+    requires { seat.old.row ≡ draws.now }
+{
     let start = Instant::now(rt)?;
-    draw_all(&draws, &mut seats[0]);
+    draw_all(draws, seat);
     let draw = each(rt, &start, u64::from(MANY_JOBS))?;
     let start = Instant::now(rt)?;
-    look_often(&draws, &mut seats[0]);
+    look_often(draws, seat);
     Ok((draw, each(rt, &start, u64::from(MANY_JOBS))?))
 }
 
@@ -159,7 +184,7 @@ fn note_time<R: Clock>(rt: &R, alloc: Global) -> Result<u128> {
     let (draws, mut seats) = Draws::new(alloc, MANY_JOBS, 1)?;
     let start = Instant::now(rt)?;
     note_all(&draws, &mut seats[0]);
-    each(rt, &start, u64::from(MANY_JOBS))
+    Ok(each(rt, &start, u64::from(MANY_JOBS))?)
 }
 
 /// Prints what draws take.
@@ -168,9 +193,9 @@ fn measure_draws<R: Clock + Print>(rt: &R, alloc: Global) -> Result<()> {
     let mut look = u128::MAX;
     let mut noted = u128::MAX;
     for _ in 0..ROUNDS {
-        let times = draw_times(rt, alloc)?;
-        draw = draw.min(times.0);
-        look = look.min(times.1);
+        let (a_draw, a_look) = draw_times(rt, alloc)?;
+        draw = draw.min(a_draw);
+        look = look.min(a_look);
         noted = noted.min(note_time(rt, alloc)?);
     }
     println!(rt;
@@ -190,19 +215,29 @@ fn measure_start<R: Clock + Print + Threads + Sync>(rt: &R, count: u64) -> Resul
     Ok(())
 }
 
-/// Prints what phases of four jobs take, of 1 instruction so many times, of 1,000 a tenth as often, of 1,000,000 a
-/// thousandth and of 10,000,000 a ten-thousandth, and what draws and the start of a thread take.
+/// Prints what phases of four jobs take, and what draws and the start of a thread take.
 pub fn measure_phases<R: Clock + Print + Threads + Sync>(
     rt: &R,
     alloc: Global,
     image: &Image,
     count: u64,
 ) -> Result<()> {
-    let base = Snapshot::of_image(alloc, image)?;
-    measure_phase(rt, alloc, image, &base, 1, count)?;
-    measure_phase(rt, alloc, image, &base, 1000, count / 10)?;
-    measure_phase(rt, alloc, image, &base, 1_000_000, count / 1000)?;
-    measure_phase(rt, alloc, image, &base, 10_000_000, count / 10_000)?;
+    measure_lengths(rt, alloc, image, &Snapshot::of_image(alloc, image)?, count)?;
     measure_draws(rt, alloc)?;
     measure_start(rt, count)
+}
+
+/// Prints what phases take whose jobs are of 1 instruction, so many times, of 1,000 a tenth as often, of 1,000,000 a
+/// thousandth and of 10,000,000 a ten-thousandth.
+fn measure_lengths<R: Clock + Print + Threads + Sync>(
+    rt: &R,
+    alloc: Global,
+    image: &Image,
+    base: &Snapshot,
+    count: u64,
+) -> Result<()> {
+    measure_phase(rt, alloc, image, base, 1, count)?;
+    measure_phase(rt, alloc, image, base, 1000, count / 10)?;
+    measure_phase(rt, alloc, image, base, 1_000_000, count / 1000)?;
+    measure_phase(rt, alloc, image, base, 10_000_000, count / 10_000)
 }

@@ -21,38 +21,26 @@ const ROUNDS: u32 = 5;
 /// How many instructions a thread may execute.
 const BOUND: u64 = 1 << 40;
 
-/// Executes so many instructions on a view.
+/// What an instruction takes, of so many on a view.
 #[inline(never)]
-fn do_steps(hart: &mut Hart, view: &mut View, count: u64) -> Result<()> {
+fn step_time<R: Clock>(rt: &R, hart: &mut Hart, view: &mut View, count: u64) -> Result<u128> {
+    let start = Instant::now(rt)?;
     for _ in 0..count {
         let Stepped::Next = step(hart, view) else {
             return Err(anyhow!("the program has stopped"));
         };
     }
-    Ok(())
+    Ok(each(rt, &start, count)?)
 }
 
-/// Makes so many events happen that execute an instruction of a worker's job.
+/// What an event takes that executes an instruction of a worker's job, of so many.
 #[inline(never)]
-fn do_events(world: &mut World, worker: u32, count: u64) -> Result<()> {
+fn event_time<R: Clock>(rt: &R, world: &mut World, worker: u32, count: u64) -> Result<u128> {
+    let start = Instant::now(rt)?;
     for _ in 0..count {
         world.apply(Event::Step(worker))?;
     }
-    Ok(())
-}
-
-/// What an instruction takes.
-fn step_time<R: Clock>(rt: &R, hart: &mut Hart, view: &mut View, count: u64) -> Result<u128> {
-    let start = Instant::now(rt)?;
-    do_steps(hart, view, count)?;
-    each(rt, &start, count)
-}
-
-/// What an event takes.
-fn event_time<R: Clock>(rt: &R, world: &mut World, worker: u32, count: u64) -> Result<u128> {
-    let start = Instant::now(rt)?;
-    do_events(world, worker, count)?;
-    each(rt, &start, count)
+    Ok(each(rt, &start, count)?)
 }
 
 /// Prints what an instruction of thread 0 takes on a view, and what the event of a worker takes that executes it, with one worker and
@@ -64,13 +52,13 @@ pub fn measure_steps<R: Clock + Print>(
     count: u64,
 ) -> Result<()> {
     for workers in [1, 64] {
-        measure_steps_with(rt, alloc, image, workers, count)?;
+        measure_with(rt, alloc, image, workers, count)?;
     }
     Ok(())
 }
 
 /// Prints what they take where the last of so many workers has the job.
-fn measure_steps_with<R: Clock + Print>(
+fn measure_with<R: Clock + Print>(
     rt: &R,
     alloc: Global,
     image: &Image,
@@ -80,16 +68,43 @@ fn measure_steps_with<R: Clock + Print>(
     requires some { 0 < workers }
     requires few { workers ≤ limit.workers }
 {
-    let mut hart = Hart::new(image.entry(), STACK_POINTER, 0, 0);
-    let mut view = View::open(Snapshot::of_image(alloc, image)?);
     let mut world = World::open(alloc, image, &[], BOUND, None, workers)?;
+    measure_world(rt, alloc, image, &mut world, workers, count)
+}
+
+/// The same in a run whose first job nobody has.
+fn measure_world<R: Clock + Print>(
+    rt: &R,
+    alloc: Global,
+    image: &Image,
+    world: &mut World,
+    workers: u32,
+    count: u64,
+) -> Result<()>
+    requires { 0 < workers }
+{
     world.apply(Event::Draw(workers - 1))?;
+    let mut view = View::open(Snapshot::of_image(alloc, image)?);
+    print!(rt; "{workers} workers: ")?;
+    let mut hart = Hart::new(image.entry(), STACK_POINTER, 0, 0);
+    measure_least(rt, &mut hart, &mut view, world, workers - 1, count)
+}
+
+/// Prints the least that they took in some rounds.
+fn measure_least<R: Clock + Print>(
+    rt: &R,
+    hart: &mut Hart,
+    view: &mut View,
+    world: &mut World,
+    worker: u32,
+    count: u64,
+) -> Result<()> {
     let mut instruction = u128::MAX;
     let mut event = u128::MAX;
     for _ in 0..ROUNDS {
-        instruction = instruction.min(step_time(rt, &mut hart, &mut view, count)?);
-        event = event.min(event_time(rt, &mut world, workers - 1, count)?);
+        instruction = instruction.min(step_time(rt, hart, view, count)?);
+        event = event.min(event_time(rt, world, worker, count)?);
     }
-    println!(rt; "{workers} workers: {instruction} ps an instruction, {event} ps its event")?;
+    println!(rt; "{instruction} ps an instruction, {event} ps its event")?;
     Ok(())
 }

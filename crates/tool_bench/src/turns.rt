@@ -17,7 +17,6 @@ const MOST_PAGES: u32 = 1000;
 const BOUND: u64 = 1 << 40;
 
 /// What the guest does over and over: each thread changes a byte in some pages and calls sync.
-#[derive(Clone, Copy)]
 struct Load {
     /// How many pages of the heap are mapped.
     pages: u32,
@@ -29,7 +28,7 @@ struct Load {
 }
 
 /// What is measured: each load differs from the first one in one number.
-const LOADS: [Load; 11] = [
+static LOADS: [Load; 11] = [
     Load {
         pages: 100,
         threads: 1,
@@ -99,7 +98,7 @@ const LOADS: [Load; 11] = [
 ];
 
 /// The words that the guest reads.
-fn input_of(alloc: Global, load: Load) -> Result<Vec<u8>> {
+fn input_of(alloc: Global, load: &Load) -> Result<Vec<u8>> {
     let mut input = Vec::new(alloc);
     let calls = load.pages.div_ceil(MOST_PAGES).max(1);
     for word in [
@@ -111,6 +110,12 @@ fn input_of(alloc: Global, load: Load) -> Result<Vec<u8>> {
         input.extend_from_slice(&word.to_le_bytes())?;
     }
     Ok(input)
+}
+
+/// The run of the guest before its first turn.
+fn run_of(alloc: Global, image: &Image, load: &Load) -> Result<Serial<NoRecord>> {
+    let input = input_of(alloc, load)?;
+    Ok(Start::open(alloc, image, &input, BOUND, None)?.recorded_by(NoRecord))
 }
 
 /// Does the next turn, and answers whether there was one.
@@ -126,55 +131,28 @@ fn one_turn(serial: &mut Serial<NoRecord>) -> Result<bool> {
     }
 }
 
-/// Does so many turns.
+/// What a turn takes with its segment, of so many turns.
 #[inline(never)]
-fn do_turns(serial: &mut Serial<NoRecord>, count: u64) -> Result<()> {
+fn turn_time<R: Clock>(rt: &R, serial: &mut Serial<NoRecord>, count: u64) -> Result<u128> {
+    let start = Instant::now(rt)?;
     for _ in 0..count {
         if !one_turn(serial)? {
             return Err(anyhow!("the run has ended"));
         }
     }
-    Ok(())
+    Ok(each(rt, &start, count)?)
 }
 
-/// Executes the next segment over and over, and does no turn.
+/// What the next segment takes, executed so many times. No turn is done.
 #[inline(never)]
-fn do_segments(serial: &Serial<NoRecord>, count: u64) -> Result<()> {
+fn segment_time<R: Clock>(rt: &R, serial: &Serial<NoRecord>, count: u64) -> Result<u128> {
+    let start = Instant::now(rt)?;
     for _ in 0..count {
         if let Next::Ended(_) = next_turn(serial)? {
             return Err(anyhow!("the run has ended"));
         }
     }
-    Ok(())
-}
-
-/// What a turn takes with its segment.
-fn turn_time<R: Clock>(rt: &R, serial: &mut Serial<NoRecord>, count: u64) -> Result<u128> {
-    let start = Instant::now(rt)?;
-    do_turns(serial, count)?;
-    each(rt, &start, count)
-}
-
-/// What a segment takes.
-fn segment_time<R: Clock>(rt: &R, serial: &Serial<NoRecord>, count: u64) -> Result<u128> {
-    let start = Instant::now(rt)?;
-    do_segments(serial, count)?;
-    each(rt, &start, count)
-}
-
-/// What a turn takes with its segment, and the segment alone, the least of some rounds.
-fn least_times<R: Clock>(
-    rt: &R,
-    serial: &mut Serial<NoRecord>,
-    count: u64,
-) -> Result<(u128, u128)> {
-    let mut turn = u128::MAX;
-    let mut segment = u128::MAX;
-    for _ in 0..ROUNDS {
-        turn = turn.min(turn_time(rt, serial, count)?);
-        segment = segment.min(segment_time(rt, serial, count)?);
-    }
-    Ok((turn, segment))
+    Ok(each(rt, &start, count)?)
 }
 
 /// Prints what turns take: where they change nothing and some pages, after few and many turns, where few
@@ -185,31 +163,46 @@ pub fn measure_turns<R: Clock + Print>(
     image: &Image,
     count: u64,
 ) -> Result<()> {
-    for load in LOADS {
-        let input = input_of(alloc, load)?;
-        let start = Start::open(alloc, image, &input, BOUND, None)?;
-        let mut serial = start.recorded_by(NoRecord);
-        do_turns(&mut serial, load.turns_before)?;
-        let threads = serial.threads().len();
-        let (turn, segment) = least_times(rt, &mut serial, count)?;
-        print_times(rt, load, threads, turn, segment)?;
+    for load in &LOADS {
+        let mut serial = run_of(alloc, image, load)?;
+        measure_load(rt, load, &mut serial, count)?;
     }
     Ok(())
 }
 
-/// Prints what a turn takes with its segment, and the segment alone.
-fn print_times<R: Print>(
+/// Prints what they take in one run.
+fn measure_load<R: Clock + Print>(
     rt: &R,
-    load: Load,
-    threads: usize,
-    turn: u128,
-    segment: u128,
+    load: &Load,
+    serial: &mut Serial<NoRecord>,
+    count: u64,
 ) -> Result<()> {
+    turn_time(rt, serial, load.turns_before)?;
+    print_load(rt, load, serial.threads().len())?;
+    let mut turn = u128::MAX;
+    let mut segment = u128::MAX;
+    for _ in 0..ROUNDS {
+        turn = turn.min(turn_time(rt, serial, count)?);
+        segment = segment.min(segment_time(rt, serial, count)?);
+    }
+    print_turn(rt, turn, segment)
+}
+
+/// Prints what the guest does.
+fn print_load<R: Print>(rt: &R, load: &Load, threads: usize) -> Result<()> {
+    print!(rt;
+        "{} pages mapped, {threads} threads, {} pages changed, after {} turns: ",
+        load.pages, load.changed_pages, load.turns_before
+    )?;
+    Ok(())
+}
+
+/// Prints what a turn takes with its segment, and the segment alone.
+fn print_turn<R: Print>(rt: &R, turn: u128, segment: u128) -> Result<()> {
     let rest = turn.saturating_sub(segment);
     let rate = 1_000_000_000_000 / turn.max(1);
     println!(rt;
-        "{} pages mapped, {threads} threads, {} pages changed, after {} turns: {turn} ps with the segment, {segment} ps the segment, {rest} ps the rest, {rate} turns a second",
-        load.pages, load.changed_pages, load.turns_before
+        "{turn} ps with the segment, {segment} ps the segment, {rest} ps the rest, {rate} turns a second"
     )?;
     Ok(())
 }
