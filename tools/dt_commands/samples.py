@@ -12,8 +12,7 @@ from dt_commands import written_guests
 from dt_commands.repository import TOP
 from dt_commands.texts import contents
 
-CRATE = f"{TOP}/crates/test_guest_runs"
-DATA, SAMPLES = f"{CRATE}/data", f"{TOP}/samples"
+DATA, SAMPLES = written_guests.DATA, f"{TOP}/samples"
 ENDINGS = ("elf", "listing", "trace", "report", "schedule")
 # The sample that the program's stored run is of.
 OF_COMMAND = f"{TOP}/crates/command/data/letter.elf"

@@ -5,12 +5,13 @@ import hashlib
 import io
 import os
 import random
+import shutil
 import tempfile
 import unittest
 from unittest import mock
 
 from dt_commands import c_page, c_samples, guest_runs, guest_tests, manual_examples, measure_c_samples, random_guests, samples
-from dt_commands import sweep_schedules, texts
+from dt_commands import sweep_schedules, texts, written_guests
 from dt_commands.progress import Progress
 
 PAGE = """.SS Program source
@@ -127,8 +128,7 @@ class Programs(unittest.TestCase):
                 it.write(NOTES)
             os.chmod(f"{self.room}/{file}", 0o755)
         how = {"PATH": f"{self.room}:{os.environ['PATH']}", "NOTES": self.notes}
-        crates = [mock.patch.object(it, "CRATE", self.room) for it in (sweep_schedules, samples)]
-        for patch in (mock.patch.dict(os.environ, how), *crates):
+        for patch in (mock.patch.dict(os.environ, how), mock.patch.object(sweep_schedules, "CRATE", self.room)):
             patch.start()
             self.addCleanup(patch.stop)
 
@@ -141,9 +141,34 @@ class Programs(unittest.TestCase):
         self.assertEqual(sweep_schedules.sweep(options), 0)
         self.assertEqual(self.asked(), ["rt run -- comparison", "test_guest_runs walk 7 3"])
 
-    def test_samples_are_made_before_they_are_copied(self):
-        samples.make()
-        self.assertEqual(self.asked(), ["rt run -- write data"])
+
+class Samples(unittest.TestCase):
+    """The ELF files of samples, in copies of their folders."""
+
+    def setUp(self):
+        room = tempfile.TemporaryDirectory()
+        self.addCleanup(room.cleanup)
+        self.data, of_command = f"{room.name}/data", f"{room.name}/letter.elf"
+        shutil.copytree(samples.DATA, self.data)
+        shutil.copyfile(samples.OF_COMMAND, of_command)
+        for module, name, value in ((samples, "DATA", self.data), (samples, "OF_COMMAND", of_command), (written_guests, "DATA", self.data)):
+            patch = mock.patch.object(module, name, value)
+            patch.start()
+            self.addCleanup(patch.stop)
+
+    def test_they_are_as_their_listings(self):
+        self.assertEqual(samples.differing(), [])
+
+    def test_a_listing_with_another_word_is_told(self):
+        with open(f"{self.data}/race.listing", "r+", encoding="utf-8") as it:
+            text = it.read()
+            it.seek(0)
+            it.write(text.replace(" 00000073 ", " 00100073 ", 1))
+        self.assertEqual(samples.differing()[0], f"{self.data}/race.elf")
+
+    def test_a_file_of_no_sample_is_told(self):
+        shutil.copyfile(f"{self.data}/race.elf", f"{self.data}/other.elf")
+        self.assertIn(f"{self.data}/other.elf", samples.differing())
 
 
 class Measures(unittest.TestCase):
