@@ -2,7 +2,7 @@
 ghost use Rattle.std.specs.Prelude.{◌≡◌, ◌%◌, ◌^◌, ◌<◌};
 
 use crate::memories::{change, mapped, view_of};
-use crate::timing::Timed;
+use crate::timing::{Timed, print_three};
 use anyhow::Result;
 use elf32_reader::Image;
 use guest_memory::GuestMemory;
@@ -16,6 +16,9 @@ use twins::View;
 
 /// The bytes of thread 0's stack, which the loads and stores go through.
 const SPAN: u32 = 64 * PAGE_SIZE;
+
+/// The names of the fetches that are printed.
+static FETCHES: [&str; 3] = ["fetch: whole", "snapshot", "view"];
 
 /// Loads words, each a stride after the last. The sum is theirs.
 #[inline(never)]
@@ -144,19 +147,7 @@ fn measure_fetches<R: Clock + Print>(
     let on_whole = fetch_words(rt, whole, count)?;
     let on_snapshot = fetch_words(rt, snapshot, count)?;
     let on_view = fetch_words(rt, view, count)?;
-    print_fetches(rt, &on_whole, &on_snapshot, &on_view)
-}
-
-fn print_fetches<R: Print>(
-    rt: &R,
-    whole: &Timed,
-    snapshot: &Timed,
-    view: &Timed,
-) -> io::Result<()> {
-    println!(rt;
-        "fetch: whole {} ps, snapshot {} ps, view {} ps ({} {} {})",
-        whole.picoseconds, snapshot.picoseconds, view.picoseconds, whole.sum, snapshot.sum, view.sum
-    )
+    print_three(rt, &FETCHES, &on_whole, &on_snapshot, &on_view)
 }
 
 /// Prints what an access takes on a whole memory, on a view of it, and on a view whose pages are private.
@@ -191,14 +182,14 @@ fn measure_views<R: Clock + Print>(
     count: u64,
 ) -> Result<()> {
     let mut written = view_of(snapshot)?;
-    measure_words(rt, whole, fresh, &mut written, count)?;
-    Ok(measure_fetches(rt, whole, snapshot, &written, count)?)
+    Ok(measure_words(rt, whole, snapshot, fresh, &mut written, count)?)
 }
 
-/// Prints what stores and loads take, with two strides.
+/// Prints what stores and loads take, with two strides, and then fetches.
 fn measure_words<R: Clock + Print>(
     rt: &R,
     whole: &mut WholeMemory,
+    snapshot: &Snapshot,
     fresh: &View,
     written: &mut View,
     count: u64,
@@ -207,7 +198,7 @@ fn measure_words<R: Clock + Print>(
         measure_stores(rt, whole, written, stride, count)?;
         measure_loads(rt, whole, fresh, written, stride, count)?;
     }
-    Ok(())
+    measure_fetches(rt, whole, snapshot, written, count)
 }
 
 /// Prints what opening a view and a few first stores take, where few and where many pages are mapped.

@@ -2,7 +2,7 @@
 ghost use Rattle.std.specs.Prelude.{◌≤◌};
 
 use crate::memories::{change, mapped, view_of};
-use crate::timing::Timed;
+use crate::timing::{Timed, print_three};
 use anyhow::Result;
 use commit::{Patch, apply, changed, changed_addresses, count_page, merge_page};
 use elf32_reader::Image;
@@ -35,6 +35,9 @@ static WORKS: [(&str, Work); 5] = [
     ("merge byte by byte", Work::MergePlainly),
     ("copy of a page", Work::Copy),
 ];
+
+/// The names of what is printed of a patch.
+static PARTS: [&str; 3] = ["Patch::of", "apply", "changed_addresses"];
 
 /// The differing bytes of two pages, counted one by one.
 #[inline(never)]
@@ -200,22 +203,5 @@ fn measure_patch<R: Clock + Print>(
     let compared = compare_often(rt, alloc, view, count)?;
     let applied = apply_often(rt, snapshot, patch, count)?;
     let listed = list_often(rt, alloc, patch, count)?;
-    Ok(print_patch(rt, &compared, &applied, &listed)?)
-}
-
-fn print_patch<R: Print>(
-    rt: &R,
-    compared: &Timed,
-    applied: &Timed,
-    listed: &Timed,
-) -> io::Result<()> {
-    println!(rt;
-        "Patch::of {} ps, apply {} ps, changed_addresses {} ps ({} {} {})",
-        compared.picoseconds,
-        applied.picoseconds,
-        listed.picoseconds,
-        compared.sum,
-        applied.sum,
-        listed.sum
-    )
+    Ok(print_three(rt, &PARTS, &compared, &applied, &listed)?)
 }

@@ -41,13 +41,20 @@ fn jobs_of(image: &Image, instructions: u64) -> [Job; PHASE_JOBS] {
     [job; PHASE_JOBS]
 }
 
+/// Runs a job, and makes its patch.
+#[inline(always)]
+fn run_one(alloc: Global, job: &Job, base: &Snapshot) -> Result<(), AllocError> {
+    let mut hart = job.hart;
+    let mut view = View::open(base.try_clone()?);
+    run_coded(base.code(), &mut hart, &mut view, job.left, job.quantum)?;
+    Patch::of(alloc, &view)?;
+    Ok(())
+}
+
 /// Runs jobs one after another, and makes the patch of each.
 fn run_each(alloc: Global, jobs: &[Job], base: &Snapshot) -> Result<(), AllocError> {
     for job in jobs {
-        let mut hart = job.hart;
-        let mut view = View::open(base.try_clone()?);
-        run_coded(base.code(), &mut hart, &mut view, job.left, job.quantum)?;
-        Patch::of(alloc, &view)?;
+        run_one(alloc, job, base)?;
     }
     Ok(())
 }

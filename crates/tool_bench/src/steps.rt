@@ -52,6 +52,7 @@ pub fn measure_steps<R: Clock + Print>(
     count: u64,
 ) -> Result<()> {
     for workers in [1, 64] {
+        print!(rt; "{workers} workers: ")?;
         measure_with(rt, alloc, image, workers, count)?;
     }
     Ok(())
@@ -69,7 +70,7 @@ fn measure_with<R: Clock + Print>(
     requires few { workers ≤ limit.workers }
 {
     let mut world = World::open(alloc, image, &[], BOUND, None, workers)?;
-    measure_world(rt, alloc, image, &mut world, workers, count)
+    measure_world(rt, alloc, image, &mut world, workers - 1, count)
 }
 
 /// The same in a run whose first job nobody has.
@@ -78,16 +79,25 @@ fn measure_world<R: Clock + Print>(
     alloc: Global,
     image: &Image,
     world: &mut World,
-    workers: u32,
+    worker: u32,
     count: u64,
-) -> Result<()>
-    requires { 0 < workers }
-{
-    world.apply(Event::Draw(workers - 1))?;
+) -> Result<()> {
     let mut view = View::open(Snapshot::of_image(alloc, image)?);
-    print!(rt; "{workers} workers: ")?;
+    measure_view(rt, image, &mut view, world, worker, count)
+}
+
+/// The same beside a view.
+fn measure_view<R: Clock + Print>(
+    rt: &R,
+    image: &Image,
+    view: &mut View,
+    world: &mut World,
+    worker: u32,
+    count: u64,
+) -> Result<()> {
     let mut hart = Hart::new(image.entry(), STACK_POINTER, 0, 0);
-    measure_least(rt, &mut hart, &mut view, world, workers - 1, count)
+    world.apply(Event::Draw(worker))?;
+    measure_least(rt, &mut hart, view, world, worker, count)
 }
 
 /// Prints the least that they took in some rounds.

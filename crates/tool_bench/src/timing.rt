@@ -23,3 +23,25 @@ pub fn each<R: Clock>(rt: &R, start: &Instant, count: u64) -> io::Result<u128> {
     let picoseconds = start.elapsed(rt)?.as_nanos().saturating_mul(1000);
     Ok(picoseconds / u128::from(count.max(1)))
 }
+
+/// Prints a line of three works: what each took, after its name, and then the sums.
+pub fn print_three<R: Print>(
+    rt: &R,
+    names: &[&str; 3],
+    one: &Timed,
+    two: &Timed,
+    three: &Timed,
+) -> io::Result<()> {
+    println!(rt;
+        "{} {} ps, {} {} ps, {} {} ps ({} {} {})",
+        names[0],
+        one.picoseconds,
+        names[1],
+        two.picoseconds,
+        names[2],
+        three.picoseconds,
+        one.sum,
+        two.sum,
+        three.sum
+    )
+}

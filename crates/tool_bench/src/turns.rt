@@ -164,14 +164,25 @@ pub fn measure_turns<R: Clock + Print>(
     count: u64,
 ) -> Result<()> {
     for load in &LOADS {
-        let mut serial = run_of(alloc, image, load)?;
-        measure_load(rt, load, &mut serial, count)?;
+        measure_load(rt, alloc, image, load, count)?;
     }
     Ok(())
 }
 
-/// Prints what they take in one run.
+/// Prints what they take where the guest does one thing.
 fn measure_load<R: Clock + Print>(
+    rt: &R,
+    alloc: Global,
+    image: &Image,
+    load: &Load,
+    count: u64,
+) -> Result<()> {
+    let mut serial = run_of(alloc, image, load)?;
+    measure_run(rt, load, &mut serial, count)
+}
+
+/// Prints what they take in one run.
+fn measure_run<R: Clock + Print>(
     rt: &R,
     load: &Load,
     serial: &mut Serial<NoRecord>,
