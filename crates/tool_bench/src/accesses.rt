@@ -81,7 +81,7 @@ fn fetch_words<R: Clock, M: GuestMemory>(rt: &R, memory: &M, count: u64) -> io::
 fn open_views<R: Clock>(rt: &R, snapshot: &Snapshot, stores: u32, count: u64) -> Result<Timed> {
     let start = Instant::now(rt)?;
     for _ in 0..count {
-        let mut view = view_of(snapshot)?;
+        let mut view = View::open(snapshot.try_clone()?);
         change(&mut view, STACK_START, 1, stores);
     }
     Ok(Timed::since(rt, &start, count, count)?)
