@@ -13,9 +13,6 @@ from .repository import TOP
 FAKES = {
     "crates/test_command_rows/src/memory_files.rt",
     "crates/test_output_files/src/faults.rt",
-    "crates/test_alloc_failures/src/failed.rt",
-    "crates/test_alloc_failures/src/programs.rt",
-    "crates/test_alloc_failures/src/quiet.rt",
     "crates/test_alloc_failures/src/worlds.rt",
     "crates/test_parts/src/files.rt",
 }
