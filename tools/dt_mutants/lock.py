@@ -2,8 +2,8 @@
 
 A round reads the crate's sources, specs and proofs, its line of crates.txt, what each crate of the repository below it serves, the
 crate's mutants, the toolchain's logic, and the modules of this tool that plan and judge. It reads nothing else: no page, no must-fail
-edit and nothing in out/ changes a sum, nor does the body of a function of a crate below. Toolchains of one logic prove the same
-statements, so another version of the same logic has the same sums.
+edit and nothing in out/ changes a sum, nor does a function of a crate below that only this crate can call, nor the body of another.
+Toolchains of one logic prove the same statements, so another version of the same logic has the same sums.
 """
 import functools
 import hashlib
@@ -68,15 +68,29 @@ def own_sum(name):
 
 
 @functools.lru_cache(maxsize=None)
-def served_sum(name):
-    """Returns a sum of what a crate serves to those above it, and of its line of crates.txt."""
-    total, folder = hashlib.sha256(repr((name, crates()[name])).encode()), f"{TOP}/crates/{name}"
+def files_of(name):
+    """Returns what the files of a crate's sources, specs and proofs hold, by their paths in its folder."""
+    folder, found = f"{TOP}/crates/{name}", {}
     for file in (it for part in PARTS for it in files_in(f"{folder}/{part}")):
         with open(file, "rb") as it:
-            path = os.path.relpath(file, folder)
-            data = served.of_file(path, it.read())
-        if data is not None:
-            total.update(repr((path, data)).encode())
+            found[os.path.relpath(file, folder)] = it.read()
+    return found
+
+
+@functools.lru_cache(maxsize=None)
+def texts_of(name):
+    """Returns the texts of a crate's sources, specs and proofs."""
+    return [it.decode(errors="replace") for it in files_of(name).values()]
+
+
+@functools.lru_cache(maxsize=None)
+def served_sum(name):
+    """Returns a sum of what a crate serves to those above it, and of its line of crates.txt."""
+    texts = [text for it in crates() if it != name and name in below(it) for text in texts_of(it)]
+    above = set().union(*(served.named_in(it, name) for it in texts))
+    total = hashlib.sha256(repr((name, crates()[name])).encode())
+    for path, text in served.Crate(files_of(name), above).served():
+        total.update(repr((path, text)).encode(errors="surrogateescape"))
     return total.hexdigest()
 
 
@@ -101,6 +115,5 @@ def sum_of(name):
 
 def forget():
     """Has the next sums read the files anew."""
-    own_sum.cache_clear()
-    served_sum.cache_clear()
-    of_the_tool.cache_clear()
+    for it in (own_sum, files_of, texts_of, served_sum, of_the_tool):
+        it.cache_clear()
