@@ -12,7 +12,7 @@ from dt_commands import self_test
 from dt_commands.repository import TOP
 
 PARTS = {
-    "check": ["sources", "layers", "pages", "samples", "pictures", "c-samples", "c-functions"],
+    "check": ["sources", "clauses", "layers", "pages", "samples", "pictures", "c-samples", "c-functions"],
     "test": ["c-samples", "guest", "manual", "c-page", "programs", "timeline"],
     "sweep": ["memory", "changes", "workers", "schedules"],
     "measure": ["workers", "c-samples", "turns", "debugger"],
