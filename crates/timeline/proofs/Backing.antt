@@ -1,7 +1,6 @@
 -- What is told of the steps that a motion back goes over.
-use Rattle.std.proofs.Common.{◌≡◌, ◌∙◌, ℕ, suc, ◌+◌, ◌-◌, ◌<◌, ◌≤◌, true, false, if◌then◌else◌, Option, Some, None, Result, Ok, Err, refl, sym, ap, arith, inl, inr}
+use Rattle.std.proofs.Common.{◌≡◌, ◌∙◌, ℕ, suc, ◌+◌, ◌-◌, ◌<◌, ◌≤◌, true, false, if◌then◌else◌, Option, Some, None, refl, sym, ap, arith, inl, inr}
 use Rattle.std.specs.Option.{option_or}
-use Rattle.std.specs.Result.{OnOk}
 use Rattle.std.specs.Prelude.{min}
 use Rattle.std.proofs.lemmas.Bool.{cases_order}
 use Rattle.token.specs.Point.{Point, need_at}
@@ -12,7 +11,7 @@ use Rattle.timeline.specs.Calls.{call_at}
 use Rattle.timeline.specs.Halting.{ArePlain, IsPlainWalk, address_at, end_at, event_at, halts_at, moves_other}
 use Rattle.timeline.specs.Halts.{Wanted, address_halt, next_access, nothing}
 use Rattle.timeline.specs.Moment.{Moment, moment_at, next_moment}
-use Rattle.timeline.specs.Present.{BeginsAt, IsBegun, IsSound, IsStep, IsTurns, moment_of, point_at, step_of, steps_of}
+use Rattle.timeline.specs.Present.{BeginsAt, IsBegun, IsSound, IsStep, IsTurns, StaysInRun, moment_of, point_at, step_of, steps_of}
 use Rattle.timeline.specs.Shown.{Executing, own_at}
 use Rattle.timeline.specs.declared.halt.Halt.{Halt}
 use Rattle.timeline.specs.declared.halt.Halt.TheVariants.{End, OtherThread}
@@ -181,29 +180,29 @@ halts_at_end moment halt is =
     no_threads (need.Ended outcome) = refl
 
 -- the next position of a run, by that of a run that begins with its turn
-pub next_of : (present copy after : Present) → point_at copy ≡ point_at present → steps_of copy.running ≡ steps_of present.running → copy.before ≡ 0 → IsSound copy → IsSound after
-    → ((start : Point) → BeginsAt start copy → BeginsAt start after) → step_of after ≡ step_of copy + 1 → next_moment (moment_of present) ≡ Some (moment_of after)
-next_of present copy after point steps before sound after_sound keeps next =
+pub next_of : (present copy after : Present) → point_at copy ≡ point_at present → steps_of copy.running ≡ steps_of present.running → copy.before ≡ 0 → IsSound copy
+    → StaysInRun copy after → step_of after ≡ step_of copy + 1 → next_moment (moment_of present) ≡ Some (moment_of after)
+next_of present copy after point steps before sound stays next =
     let start = point_at copy in
     let begins : BeginsAt start copy = rw before (at_start start) in
     let here = stands_at start copy sound.turns begins in
-    let there = stands_at start after after_sound.turns (keeps start begins) in
+    let there = stands_at start after stays.sound.turns (stays.begins start begins) in
     let same : moment_of copy ≡ moment_of present = λ i. record { point = point i; steps = steps i } in
     let more : suc (step_of copy) ≡ step_of after = omega (arith, next) in
     ap next_moment (sym same) ∙ sym (then_next start (step_of copy) (moment_of copy) here) ∙ ap (moment_at start) more ∙ there
 
 -- none if that run halts where it stands
 pub none_next : (present copy after : Present) (halt : Halt) (wanted : Wanted) → point_at copy ≡ point_at present → steps_of copy.running ≡ steps_of present.running → copy.before ≡ 0 → IsSound copy
-    → IsSound after → ((start : Point) → BeginsAt start copy → BeginsAt start after) → wanted ≡ nothing → IsStep copy (step_of copy + 1) (Some halt) after
+    → StaysInRun copy after → wanted ≡ nothing → IsStep copy (step_of copy + 1) (Some halt) after
     → IsPlainWalk wanted copy (Some halt) after → next_moment (moment_of present) ≡ None
-none_next present copy after halt wanted point steps before sound after_sound keeps same_wanted step walk =
+none_next present copy after halt wanted point steps before sound stays same_wanted step walk =
     let start = point_at copy in
     let begins : BeginsAt start copy = rw before (at_start start) in
     let here = stands_at start copy sound.turns begins in
-    let there = stands_at start after after_sound.turns (keeps start begins) in
+    let there = stands_at start after stays.sound.turns (stays.begins start begins) in
     let same : moment_of copy ≡ moment_of present = λ i. record { point = point i; steps = steps i } in
-    let stays : step_of after ≡ step_of copy = omega (arith, step.0, step.1) in
-    let both : Some (moment_of copy) ≡ Some (moment_of after) = sym here ∙ ap (moment_at start) (sym stays) ∙ there in
+    let kept : step_of after ≡ step_of copy = omega (arith, step.0, step.1) in
+    let both : Some (moment_of copy) ≡ Some (moment_of after) = sym here ∙ ap (moment_at start) (sym kept) ∙ there in
     let moment : moment_of copy ≡ moment_of after = ap (moment_or (moment_of copy)) both in
     let halts = rw same_wanted at walk.2 in
     let none = nothing_at (own_at (moment_of after)) in
@@ -214,25 +213,21 @@ none_next present copy after halt wanted point steps before sound after_sound ke
     moment_or moment None = moment
     moment_or moment (Some other) = other
 
-pub on_both : {A E : Type 0} (result : Result A E) (P Q R : Type 0) → OnOk result P → OnOk result Q → (P → Q → R) → OnOk result R
-on_both (Ok value) P Q R one other both = both one other
-on_both (Err error) P Q R one other both = tt
-
 -- a motion by one step that is asked for nothing makes it
 pub one_step : (old new : Present) (wanted : Wanted) (halt : Option Halt) (here : ℕ) → LeadsTo old (step_of old + 1) → here ≡ step_of old → wanted ≡ nothing
-    → IsStep old (here + 1) halt new → IsPlainWalk wanted old halt new → IsSound new → ((start : Point) → BeginsAt start old → BeginsAt start new) → step_of new ≡ step_of old + 1
-one_step old new wanted halt here leads same same_wanted step walk sound keeps =
+    → IsStep old (here + 1) halt new → IsPlainWalk wanted old halt new → StaysInRun old new → step_of new ≡ step_of old + 1
+one_step old new wanted halt here leads same same_wanted step walk stays =
     let goal : here + 1 ≡ step_of old + 1 = omega (arith, same) in
     let on =
-    goes_on leads.start wanted old old new (step_of old + 1) (step_of old + 1) leads.moment halt same_wanted refl (rw goal at step) walk sound.turns (keeps leads.start leads.begins) (omega arith)
+    goes_on leads.start wanted old old new (step_of old + 1) (step_of old + 1) leads.moment halt same_wanted refl (rw goal at step) walk stays.sound.turns (stays.begins leads.start leads.begins) (omega arith)
     leads.there in
     omega (arith, on.0, on.1)
 
 -- a motion over a turn of which nothing is told
 pub turn_passed : (wanted : Wanted) (old new : Present) (until : ℕ) (halt : Option Halt) → IsSound old → IsBegun (point_at old) old.running → looks wanted old.running ≡ false → LeadsTo old until
-    → IsStep old until halt new → IsPlainWalk wanted old halt new → IsSound new → ((start : Point) → BeginsAt start old → BeginsAt start new) → (step_of old < step_of new) × (step_of new ≤ until)
-turn_passed wanted old new until halt sound begun is leads step walk new_sound keeps =
-    not_halted wanted leads.start old new until until leads.moment halt step walk quiet new_sound.turns (keeps leads.start leads.begins) (omega arith) leads.there
+    → IsStep old until halt new → IsPlainWalk wanted old halt new → StaysInRun old new → (step_of old < step_of new) × (step_of new ≤ until)
+turn_passed wanted old new until halt sound begun is leads step walk stays =
+    not_halted wanted leads.start old new until until leads.moment halt step walk quiet stays.sound.turns (stays.begins leads.start leads.begins) (omega arith) leads.there
   where
     quiet : point_at new ≡ point_at old
         → (address_at wanted (own_at (moment_of new)) ≡ None) × (event_at wanted.watches (own_at (moment_of new)) ≡ None) × (call_at wanted.watches (moment_of new) ≡ None)

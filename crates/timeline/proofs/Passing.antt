@@ -23,10 +23,10 @@ use Rattle.timeline.specs.Halts.{Wanted, access_event, address_halt, asks, calls
 use Rattle.timeline.specs.Moment.{Task, moment_at, state_in, stop_in, task_at, task_by}
 use Rattle.timeline.specs.Backward.{looks}
 use Rattle.ecalls.specs.Request.{call_of}
-use Rattle.timeline.specs.Calls.{call_at, call_by, call_event, count_in, joint_in, read_by, row_after}
+use Rattle.timeline.specs.Calls.{call_at, call_by, call_event, count_read, joint_in, read_by}
 use Rattle.timeline.specs.Present.{IsBegun, IsTurns, moment_of, point_at, steps_of}
-use Rattle.timeline.specs.Quiet.{HaltsSo, IsLooked, IsQuiet, IsStill}
-use Rattle.timeline.specs.Running.{IsFurther, IsItsTrap, IsLast, IsProgress, IsRunning, IsSkipped, task_of}
+use Rattle.timeline.specs.Quiet.{HaltsSo, IsLooked, IsQuiet, IsSkippedStill}
+use Rattle.timeline.specs.Running.{IsFurther, IsItsTrap, IsLast, IsProgress, IsRunning, halt_in, is_at_call, task_of}
 use Rattle.timeline.specs.Shown.{Executing, own_at, own_by}
 use Rattle.timeline.specs.declared.halt.Halt.{Halt}
 use Rattle.timeline.specs.declared.halt.Halt.TheVariants.{End}
@@ -191,7 +191,7 @@ halting wanted old running new halt needs is so =
     rest : Option Halt
     rest = first_of (end_by_stop (stop_in (task_of new) new.done)) None
 
-    none_next : calls_next new.work.segment.left new.done new.hart (views.cells_of new.view) ≡ false → call ≡ None
+    none_next : is_at_call new ≡ false → call ≡ None
     none_next none =
         call_quiet wanted.watches (point_at old) (task_of new) new.done needs
         (λ hart memory there.
@@ -298,13 +298,13 @@ all_unasked wanted old new most (Ok progress) none is = unasked_by wanted old ne
 
 -- at a trap that is known it halts for the instruction, or at the end
 pub at_trap : (wanted : Wanted) (old : Present) (running : Running) (told : Option Halt) (trap : Trap) → old.running ≡ Some running → IsTurns (point_at old) (Some running)
-    → told ≡ instruction_halt wanted running.work.thread running.hart (views.cells_of running.view) → running.trap ≡ Some trap
+    → told ≡ halt_in wanted running → running.trap ≡ Some trap
     → IsPassed wanted old (Halts (told_or_end told)) (record old { running = Some running })
 at_trap wanted old running told trap is turns here trapped =
     let steps : steps_of old.running ≡ running.done = ap steps_of is in
     ((λ k low high. absurd (omega (arith, low, high, steps))), halting wanted old running running (told_or_end told) turns.1 turns.0 (by told here))
   where
-    by : (told : Option Halt) → told ≡ instruction_halt wanted running.work.thread running.hart (views.cells_of running.view) → HaltsSo wanted (told_or_end told) running
+    by : (told : Option Halt) → told ≡ halt_in wanted running → HaltsSo wanted (told_or_end told) running
     by None here = inr (sym here, refl, (trap, trapped))
     by (Some halt) here = inl (sym here)
 
@@ -364,9 +364,11 @@ silent_call wanted point None steps begun is = call_without wanted.watches point
 silent_call wanted point (Some running) steps begun is = rw (unasked_watches wanted running.work.thread is) (call_nothing (record { point = point; steps = steps }))
 
 -- the positions of a turn that are skipped
-pub skipped_plain : (wanted : Wanted) (old : Present) (running new : Running) (until : ℕ) → old.running ≡ Some running → IsTurns (point_at old) (Some running) → IsSkipped running until new
-    → IsStill wanted (task_of running) running.done new.done → ArePlain wanted (point_at old) (steps_of old.running) new.done
-skipped_plain wanted old running new until is turns skipped still =
+pub skipped_plain : (wanted : Wanted) (old : Present) (running new : Running) (until : ℕ) → old.running ≡ Some running → IsTurns (point_at old) (Some running) → IsSkippedStill wanted running until new
+    → ArePlain wanted (point_at old) (steps_of old.running) new.done
+skipped_plain wanted old running new until is turns passed =
+    let still = passed.still in
+    let skipped = passed.skipped in
     let steps : steps_of old.running ≡ running.done = ap steps_of is in
     λ k low high.
     plain wanted (point_at old) (task_of running) k turns.1 (λ hart memory there. still.instructions k hart memory (rw steps at low) high there)
@@ -383,9 +385,9 @@ own_of present running is turns =
 
 -- the watch event of a call that comes next
 pub at_call : (watches : List Watch) (present : Present) (running : Running) → present.running ≡ Some running → IsTurns (point_at present) (Some running)
-    → calls_next running.work.segment.left running.done running.hart (views.cells_of running.view) ≡ true
+    → is_at_call running ≡ true
     → call_at watches (moment_of present)
-    ≡ call_event watches (read_by watches (call_of running.hart) (count_in (row_after (moment_of present) running.work.thread))) (joint_in present running)
+    ≡ call_event watches (read_by watches (call_of running.hart) (count_read (moment_of present) running.work.thread)) (joint_in present running)
 unfolding call_at
 at_call watches present running is turns calls =
     let steps : steps_of present.running ≡ running.done = ap steps_of is in
@@ -396,7 +398,7 @@ at_call watches present running is turns calls =
 
 -- none if no call comes next
 pub not_at_call : (watches : List Watch) (present : Present) (running : Running) → present.running ≡ Some running → IsTurns (point_at present) (Some running)
-    → calls_next running.work.segment.left running.done running.hart (views.cells_of running.view) ≡ false → call_at watches (moment_of present) ≡ None
+    → is_at_call running ≡ false → call_at watches (moment_of present) ≡ None
 not_at_call watches present running is turns none =
     let steps : steps_of present.running ≡ running.done = ap steps_of is in
     rw steps

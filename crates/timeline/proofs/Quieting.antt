@@ -10,7 +10,7 @@ use Rattle.marked_memory.specs.Unmarked.{RunsUnmarked}
 use Rattle.timeline.specs.Halts.{Wanted, calls_next, instruction_halt, waits}
 use Rattle.timeline.specs.Moment.{Task, state_in}
 use Rattle.timeline.specs.Quiet.{IsLooked, IsQuiet, IsStill}
-use Rattle.timeline.specs.Running.{IsProgress, IsRunning, task_of}
+use Rattle.timeline.specs.Running.{IsProgress, IsRunning, halt_in, is_at_call, task_of}
 use Rattle.timeline.specs.declared.running.Progress.{Progress}
 use Rattle.timeline.specs.declared.running.Progress.TheVariants.{Stays, Halts, Over}
 use Rattle.timeline.specs.declared.running.Running.{Running}
@@ -102,8 +102,8 @@ still_by_marks wanted task done count hart last_hart memory last_memory here els
 
 -- what comes of a segment that is looked at and then goes on by one instruction
 pub looked_by : (wanted : Wanted) (first old new : Running) (progress : Progress) → IsRunning old → task_of old ≡ task_of first
-    → IsQuiet wanted (task_of first) first.done old.done → instruction_halt wanted old.work.thread old.hart (views.cells_of old.view) ≡ None
-    → (first.done < old.done → wanted.watches ≢ [] → calls_next old.work.segment.left old.done old.hart (views.cells_of old.view) ≡ false) → IsProgress old (old.done + 1) progress new
+    → IsQuiet wanted (task_of first) first.done old.done → halt_in wanted old ≡ None
+    → (first.done < old.done → wanted.watches ≢ [] → is_at_call old ≡ false) → IsProgress old (old.done + 1) progress new
     → (progress ≡ Stays → ⊥) → IsLooked wanted first progress new
 looked_by wanted first old new Stays running same quiet none no_call progress never = absurd (never refl)
 looked_by wanted first old new (Halts halt) running same quiet none no_call progress never =

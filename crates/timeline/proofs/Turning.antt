@@ -11,7 +11,7 @@ use Rattle.hart.specs.HartState.{HartState}
 use Rattle.hart.specs.declared.stop.Stop.TheVariants.{Quantum}
 use Rattle.hart.specs.declared.trap.Trap.{Trap as TrapOf}
 use Rattle.timeline.specs.Moment.{Task, beginning, moment_at, stop_in, task_at}
-use Rattle.timeline.specs.Present.{BeginsAt, IsTurnEnd, IsTurns, IsWent, count_of, moment_of, point_at, step_of, steps_of}
+use Rattle.timeline.specs.Present.{BeginsAt, IsTurnEnd, IsTurns, IsWent, SameTurn, count_of, moment_of, point_at, step_of, steps_of}
 use Rattle.timeline.specs.Running.{IsFurther, IsProgress, Stands, task_of}
 use Rattle.timeline.specs.declared.present.Present.{Present}
 use Rattle.timeline.specs.declared.running.Running.{Running}
@@ -77,21 +77,21 @@ same_point : (one other : Present) → one.serial ≡ other.serial → point_at 
 same_point one other same = cc
 
 -- the next turn begins where the one before ends
-pub turned_begins : (start : Point) (old went new : Present) (most : ℕ) (end given : Option SegmentEnd) → went.serial ≡ old.serial → went.before ≡ old.before → given ≡ end
+pub turned_begins : (start : Point) (old went new : Present) (most : ℕ) (end given : Option SegmentEnd) → SameTurn old went → given ≡ end
     → IsTurnEnd old most end → point_at new ≡ moved (point_at went) (step_at (point_at went) given) → new.before ≡ went.before + count_of given
     → BeginsAt start old → BeginsAt start new
-turned_begins start old went new most end given same_serial same_before same_end is point before begins =
-    let point_is : point_at went ≡ point_at old = same_point went old same_serial in
+turned_begins start old went new most end given same same_end is point before begins =
+    let point_is : point_at went ≡ point_at old = same_point went old same.serial in
     let leads = is.leads start begins in
-    let here : new.before ≡ old.before + count_of end = before ∙ ap (λ (e : Option SegmentEnd). went.before + count_of e) same_end ∙ ap (λ (b : ℕ). b + count_of end) same_before in
+    let here : new.before ≡ old.before + count_of end = before ∙ ap (λ (e : Option SegmentEnd). went.before + count_of e) same_end ∙ ap (λ (b : ℕ). b + count_of end) same.before in
     let stands : point_at new ≡ moved (point_at old) (step_at (point_at old) end) =
     point ∙ ap (λ (e : Option SegmentEnd). moved (point_at went) (step_at (point_at went) e)) same_end ∙ ap (λ (p : Point). moved p (step_at p end)) point_is in
     ap (moment_at start) here ∙ leads ∙ ap (λ (p : Point). Some (beginning p)) (sym stands)
 
 -- the same turn begins where it did
-pub same_begins : (start : Point) (old new : Present) → new.serial ≡ old.serial → new.before ≡ old.before → BeginsAt start old → BeginsAt start new
-same_begins start old new same_serial same_before begins =
-    ap (moment_at start) same_before ∙ begins ∙ ap (λ (p : Point). Some (beginning p)) (sym (same_point new old same_serial))
+pub same_begins : (start : Point) (old new : Present) → SameTurn old new → BeginsAt start old → BeginsAt start new
+same_begins start old new same begins =
+    ap (moment_at start) same.before ∙ begins ∙ ap (λ (p : Point). Some (beginning p)) (sym (same_point new old same.serial))
 
 -- a segment that may go on, or is at a trap, isn't at its quantum
 not_at_quantum : (task : Task) (done : ℕ) (trap : Option TrapOf) (hart : HartState) (cells : Memory) → Stands task done trap hart cells → stop_in task done ≡ Some Quantum → ⊥

@@ -1,12 +1,13 @@
 -- What a motion back is told of the steps that it goes back over, and where it ends.
-use Rattle.std.specs.Prelude.{◌≡◌, ◌⊎◌, ℕ, ◌+◌, ◌-◌, ◌<◌, ◌≤◌, ◌==◌, Bool, false, if◌then◌else◌, Option, Some, None, List}
+use Rattle.std.specs.Prelude.{◌≡◌, ◌⊎◌, ℕ, ◌+◌, ◌-◌, ◌<◌, ◌≤◌, ◌==◌, ◌^◌, Bool, false, if◌then◌else◌, Option, Some, None, List, Result, IfOk, OnOk}
 use Rattle.token.specs.Point.{Point, need_at}
+use Rattle.token.specs.declared.turn_fault.TurnFault.{TurnFault}
 use Rattle.marked_memory.specs.declared.watch.Watch.{Watch}
 use Rattle.timeline.specs.Calls.{call_at}
 use Rattle.timeline.specs.Halting.{address_at, event_at, moves_other}
 use Rattle.timeline.specs.Halts.{Wanted, asks, first_of}
 use Rattle.timeline.specs.Moment.{Moment, moment_at}
-use Rattle.timeline.specs.Present.{BeginsAt}
+use Rattle.timeline.specs.Present.{BeginsAt, CanGoOn, IsSound, StaysInRun, step_of}
 use Rattle.timeline.specs.Shown.{own_at}
 use Rattle.timeline.specs.declared.halt.Halt.{Halt}
 use Rattle.timeline.specs.declared.halt.Halt.TheVariants.{GoesOn, OtherThread, Start}
@@ -56,6 +57,10 @@ abbrev pub IsFound : Wanted → Point → ℕ → ℕ → Option Found → Type 
 IsFound wanted start from to None = AreSilent wanted start from to
 IsFound wanted start from to (Some found) = IsLastTold wanted start from to found.halt found.step
 
+-- what is found from a position to a step of its run
+abbrev pub Finds : Wanted → Present → ℕ → Option Found → Type 0
+Finds wanted present to found = (start : Point) → BeginsAt start present → IsFound wanted start (step_of present) to found
+
 -- the answer where nothing is told
 abbrev pub nothing_at : ℕ → Halt
 nothing_at step = if step == 0 then Start else GoesOn
@@ -84,3 +89,22 @@ pub record LeadsTo (present : Present) (step : ℕ) : Type 0 where
   pub begins : BeginsAt start present
   pub moment : Moment
   pub there : moment_at start step ≡ Some moment
+
+-- It is sound, and its run goes on as far as a step at which it stands or that is to come.
+pub record CanReach (present : Present) (until : ℕ) : Type 0 where
+  pub sound : IsSound present
+  pub few : until ≤ 2 ^ 63
+  pub within : step_of present ≤ until
+  pub leads : LeadsTo present until
+
+-- It is sound, and its run goes on as far as a step that is to come.
+pub record CanPass (present : Present) (until : ℕ) : Type 0 where
+  pub goes : CanGoOn present until
+  pub leads : LeadsTo present until
+
+-- It goes on in its run, no further than a step, and finds what is told of the way.
+pub record Passes (wanted : Wanted) (old : Present) (until : ℕ) (result : Result (Option Found) TurnFault) (new : Present) : Type 0 where
+  pub stays : StaysInRun old new
+  pub further : OnOk result (step_of old < step_of new)
+  pub within : OnOk result (step_of new ≤ until)
+  pub found : IfOk result (Finds wanted old (step_of new))

@@ -38,6 +38,10 @@ count_in (Some row) = if register row.hart 10 == 0 then register row.hart 11 els
 abbrev pub row_after : Moment → ℕ → Option Thread
 row_after moment thread = option_and_then (λ next. row_at next.point thread) (next_moment moment)
 
+-- how many bytes the call of a thread stores that comes next
+abbrev pub count_read : Moment → ℕ → ℕ
+count_read moment thread = count_in (row_after moment thread)
+
 abbrev pub stored : ℕ → ℕ → Access
 stored address count = record { address = address; width = count; is_store = true }
 
@@ -94,7 +98,7 @@ abbrev pub joint_of : Moment → Task → Executing → Joint
 joint_of moment task own = record { own = own.memory; base = task.copy; shared = moment.point.state.memory }
 
 abbrev pub read_at : List Watch → Moment → Executing → Option Access
-read_at watches moment own = read_by watches (call_of own.hart) (count_in (row_after moment own.thread))
+read_at watches moment own = read_by watches (call_of own.hart) (count_read moment own.thread)
 
 abbrev pub call_by : List Watch → Moment → Option Task → Option Executing → Option Halt
 call_by watches moment None own = None

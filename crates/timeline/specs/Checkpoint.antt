@@ -32,6 +32,11 @@ pub record IsCheckpoint (checkpoint : Checkpoint) : Type 0 where
   pub few : step_at checkpoint ≤ 2 ^ 63
   pub quantum : IfSome (point_of checkpoint.serial.value).setup.quantum (λ q. 0 < q)
 
+-- It is sound, and stands at a step or before it.
+pub record IsAtMost (checkpoint : Checkpoint) (most : ℕ) : Type 0 where
+  pub sound : IsCheckpoint checkpoint
+  pub step : step_at checkpoint ≤ most
+
 -- Its turn begins after so many steps from a start as it says.
 abbrev pub KeepsTurn : Point → Checkpoint → Type 0
 KeepsTurn start checkpoint = moment_at start checkpoint.before ≡ Some (beginning (point_of checkpoint.serial.value))

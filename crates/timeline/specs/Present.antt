@@ -1,7 +1,8 @@
 -- What holds of a run at a position.
-use Rattle.std.specs.Prelude.{◌≡◌, ◌⊎◌, ℕ, ◌+◌, ◌<◌, ◌≤◌, ◌^◌, Option, Some, None, IfSome}
+use Rattle.std.specs.Prelude.{◌≡◌, ◌⊎◌, ℕ, ◌+◌, ◌<◌, ◌≤◌, ◌^◌, Option, Some, None, Result, IfSome, IfOk, OnErr}
 use Rattle.token.specs.Point.{Point, IsNeededAt}
 use Rattle.token.specs.RunInTurn.{point_of}
+use Rattle.token.specs.declared.turn_fault.TurnFault.{TurnFault}
 use Rattle.timeline.specs.Moment.{Moment, beginning, moment_at, task_at, turned}
 use Rattle.timeline.specs.Running.{IsRunning, task_of}
 use Rattle.timeline.specs.declared.present.Present.{Present}
@@ -48,6 +49,32 @@ abbrev pub IsBegun : Point → Option Running → Type 0
 IsBegun point None = task_at point ≡ None
 IsBegun point (Some running) = Unit {0}
 
+-- It is sound, and a segment that its turn has is begun.
+pub record IsReady (present : Present) : Type 0 where
+  pub sound : IsSound present
+  pub begun : IsBegun (point_at present) present.running
+
+-- It is ready for a step, which can be counted.
+pub record CanStep (present : Present) : Type 0 where
+  pub ready : IsReady present
+  pub few : step_of present < 2 ^ 63
+
+-- It is sound, and a step is to come, which can be counted.
+pub record CanGoOn (present : Present) (until : ℕ) : Type 0 where
+  pub sound : IsSound present
+  pub further : step_of present < until
+  pub few : until ≤ 2 ^ 63
+
+-- It stands in the same turn.
+pub record SameTurn (old new : Present) : Type 0 where
+  pub serial : new.serial ≡ old.serial
+  pub before : new.before ≡ old.before
+
+-- It is sound, and stands in the same run.
+pub record StaysInRun (old new : Present) : Type 0 where
+  pub sound : IsSound new
+  pub begins : (start : Point) → BeginsAt start old → BeginsAt start new
+
 -- how many steps a turn has that ends so: one at a wake
 abbrev pub count_of : Option SegmentEnd → ℕ
 count_of None = 1
@@ -75,3 +102,9 @@ pub record IsKeptBack (old new : Present) : Type 0 where
 abbrev pub IsStep : Present → ℕ → Option Halt → Present → Type 0
 IsStep old until None new = (step_of old < step_of new) × (step_of new ≤ until)
 IsStep old until (Some halt) new = (step_of old ≤ step_of new) × (step_of new < until)
+
+-- It goes on in its run, as far as a step. Where memory is refused it is kept back.
+pub record Proceeds (old : Present) (until : ℕ) (result : Result (Option Halt) TurnFault) (new : Present) : Type 0 where
+  pub stays : StaysInRun old new
+  pub step : IfOk result (λ halt. IsStep old until halt new)
+  pub refused : OnErr result (IsKeptBack old new)

@@ -1,5 +1,5 @@
 -- What holds of a segment that has begun.
-use Rattle.std.specs.Prelude.{◌≡◌, ℕ, ◌+◌, ◌<◌, ◌≤◌, true, Option, Some, None, IfSome, IsSome}
+use Rattle.std.specs.Prelude.{◌≡◌, ℕ, ◌+◌, ◌<◌, ◌≤◌, Bool, true, Option, Some, None, IfSome, IsSome}
 use Rattle.hart.specs.Segment.{Segment}
 use Rattle.guest_memory.specs.Memory.{Memory}
 use Rattle.hart.specs.HartState.{HartState}
@@ -11,7 +11,9 @@ use Rattle.paged_memory.specs.Snapshot as snapshots
 use Rattle.twins.specs.View as views
 use Rattle.segment.specs.declared.segment_end.SegmentEnd.{SegmentEnd}
 use Rattle.segment.specs.Ends.{IsEndOf}
+use Rattle.timeline.specs.Halts.{Wanted, calls_next, instruction_halt}
 use Rattle.timeline.specs.Moment.{Task, stop_in}
+use Rattle.timeline.specs.declared.halt.Halt.{Halt}
 use Rattle.timeline.specs.declared.halt.Halt.TheVariants.{End}
 use Rattle.timeline.specs.declared.running.Running.{Running}
 use Rattle.timeline.specs.declared.running.Progress.{Progress}
@@ -38,6 +40,25 @@ pub record IsRunning (running : Running) : Type 0 where
   pub stands : Stands (task_of running) running.done running.trap running.hart (views.cells_of running.view)
   pub under : snapshots.cells_of running.under ≡ snapshots.cells_of (views.base_of running.view)
   pub whole : running.is_whole ≡ true → snapshots.cells_of (views.base_of running.view) ≡ snapshots.cells_of running.base
+
+-- It stands at an instruction of which no trap is known, and more are to come.
+pub record CanExecute (segment : Running) (until : ℕ) : Type 0 where
+  pub running : IsRunning segment
+  pub goes : segment.trap ≡ None
+  pub further : segment.done < until
+
+-- It stands where it has executed so many instructions or fewer.
+pub record CanSkip (segment : Running) (until : ℕ) : Type 0 where
+  pub running : IsRunning segment
+  pub within : segment.done ≤ until
+
+-- whether an ecall comes next that its bound allows
+abbrev pub is_at_call : Running → Bool
+is_at_call running = calls_next running.work.segment.left running.done running.hart (views.cells_of running.view)
+
+-- why it halts at its next instruction for what that is
+abbrev pub halt_in : Wanted → Running → Option Halt
+halt_in wanted running = instruction_halt wanted running.work.thread running.hart (views.cells_of running.view)
 
 -- The end is that of the segment, by an ecall or the quantum.
 pub record IsLast (task : Task) (end : SegmentEnd) : Type 0 where

@@ -1,11 +1,11 @@
 //! The watch events of calls: what a `read` stores, and what the commit of a turn joins.
-ghost use Rattle.std.specs.Prelude.{◌≡◌, ◌<◌, ◌+◌, ◌^◌, true, Some, IfOk, option_map};
+ghost use Rattle.std.specs.Prelude.{◌≡◌, ◌+◌, Some, IfOk, option_map};
 ghost use Rattle.std.specs.List.{list_any};
 ghost use Rattle.ecalls.specs.Request as request;
 ghost use Rattle.timeline.specs.Calls as calls;
 ghost use Rattle.timeline.specs.Calls.{joint_in};
 ghost use Rattle.timeline.specs.Halts as halts;
-ghost use Rattle.timeline.specs.Present.{IsBegun, IsSound, moment_of, point_at, step_of, steps_of};
+ghost use Rattle.timeline.specs.Present.{CanStep, IsBegun, IsReady, IsSound, moment_of, point_at, steps_of};
 
 use crate::access::Access;
 use crate::checkpoint::Checkpoint;
@@ -26,9 +26,7 @@ const JOIN_LIMIT: u32 = 4096;
 impl Present {
     /// Why it halts before the call that comes next, none if it doesn't or no call comes next.
     pub(crate) fn call_halt(&self, stops: &Stops<'_>) -> Result<Option<Halt>, TurnFault>
-        requires sound { IsSound self.now }
-        requires begun { IsBegun (point_at self.now) self.now.running }
-        requires few { step_of self.now < 2 ^ 63 }
+        requires { CanStep self.now }
         ensures { IfOk result (λ halt. halt ≡ calls.call_at stops.now.watches.now (moment_of self.now)) }
     {
         match &self.running {
@@ -70,10 +68,10 @@ impl Present {
 
     /// What the call that comes next stores, if it is a `read` into a watched range.
     fn read_access(&self, running: &Running, watches: &[Watch]) -> Result<Option<Access>, TurnFault>
-        requires sound { IsSound self.now }
-        requires begun { IsBegun (point_at self.now) self.now.running }
-        requires few { step_of self.now < 2 ^ 63 }
-        ensures { IfOk result (λ read. read ≡ calls.read_by watches.now (request.call_of running.now.hart) (calls.count_in (calls.row_after (moment_of self.now) running.now.work.thread))) }
+        requires { CanStep self.now }
+        ensures { IfOk result
+            (λ read. read ≡ calls.read_by watches.now (request.call_of running.now.hart)
+            (calls.count_read (moment_of self.now) running.now.work.thread)) }
     {
         let Call::Read { address, length } = call_of(&running.hart) else {
             return Ok(None);
@@ -88,10 +86,8 @@ impl Present {
     /// How many bytes the call of a thread that comes next takes from the input: it is done on a copy of the run, and
     /// answers so in x11 if x10 says that it was done.
     fn count_read(&self, thread: u32) -> Result<u32, TurnFault>
-        requires sound { IsSound self.now }
-        requires begun { IsBegun (point_at self.now) self.now.running }
-        requires few { step_of self.now < 2 ^ 63 }
-        ensures { IfOk result (λ count. count ≡ calls.count_in (calls.row_after (moment_of self.now) thread)) }
+        requires { CanStep self.now }
+        ensures { IfOk result (λ count. count ≡ calls.count_read (moment_of self.now) thread) }
     {
         let mut after = turn_of(self)?;
         if after.proceed(&Stops::none(), self.steps() + 1)?.is_some() {
@@ -156,8 +152,7 @@ fn is_looked_for(access: &Access, watches: &[Watch]) -> bool
 
 /// The present turn of a run, as the first one of a run of its own.
 fn turn_of(present: &Present) -> Result<Present, AllocError>
-    requires sound { IsSound present.now }
-    requires begun { IsBegun (point_at present.now) present.now.running }
+    requires { IsReady present.now }
     ensures sound { IfOk result IsSound }
     ensures begun { IfOk result (λ copy. IsBegun (point_at copy) copy.running) }
     ensures before { IfOk result (λ copy. copy.before ≡ 0) }

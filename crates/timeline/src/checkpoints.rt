@@ -1,8 +1,8 @@
 //! The checkpoints of a timeline: a bounded number, thinned out.
-ghost use Rattle.std.specs.Prelude.{◌≡◌, ◌≤◌, All, IfOk};
+ghost use Rattle.std.specs.Prelude.{◌≡◌, All, IfOk};
 ghost use Rattle.token.specs.Point.{Point};
-ghost use Rattle.timeline.specs.Checkpoint.{IsCheckpoint, IsFirst, KeepsTurn, step_at};
-ghost use Rattle.timeline.specs.Checkpoints.{AreSound, start_of};
+ghost use Rattle.timeline.specs.Checkpoint.{IsAtMost, IsCheckpoint, IsFirst, KeepsTurn};
+ghost use Rattle.timeline.specs.Checkpoints.{AreSound, CanKeep, StaySound, start_of};
 ghost use Rattle.timeline.specs.Present.{BeginsAt, IsSound};
 
 use crate::checkpoint::Checkpoint;
@@ -49,11 +49,8 @@ impl Checkpoints {
 
     /// Keeps a position, if one is due and memory allows.
     pub(crate) fn keep(&mut self, present: &Present)
-        requires sound { AreSound self.old }
-        requires present { IsSound present.now }
-        requires begins { BeginsAt (start_of self.old) present.now }
-        ensures sound { AreSound self.new }
-        ensures first { self.new.first ≡ self.old.first }
+        requires { CanKeep self.old present.now }
+        ensures { StaySound self.old self.new }
     {
         if self.spacing.most == 0 || present.step_number() < self.due {
             return;
@@ -64,11 +61,8 @@ impl Checkpoints {
 
     /// Keeps a position, if memory allows. The next one is due after the spacing.
     fn keep_here(&mut self, present: &Present)
-        requires sound { AreSound self.old }
-        requires present { IsSound present.now }
-        requires begins { BeginsAt (start_of self.old) present.now }
-        ensures sound { AreSound self.new }
-        ensures first { self.new.first ≡ self.old.first }
+        requires { CanKeep self.old present.now }
+        ensures { StaySound self.old self.new }
     {
         self.due = present
             .step_number()
@@ -80,11 +74,8 @@ impl Checkpoints {
 
     /// Keeps a position near a goal, if memory allows.
     pub(crate) fn keep_near(&mut self, present: &Present)
-        requires sound { AreSound self.old }
-        requires present { IsSound present.now }
-        requires begins { BeginsAt (start_of self.old) present.now }
-        ensures sound { AreSound self.new }
-        ensures first { self.new.first ≡ self.old.first }
+        requires { CanKeep self.old present.now }
+        ensures { StaySound self.old self.new }
     {
         if let Ok(checkpoint) = self.made(present) {
             let _pushed = self.near.push(checkpoint);
@@ -103,8 +94,7 @@ impl Checkpoints {
     /// Drops every second one of the older half, at least one, if as many are kept as may be.
     fn thin_out(&mut self)
         requires { AreSound self.old }
-        ensures sound { AreSound self.new }
-        ensures first { self.new.first ≡ self.old.first }
+        ensures { StaySound self.old self.new }
     {
         if self.kept.len() < self.spacing.most as usize {
             return;
@@ -119,8 +109,7 @@ impl Checkpoints {
     /// Forgets those near a goal that are after this step.
     pub(crate) fn forget_near(&mut self, step: u64)
         requires { AreSound self.old }
-        ensures sound { AreSound self.new }
-        ensures first { self.new.first ≡ self.old.first }
+        ensures { StaySound self.old self.new }
     {
         while let Some(last) = self.near.last() {
             if last.step_number() <= step {
@@ -133,9 +122,8 @@ impl Checkpoints {
     /// The last one at a step or before it.
     pub(crate) fn at_most(&self, step: u64) -> &Checkpoint
         requires { AreSound self.now }
-        ensures sound { IsCheckpoint result.now }
+        ensures at_most { IsAtMost result.now step }
         ensures turn { KeepsTurn (start_of self.now) result.now }
-        ensures step { step_at result.now ≤ step }
     {
         let best = later_of(&self.first, &self.kept, step);
         later_of(best, &self.near, step)
@@ -144,12 +132,11 @@ impl Checkpoints {
 
 /// The last of a checkpoint and those of a list that are at a step or before it.
 fn later_of<'a>(first: &'a Checkpoint, list: &'a [Box<Checkpoint>], step: u64) -> &'a Checkpoint
-    requires sound { IsCheckpoint first.now }
+    requires first { IsAtMost first.now step }
     requires all { All (λ kept. IsCheckpoint kept.value) list.now }
-    requires step { step_at first.now ≤ step }
-    ensures sound { IsCheckpoint result.now }
-    ensures turn { (start : Point) → KeepsTurn start first.now → All (λ kept. KeepsTurn start kept.value) list.now → KeepsTurn start result.now }
-    ensures step { step_at result.now ≤ step }
+    ensures at_most { IsAtMost result.now step }
+    ensures turn { (start : Point)
+        → KeepsTurn start first.now → All (λ kept. KeepsTurn start kept.value) list.now → KeepsTurn start result.now }
 {
     let mut best = first;
     for kept in list {

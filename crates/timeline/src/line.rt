@@ -1,5 +1,5 @@
 //! A run at a position, with its checkpoints, and its motions.
-ghost use Rattle.std.specs.Prelude.{◌≡◌, ◌≤◌, ◌<◌, ◌^◌, min, IfOk, IfSome, OnErr, OnOk};
+ghost use Rattle.std.specs.Prelude.{◌≡◌, ◌≤◌, ◌<◌, min, IfOk, IfSome, OnOk};
 ghost use Rattle.token.specs.RunInTurn.{point_of};
 ghost use Rattle.timeline.specs.Backward.{nothing_at};
 
@@ -24,10 +24,10 @@ pub struct Line {
 
 impl Line {
     ghost use Rattle.timeline.specs.Backward.{GoesBack};
-    ghost use Rattle.timeline.specs.Going.{IsRefused, IsSought, IsStepped, goal_of};
+    ghost use Rattle.timeline.specs.Going.{IsSought, IsStepped, goal_of};
     ghost use Rattle.timeline.specs.Halting.{HaltsThere, NoneBetween};
     ghost use Rattle.timeline.specs.Halts.{nothing, wanted_by};
-    ghost use Rattle.timeline.specs.Line.{IsLine, SameRun, start_of};
+    ghost use Rattle.timeline.specs.Line.{IsLine, MovesBack, MovesOn, start_of};
     ghost use Rattle.timeline.specs.Present.{step_of};
 
     /// A run at its first position.
@@ -52,10 +52,8 @@ impl Line {
     /// Makes a step. False if the run has none from here.
     pub(crate) fn step(&mut self) -> Result<bool, TurnFault>
         requires { IsLine self.old }
-        ensures line { IsLine self.new }
-        ensures run { SameRun self.old self.new }
+        ensures moves { MovesOn nothing self.old result self.new }
         ensures stepped { IfOk result (λ is. IsStepped self.old.present is self.new.present) }
-        ensures refused { OnErr result (IsRefused nothing (start_of self.old) self.old.present self.new.present) }
     {
         match self.forward(&Stops::none(), 1)? {
             Halt::End => Ok(false),
@@ -67,12 +65,11 @@ impl Line {
     /// After so many steps without one it stands there and answers that it goes on.
     pub(crate) fn forward(&mut self, stops: &Stops<'_>, most: u64) -> Result<Halt, TurnFault>
         requires { IsLine self.old }
-        ensures line { IsLine self.new }
-        ensures run { SameRun self.old self.new }
-        ensures passed { IfOk result (λ halt. NoneBetween (wanted_by stops.now) (start_of self.old) (step_of self.old.present) (step_of self.new.present)) }
+        ensures moves { MovesOn (wanted_by stops.now) self.old result self.new }
+        ensures passed { IfOk result
+            (λ halt. NoneBetween (wanted_by stops.now) (start_of self.old) (step_of self.old.present) (step_of self.new.present)) }
         ensures since { OnOk result (step_of self.old.present ≤ step_of self.new.present) }
         ensures halts { IfOk result (λ halt. HaltsThere (wanted_by stops.now) (goal_of self.old.present most) halt self.new.present) }
-        ensures refused { OnErr result (IsRefused (wanted_by stops.now) (start_of self.old) self.old.present self.new.present) }
     {
         let here = self.present.step_number();
         let until = here + most.min(MOST_STEPS - here);
@@ -106,10 +103,9 @@ impl Line {
     /// answers that it goes on.
     pub(crate) fn back(&mut self, stops: &Stops<'_>) -> Result<Halt, TurnFault>
         requires { IsLine self.old }
-        ensures line { IsLine self.new }
-        ensures run { SameRun self.old self.new }
-        ensures back { IfOk result (λ halt. GoesBack (wanted_by stops.now) (start_of self.old) (step_of self.old.present) halt (step_of self.new.present)) }
-        ensures refused { OnErr result (self.new.present ≡ self.old.present) }
+        ensures moves { MovesBack self.old result self.new }
+        ensures back { IfOk result
+            (λ halt. GoesBack (wanted_by stops.now) (start_of self.old) (step_of self.old.present) halt (step_of self.new.present)) }
     {
         let here = self.present.step_number();
         if here == 0 {
@@ -134,10 +130,8 @@ impl Line {
     /// and it isn't there yet.
     pub(crate) fn seek(&mut self, step: u64, most: u64) -> Result<bool, TurnFault>
         requires { IsLine self.old }
-        ensures line { IsLine self.new }
-        ensures run { SameRun self.old self.new }
+        ensures moves { MovesOn nothing self.old result self.new }
         ensures sought { IfOk result (λ is. IsSought self.old.present step most is self.new.present) }
-        ensures refused { OnErr result (IsRefused nothing (start_of self.old) self.old.present self.new.present) }
     {
         let here = self.present.step_number();
         if step < here {
@@ -153,10 +147,8 @@ impl Line {
     /// Goes back to a step, and leaves checkpoints on the last steps before it.
     fn go_back(&mut self, step: u64) -> Result<(), TurnFault>
         requires { IsLine self.old }
-        ensures line { IsLine self.new }
-        ensures run { SameRun self.old self.new }
+        ensures moves { MovesBack self.old result self.new }
         ensures there { OnOk result (step_of self.new.present ≡ min step (step_of self.old.present)) }
-        ensures refused { OnErr result (self.new.present ≡ self.old.present) }
     {
         if step >= self.present.step_number() {
             return Ok(());

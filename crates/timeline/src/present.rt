@@ -1,8 +1,8 @@
 //! A run at a position: what stands before the turn, and the turn's segment once it has begun.
 ghost use Rattle.std.specs.Prelude.{◌≡◌, ◌<◌, ◌≤◌, ◌^◌, None, Some, IfOk, IfSome, OnOk, is_some};
 ghost use Rattle.std.specs.Prelude.{◌+◌, length, option_map, OnErr};
-ghost use Rattle.token.specs.Point.{Point, IsNeededAt, moved, step_at};
-ghost use Rattle.timeline.specs.Backward.{LeadsTo};
+ghost use Rattle.token.specs.Point.{IsNeededAt, moved, step_at};
+ghost use Rattle.timeline.specs.Backward.{CanReach};
 ghost use Rattle.timeline.specs.Checkpoint.{HasBegun};
 ghost use Rattle.timeline.specs.Present.{count_of, IsWent};
 
@@ -36,7 +36,7 @@ impl Present {
     ghost use Rattle.timeline.specs.Halting.{IsPassed, IsPlainWalk, IsWalked, address_at, moves_other, threads_at};
     ghost use Rattle.timeline.specs.Calls.{call_at};
     ghost use Rattle.timeline.specs.Halts as halts;
-    ghost use Rattle.timeline.specs.Present.{BeginsAt, IsBegun, IsKeptBack, IsSound, IsStep, moment_of, point_at, step_of, steps_of};
+    ghost use Rattle.timeline.specs.Present.{CanGoOn, IsBegun, IsReady, IsSound, Proceeds, SameTurn, StaysInRun, moment_of, point_at, step_of, steps_of};
     ghost use Rattle.timeline.specs.Shown.{own_at};
 
     /// The first position of a run.
@@ -91,8 +91,7 @@ impl Present {
     pub(crate) fn begin(&mut self) -> Result<(), AllocError>
         requires { IsSound self.old }
         ensures sound { IsSound self.new }
-        ensures serial { self.new.serial ≡ self.old.serial }
-        ensures before { self.new.before ≡ self.old.before }
+        ensures turn { SameTurn self.old self.new }
         ensures step { step_of self.new ≡ step_of self.old }
         ensures begun { OnOk result (IsBegun (point_at self.new) self.new.running) }
     {
@@ -121,8 +120,7 @@ impl Present {
         requires begun { HasBegun (point_at self.old) begun.now }
         requires few { self.old.before + begun.now.done ≤ 2 ^ 63 }
         ensures sound { OnOk result (IsSound self.new) }
-        ensures serial { OnOk result (self.new.serial ≡ self.old.serial) }
-        ensures before { OnOk result (self.new.before ≡ self.old.before) }
+        ensures turn { OnOk result (SameTurn self.old self.new) }
         ensures step { OnOk result (step_of self.new ≡ self.old.before + begun.now.done) }
     {
         self.begin()?;
@@ -135,14 +133,9 @@ impl Present {
     /// Goes on within the present turn or over its end, as far as a step that is to come. Answers why it halts before
     /// that, none if it doesn't. If memory is refused it stands at the turn's start at the latest.
     pub(crate) fn go_on(&mut self, stops: &Stops<'_>, until: u64) -> Result<Option<Halt>, TurnFault>
-        requires sound { IsSound self.old }
-        requires further { step_of self.old < until }
-        requires few { until ≤ 2 ^ 63 }
-        ensures sound { IsSound self.new }
-        ensures begins { (start : Point) → BeginsAt start self.old → BeginsAt start self.new }
-        ensures step { IfOk result (λ halt. IsStep self.old until halt self.new) }
+        requires { CanGoOn self.old until }
+        ensures proceeds { Proceeds self.old until result self.new }
         ensures walked { IfOk result (λ halt. IsWalked (halts.wanted_by stops.now) self.old halt self.new) }
-        ensures refused { OnErr result (IsKeptBack self.old self.new) }
     {
         self.begin()?;
         if let Some(halt) = self.halt_here(stops) {
@@ -161,16 +154,11 @@ impl Present {
         stops: &Stops<'_>,
         until: u64,
     ) -> Result<Option<Halt>, TurnFault>
-        requires sound { IsSound self.old }
+        requires goes { CanGoOn self.old until }
         requires begun { IsBegun (point_at self.old) self.old.running }
-        requires further { step_of self.old < until }
-        requires few { until ≤ 2 ^ 63 }
         requires call { call_at stops.now.watches.now (moment_of self.old) ≡ None }
-        ensures sound { IsSound self.new }
-        ensures begins { (start : Point) → BeginsAt start self.old → BeginsAt start self.new }
-        ensures step { IfOk result (λ halt. IsStep self.old until halt self.new) }
+        ensures proceeds { Proceeds self.old until result self.new }
         ensures walked { IfOk result (λ halt. IsPlainWalk (halts.wanted_by stops.now) self.old halt self.new) }
-        ensures refused { OnErr result (IsKeptBack self.old self.new) }
     {
         let progress = self.progress(stops, until - self.before);
         match progress {
@@ -189,12 +177,8 @@ impl Present {
 
     /// Goes on to a step that the run leads to.
     pub(crate) fn advance(&mut self, step: u64) -> Result<(), TurnFault>
-        requires sound { IsSound self.old }
-        requires few { step ≤ 2 ^ 63 }
-        requires within { step_of self.old ≤ step }
-        requires leads { LeadsTo self.old step }
-        ensures sound { IsSound self.new }
-        ensures begins { (start : Point) → BeginsAt start self.old → BeginsAt start self.new }
+        requires { CanReach self.old step }
+        ensures stays { StaysInRun self.old self.new }
         ensures there { OnOk result (step_of self.new ≡ step) }
     {
         while self.step_number() < step {
@@ -206,12 +190,10 @@ impl Present {
 
     /// What becomes of the present turn within so many of its instructions.
     fn progress(&mut self, stops: &Stops<'_>, most: u64) -> Result<Progress, AllocError>
-        requires sound { IsSound self.old }
-        requires begun { IsBegun (point_at self.old) self.old.running }
+        requires ready { IsReady self.old }
         requires further { steps_of self.old.running < most }
         requires call { call_at stops.now.watches.now (moment_of self.old) ≡ None }
-        ensures serial { self.new.serial ≡ self.old.serial }
-        ensures before { self.new.before ≡ self.old.before }
+        ensures turn { SameTurn self.old self.new }
         ensures progress { IfOk result (λ progress. IsWent self.old most progress self.new) }
         ensures passed { IfOk result (λ progress. IsPassed (halts.wanted_by stops.now) self.old progress self.new) }
     {
@@ -241,7 +223,9 @@ impl Present {
         requires quantum { IfSome (point_at self.old).setup.quantum (λ q. 0 < q) }
         ensures sound { IsSound self.new }
         ensures running { self.new.running ≡ None }
-        ensures ok { OnOk result ((point_at self.new ≡ moved (point_at self.old) (step_at (point_at self.old) (option_map (λ end. end.now) end.entry))) × (self.new.before ≡ self.old.before + count_of (option_map (λ end. end.now) end.entry))) }
+        ensures ok { OnOk result
+            ((point_at self.new ≡ moved (point_at self.old) (step_at (point_at self.old) (option_map (λ end. end.now) end.entry)))
+            × (self.new.before ≡ self.old.before + count_of (option_map (λ end. end.now) end.entry))) }
         ensures err { OnErr result ((point_at self.new ≡ point_at self.old) × (self.new.before ≡ self.old.before)) }
     {
         let count = count_of(end);
@@ -259,9 +243,9 @@ impl Present {
     /// Why it halts at the present position, none if it doesn't.
     #[tactic(auto, unfolding(crate::specs::Shown::own_at))]
     fn halt_here(&self, stops: &Stops<'_>) -> Option<Halt>
-        requires sound { IsSound self.now }
-        requires begun { IsBegun (point_at self.now) self.now.running }
-        ensures { result ≡ halts.first_of (address_at (halts.wanted_by stops.now) (own_at (moment_of self.now))) (threads_at (halts.wanted_by stops.now) (point_at self.now)) }
+        requires { IsReady self.now }
+        ensures { result ≡ halts.first_of (address_at (halts.wanted_by stops.now) (own_at (moment_of self.now)))
+            (threads_at (halts.wanted_by stops.now) (point_at self.now)) }
     {
         if let Some(running) = &self.running {
             if let Some(halt) = running.position_halt(stops) {

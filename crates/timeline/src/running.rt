@@ -55,8 +55,8 @@ impl Running {
     ghost use Rattle.timeline.specs.Calls as calls;
     ghost use Rattle.timeline.specs.Halts as halts;
     ghost use Rattle.timeline.specs.Halts.{IsInstr};
-    ghost use Rattle.timeline.specs.Quiet.{IsLooked, IsStill};
-    ghost use Rattle.timeline.specs.Running.{EndsHere, IsFurther, IsOver, IsRoom, IsSkipped, IsProgress, IsRunning, IsStopped, IsTrapped, Stands, task_of};
+    ghost use Rattle.timeline.specs.Quiet.{IsLooked, IsSkippedStill};
+    ghost use Rattle.timeline.specs.Running.{CanExecute, CanSkip, EndsHere, IsFurther, IsOver, IsRoom, IsProgress, IsRunning, IsStopped, IsTrapped, Stands, halt_in, is_at_call, task_of};
 
     /// A segment that has executed nothing.
     pub(crate) fn begin(work: Work, base: &Snapshot) -> Result<Self, AllocError>
@@ -115,9 +115,7 @@ impl Running {
 
     /// Goes on up to so many of its instructions. If memory is refused it can't be gone on with.
     pub(crate) fn go_on(&mut self, until: u64) -> Result<Progress, AllocError>
-        requires running { IsRunning self.old }
-        requires goes { self.old.trap ≡ None }
-        requires further { self.old.done < until }
+        requires { CanExecute self.old until }
         ensures { IfOk result (λ progress. IsProgress self.old until progress self.new) }
     {
         let end = run_coded_slice(
@@ -188,9 +186,7 @@ impl Running {
         stops: &Stops<'_>,
         until: u64,
     ) -> Result<Progress, AllocError>
-        requires running { IsRunning self.old }
-        requires goes { self.old.trap ≡ None }
-        requires further { self.old.done < until }
+        requires { CanExecute self.old until }
         ensures further { IfOk result (λ progress. IsFurther self.old until progress self.new) }
         ensures looked { IfOk result (λ progress. IsLooked (halts.wanted_by stops.now) self.old progress self.new) }
     {
@@ -214,18 +210,16 @@ impl Running {
     /// Whether a call comes next and something is watched.
     fn has_watched_call(&self, stops: &Stops<'_>) -> bool
         requires { IsRunning self.now }
-        ensures { result ≡ false → stops.now.watches.now ≢ [] → halts.calls_next self.now.work.segment.left self.now.done self.now.hart (views.cells_of self.now.view) ≡ false }
+        ensures { result ≡ false → stops.now.watches.now ≢ [] → is_at_call self.now ≡ false }
     {
         !stops.watches.is_empty() && self.is_at_call()
     }
 
     /// Does as [`Running::skip`] once some instructions were executed one by one, if none is waited for.
     fn skip_after(&mut self, from: u64, stops: &Stops<'_>, until: u64) -> Result<(), AllocError>
-        requires running { IsRunning self.old }
+        requires can { CanSkip self.old until }
         requires since { from ≤ self.old.done }
-        requires within { self.old.done ≤ until }
-        ensures skipped { OnOk result (IsSkipped self.old until self.new) }
-        ensures still { OnOk result (IsStill (halts.wanted_by stops.now) (task_of self.old) self.old.done self.new.done) }
+        ensures { OnOk result (IsSkippedStill (halts.wanted_by stops.now) self.old until self.new) }
     {
         if self.done - from < ALONE || stops.waits_for(self.work.thread) {
             return Ok(());
@@ -236,11 +230,9 @@ impl Running {
     /// Goes on up to so many of its instructions, as long as it halts at none of them for what it is. If memory is refused
     /// it can't be gone on with.
     pub(crate) fn skip(&mut self, stops: &Stops<'_>, until: u64) -> Result<(), AllocError>
-        requires running { IsRunning self.old }
-        requires within { self.old.done ≤ until }
+        requires can { CanSkip self.old until }
         requires elsewhere { halts.waits stops.now.arrival self.old.work.thread ≡ false }
-        ensures skipped { OnOk result (IsSkipped self.old until self.new) }
-        ensures still { OnOk result (IsStill (halts.wanted_by stops.now) (task_of self.old) self.old.done self.new.done) }
+        ensures { OnOk result (IsSkippedStill (halts.wanted_by stops.now) self.old until self.new) }
     {
         if self.trap.is_some() {
             return Ok(());
@@ -277,7 +269,7 @@ impl Running {
     /// Why it halts before the next instruction, none if it doesn't.
     pub(crate) fn halt_here(&self, stops: &Stops<'_>) -> Option<Halt>
         requires { IsRunning self.now }
-        ensures { result ≡ halts.instruction_halt (halts.wanted_by stops.now) self.now.work.thread self.now.hart (views.cells_of self.now.view) }
+        ensures { result ≡ halt_in (halts.wanted_by stops.now) self.now }
     {
         match self.position_halt(stops) {
             Some(halt) => Some(halt),
@@ -288,7 +280,7 @@ impl Running {
     /// Why it halts at a trap that is known: for what the instruction is, or at the end.
     pub(crate) fn halt_at_trap(&self, stops: &Stops<'_>) -> Halt
         requires { IsRunning self.now }
-        ensures { result ≡ halts.told_or_end (halts.instruction_halt (halts.wanted_by stops.now) self.now.work.thread self.now.hart (views.cells_of self.now.view)) }
+        ensures { result ≡ halts.told_or_end (halt_in (halts.wanted_by stops.now) self.now) }
     {
         match self.halt_here(stops) {
             Some(halt) => halt,
@@ -328,7 +320,7 @@ impl Running {
     /// Whether an ecall comes next that the bound allows.
     pub(crate) fn is_at_call(&self) -> bool
         requires { IsRunning self.now }
-        ensures { result ≡ halts.calls_next self.now.work.segment.left self.now.done self.now.hart (views.cells_of self.now.view) }
+        ensures { result ≡ is_at_call self.now }
     {
         self.done < self.work.segment.left && self.is_at_ecall()
     }

@@ -1,9 +1,9 @@
 //! The last halt of an interval, found by going through it.
-ghost use Rattle.std.specs.Prelude.{◌≡◌, ◌≤◌, ◌<◌, ◌+◌, ◌^◌, false, IfOk, OnOk};
+ghost use Rattle.std.specs.Prelude.{◌≡◌, ◌≤◌, ◌+◌, ◌^◌, false, IfOk, OnOk};
 ghost use Rattle.token.specs.Point.{Point};
-ghost use Rattle.timeline.specs.Backward.{AreSilent, IsFound, IsToldOf, LeadsTo, looks};
+ghost use Rattle.timeline.specs.Backward.{AreSilent, CanPass, CanReach, Finds, IsToldOf, LeadsTo, Passes, looks};
 ghost use Rattle.timeline.specs.Halts.{wanted_by};
-ghost use Rattle.timeline.specs.Present.{BeginsAt, IsBegun, IsSound, moment_of, point_at, step_of};
+ghost use Rattle.timeline.specs.Present.{BeginsAt, CanStep, IsBegun, IsSound, StaysInRun, moment_of, point_at, step_of};
 
 use crate::halt::Halt;
 use crate::present::Present;
@@ -28,11 +28,8 @@ impl Present {
         stops: &Stops<'_>,
         until: u64,
     ) -> Result<Option<Found>, TurnFault>
-        requires sound { IsSound self.old }
-        requires few { until ≤ 2 ^ 63 }
-        requires within { step_of self.old ≤ until }
-        requires leads { LeadsTo self.old until }
-        ensures { IfOk result (λ found. (start : Point) → BeginsAt start self.old → IsFound (wanted_by stops.now) start (step_of self.old) until found) }
+        requires { CanReach self.old until }
+        ensures { IfOk result (Finds (wanted_by stops.now) self.old until) }
     {
         let mut last = None;
         let mut quiet = 0u32;
@@ -58,11 +55,11 @@ impl Present {
         requires sound { IsSound self.old }
         requires few { until ≤ 2 ^ 63 }
         requires within { step_of self.old ≤ until }
-        ensures sound { IsSound self.new }
-        ensures begins { (start : Point) → BeginsAt start self.old → BeginsAt start self.new }
+        ensures stays { StaysInRun self.old self.new }
         ensures since { OnOk result (step_of self.old ≤ step_of self.new) }
         ensures within { OnOk result (step_of self.new ≤ until) }
-        ensures silent { OnOk result ((start : Point) → BeginsAt start self.old → AreSilent (wanted_by stops.now) start (step_of self.old) (step_of self.new)) }
+        ensures silent { OnOk result
+            ((start : Point) → BeginsAt start self.old → AreSilent (wanted_by stops.now) start (step_of self.old) (step_of self.new)) }
     {
         if self.moves_other(stops) {
             return Ok(());
@@ -82,15 +79,8 @@ impl Present {
     /// Goes on by a step if something may be told of it, else as far as the turn goes, and answers the last halt on the way
     /// back from there.
     fn pass(&mut self, stops: &Stops<'_>, until: u64) -> Result<Option<Found>, TurnFault>
-        requires sound { IsSound self.old }
-        requires further { step_of self.old < until }
-        requires few { until ≤ 2 ^ 63 }
-        requires leads { LeadsTo self.old until }
-        ensures sound { IsSound self.new }
-        ensures begins { (start : Point) → BeginsAt start self.old → BeginsAt start self.new }
-        ensures further { OnOk result (step_of self.old < step_of self.new) }
-        ensures within { OnOk result (step_of self.new ≤ until) }
-        ensures found { IfOk result (λ found. (start : Point) → BeginsAt start self.old → IsFound (wanted_by stops.now) start (step_of self.old) (step_of self.new) found) }
+        requires { CanPass self.old until }
+        ensures { Passes (wanted_by stops.now) self.old until result self.new }
     {
         self.begin()?;
         if self.looks(stops) {
@@ -102,14 +92,11 @@ impl Present {
 
     /// Goes on by a step, and answers what is told of it.
     fn pass_step(&mut self, stops: &Stops<'_>) -> Result<Option<Found>, TurnFault>
-        requires sound { IsSound self.old }
-        requires begun { IsBegun (point_at self.old) self.old.running }
-        requires few { step_of self.old < 2 ^ 63 }
+        requires can { CanStep self.old }
         requires leads { LeadsTo self.old (step_of self.old + 1) }
-        ensures sound { IsSound self.new }
-        ensures begins { (start : Point) → BeginsAt start self.old → BeginsAt start self.new }
+        ensures stays { StaysInRun self.old self.new }
         ensures next { OnOk result (step_of self.new ≡ step_of self.old + 1) }
-        ensures found { IfOk result (λ found. (start : Point) → BeginsAt start self.old → IsFound (wanted_by stops.now) start (step_of self.old) (step_of self.new) found) }
+        ensures found { IfOk result (Finds (wanted_by stops.now) self.old (step_of self.new)) }
     {
         let moves_other = self.moves_other(stops);
         let found = self.back_halt(stops)?;
@@ -126,17 +113,10 @@ impl Present {
 
     /// Goes on as far as the turn goes, if nothing is told of its instructions for what they are.
     fn pass_turn(&mut self, stops: &Stops<'_>, until: u64) -> Result<Option<Found>, TurnFault>
-        requires sound { IsSound self.old }
+        requires can { CanPass self.old until }
         requires begun { IsBegun (point_at self.old) self.old.running }
         requires quiet { looks (wanted_by stops.now) self.old.running ≡ false }
-        requires further { step_of self.old < until }
-        requires few { until ≤ 2 ^ 63 }
-        requires leads { LeadsTo self.old until }
-        ensures sound { IsSound self.new }
-        ensures begins { (start : Point) → BeginsAt start self.old → BeginsAt start self.new }
-        ensures further { OnOk result (step_of self.old < step_of self.new) }
-        ensures within { OnOk result (step_of self.new ≤ until) }
-        ensures found { IfOk result (λ found. (start : Point) → BeginsAt start self.old → IsFound (wanted_by stops.now) start (step_of self.old) (step_of self.new) found) }
+        ensures { Passes (wanted_by stops.now) self.old until result self.new }
     {
         let moves_other = self.moves_other(stops);
         self.proceed(stops, until)?;
@@ -162,9 +142,7 @@ impl Present {
     /// What is told of the next instruction for what it is.
     #[tactic(auto, unfolding(crate::specs::Shown::own_at))]
     fn back_halt(&self, stops: &Stops<'_>) -> Result<Option<Found>, TurnFault>
-        requires sound { IsSound self.now }
-        requires begun { IsBegun (point_at self.now) self.now.running }
-        requires few { step_of self.now < 2 ^ 63 }
+        requires { CanStep self.now }
         ensures { IfOk result (IsToldOf (wanted_by stops.now) (moment_of self.now) (step_of self.now)) }
     {
         let Some(running) = &self.running else {

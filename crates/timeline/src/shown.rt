@@ -135,7 +135,8 @@ impl Present {
     #[tactic(auto, unfolding(crate::specs::Shown::own_at, crate::specs::Moment::task_at, hart::specs::Segment::after))]
     fn own_byte(&self, address: u32) -> Option<u8>
         requires { IsSound self.now }
-        ensures { result ≡ option_and_then (λ memory. option_map (λ cell. cell.byte) (memory address)) (shown.memory_by (moment_of self.now) Sees.Own) }
+        ensures { result ≡ option_and_then (λ memory. option_map (λ cell. cell.byte) (memory address))
+            (shown.memory_by (moment_of self.now) Sees.Own) }
     {
         match &self.running {
             Some(running) => running.byte(address),

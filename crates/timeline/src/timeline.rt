@@ -183,7 +183,8 @@ impl Timeline {
     /// After so many steps without one it stands there and answers that it goes on.
     pub fn forward(&mut self, stops: &Stops<'_>, most: u64) -> Result<Halt, AllocError>
         ensures run { SameRun self.old self.new }
-        ensures passed { IfOk result (λ halt. NoneBetween (wanted_by stops.now) (start_of self.old) (step_of self.old.present) (step_of self.new.present)) }
+        ensures passed { IfOk result
+            (λ halt. NoneBetween (wanted_by stops.now) (start_of self.old) (step_of self.old.present) (step_of self.new.present)) }
         ensures since { OnOk result (step_of self.old.present ≤ step_of self.new.present) }
         ensures halts { IfOk result (λ halt. HaltsThere (wanted_by stops.now) (goal_of self.old.present most) halt self.new.present) }
         ensures refused { OnErr result (IsRefused (wanted_by stops.now) (start_of self.old) self.old.present self.new.present) }
@@ -196,7 +197,8 @@ impl Timeline {
     /// answers that it goes on.
     pub fn back(&mut self, stops: &Stops<'_>) -> Result<Halt, AllocError>
         ensures run { SameRun self.old self.new }
-        ensures back { IfOk result (λ halt. GoesBack (wanted_by stops.now) (start_of self.old) (step_of self.old.present) halt (step_of self.new.present)) }
+        ensures back { IfOk result
+            (λ halt. GoesBack (wanted_by stops.now) (start_of self.old) (step_of self.old.present) halt (step_of self.new.present)) }
         ensures refused { OnErr result (self.new.present ≡ self.old.present) }
     {
         moved(self.line.back(stops))

@@ -1,13 +1,12 @@
 use Rattle.std.proofs.Common.{◌≡◌, ◌<◌, ◌≤◌, ◌^◌}
-use Rattle.timeline.specs.Line.{IsLine, start_of}
+use Rattle.timeline.specs.Line.{KeepsRun, start_of}
 use Rattle.timeline.specs.Present.{BeginsAt, IsSound, step_of}
 use Rattle.timeline.proofs.line.Line.go_back.Given as goal
 
 abbrev pub invariant-loop-distance : goal.invariant-loop-distance
 invariant-loop-distance l =
     record {
-      line : IsLine l.self;
-      run : start_of l.self ≡ start_of l.fn.self;
+      keeps : KeepsRun l.fn.self l.self;
       sound : IsSound l.present;
       begins : BeginsAt (start_of l.self) l.present;
       few : l.step ≤ 2 ^ 63;

@@ -20,7 +20,8 @@ returns-in_default c =
     let there = goes_there (wanted_by c.none.result) (goal_of old c.min.result) c.in_ok-forward.field-0 new c.none.ensures c.in_ok-forward.ensures.halts c.in_default.not-End in
     let most : c.min.result ≡ min c.args.most (c.args.step - step_of old) = omega (arith, c.min.ensures, c.step_number-here.ensures) in
     let is = sought old new c.args.step c.args.most (omega (arith, c.step_number-here.ensures, c.if-step-here.false)) (rw most at there) in
-    record { line = c.forward.ensures.line; run = c.forward.ensures.run; sought = rw c.step_number.ensures is; refused = tt }
+    record { moves = record { keeps = c.forward.ensures.moves.keeps; refused = tt }; sought = rw c.step_number.ensures is }
 
-pub returns-in_err-forward-clause-refused : goal.returns-in_err-forward-clause-refused
-returns-in_err-forward-clause-refused c = on_err _ _ (rw c.none.ensures at c.in_err-forward.ensures.refused)
+pub returns-in_err-forward-clause-moves : goal.returns-in_err-forward-clause-moves
+returns-in_err-forward-clause-moves c =
+    record { keeps = c.forward.ensures.moves.keeps; refused = on_err _ _ (rw c.none.ensures at c.in_err-forward.ensures.moves.refused) }

@@ -15,13 +15,12 @@ returns-in-End-clause-stepped c =
 pub returns-in_default : goal.returns-in_default
 returns-in_default c =
     record {
-      line = c.forward.ensures.line;
-      run = c.forward.ensures.run;
+      moves = record { keeps = c.forward.ensures.moves.keeps; refused = tt };
       stepped =
           goes_there (wanted_by c.none.result) (goal_of c.args.self.now.present 1) c.in_ok-forward.field-0 c.forward.new.self.present c.none.ensures c.in_ok-forward.ensures.halts
           c.in_default.not-End;
-      refused = tt;
     }
 
-pub returns-in_err-forward-clause-refused : goal.returns-in_err-forward-clause-refused
-returns-in_err-forward-clause-refused c = on_err _ _ (rw c.none.ensures at c.in_err-forward.ensures.refused)
+pub returns-in_err-forward-clause-moves : goal.returns-in_err-forward-clause-moves
+returns-in_err-forward-clause-moves c =
+    record { keeps = c.forward.ensures.moves.keeps; refused = on_err _ _ (rw c.none.ensures at c.in_err-forward.ensures.moves.refused) }

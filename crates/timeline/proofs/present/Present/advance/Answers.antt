@@ -14,11 +14,12 @@ proceed-requires-clause-call c =
 pub loop-self-smaller : goal.loop-self-smaller
 loop-self-smaller c =
     let start = c.requires.leads.start in
-    let begins = c.loop-self.invariant.begins start c.requires.leads.begins in
-    let begun = same_begins start c.loop-self.self c.begin.new.self c.begin.ensures.serial c.begin.ensures.before begins in
+    let begins = c.loop-self.invariant.stays.begins start c.requires.leads.begins in
+    let begun = same_begins start c.loop-self.self c.begin.new.self c.begin.ensures.turn begins in
     let on =
     goes_on start (wanted_by c.none.result) c.loop-self.self c.begin.new.self c.proceed.new.self c.args.step c.args.step c.requires.leads.moment c.in_ok-proceed.field-0 c.none.ensures
-    c.begin.ensures.step c.in_ok-proceed.ensures.step c.in_ok-proceed.ensures.walked c.proceed.ensures.sound.turns (c.proceed.ensures.begins start begun) (omega arith) c.requires.leads.there in
+    c.begin.ensures.step c.in_ok-proceed.ensures.proceeds.step c.in_ok-proceed.ensures.walked c.proceed.ensures.proceeds.stays.sound.turns
+    (c.proceed.ensures.proceeds.stays.begins start begun) (omega arith) c.requires.leads.there in
     omega (arith, on.0, c.loop-self-test.true)
 
 pub returns-clause-there : goal.returns-clause-there

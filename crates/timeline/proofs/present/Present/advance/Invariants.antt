@@ -1,13 +1,11 @@
 use Rattle.std.proofs.Common.{◌-◌, ◌≤◌}
-use Rattle.token.specs.Point.{Point}
-use Rattle.timeline.specs.Present.{BeginsAt, IsSound, step_of}
+use Rattle.timeline.specs.Present.{StaysInRun, step_of}
 use Rattle.timeline.proofs.present.Present.advance.Given as goal
 
 abbrev pub invariant-loop-self : goal.invariant-loop-self
 invariant-loop-self l =
     record {
-      sound : IsSound l.self;
-      begins : (start : Point) → BeginsAt start l.fn.self → BeginsAt start l.self;
+      stays : StaysInRun l.fn.self l.self;
       within : step_of l.self ≤ l.step;
     }
 

@@ -29,10 +29,10 @@ returns-then-is_some c =
     let copy = c.in_ok-after.after in
     let is = c.in_ok-after.ensures in
     let more : c.steps.result + 1 ≡ step_of copy + 1 = omega (arith, c.steps.ensures, is.steps, is.before) in
-    let step = rw (found.1, more) at c.in_ok-proceed.ensures.step in
+    let step = rw (found.1, more) at c.in_ok-proceed.ensures.proceeds.step in
     let walk = rw found.1 at c.in_ok-proceed.ensures.walked in
     let none =
-    none_next c.args.self.now copy c.proceed.new.self found.0 (wanted_by c.none.result) is.point is.steps is.before is.sound c.proceed.ensures.sound c.proceed.ensures.begins c.none.ensures
+    none_next c.args.self.now copy c.proceed.new.self found.0 (wanted_by c.none.result) is.point is.steps is.before is.sound c.proceed.ensures.proceeds.stays c.none.ensures
     step walk in
     let row : calls.row_after (moment_of c.args.self.now) c.args.thread ≡ None = ap (option_and_then (λ (next : Moment). row_at next.point c.args.thread)) none in
     rw row refl
@@ -42,8 +42,8 @@ returns c =
     let found = none_of c.in_ok-proceed.field-0 (sym c.is_some.ensures ∙ c.if-is_some.false) in
     let copy = c.in_ok-after.after in
     let is = c.in_ok-after.ensures in
-    let step = rw found at c.in_ok-proceed.ensures.step in
+    let step = rw found at c.in_ok-proceed.ensures.proceeds.step in
     let next : step_of c.proceed.new.self ≡ step_of copy + 1 = omega (arith, step.0, step.1, c.steps.ensures, is.steps, is.before) in
-    let leads = next_of c.args.self.now copy c.proceed.new.self is.point is.steps is.before is.sound c.proceed.ensures.sound c.proceed.ensures.begins next in
+    let leads = next_of c.args.self.now copy c.proceed.new.self is.point is.steps is.before is.sound c.proceed.ensures.proceeds.stays next in
     let row = ap (option_and_then (λ (next : Moment). row_at next.point c.args.thread)) leads in
     c.count_in.ensures ∙ ap calls.count_in (c.row.ensures ∙ sym row)

@@ -8,18 +8,18 @@ pub returns-in-Some-clause-walked : goal.returns-in-Some-clause-walked
 returns-in-Some-clause-walked c =
     let old = c.args.self.now in
     let begun = c.begin.new.self in
-    let serial = c.begin.ensures.serial in
+    let serial = c.begin.ensures.turn.serial in
     let point : point_at begun ≡ point_at old = cc in
-    let steps : steps_of begun.running ≡ steps_of old.running = omega (arith, c.begin.ensures.before, c.begin.ensures.step) in
+    let steps : steps_of begun.running ≡ steps_of old.running = omega (arith, c.begin.ensures.turn.before, c.begin.ensures.step) in
     halts_here (wanted_by c.args.stops.now) old begun c.in-Some.halt point steps c.begin.ensures.step (sym c.halt_here.ensures ∙ c.in-Some.is)
 
 pub returns-clause-walked : goal.returns-clause-walked
 returns-clause-walked c =
     let old = c.args.self.now in
     let begun = c.begin.new.self in
-    let serial = c.begin.ensures.serial in
+    let serial = c.begin.ensures.turn.serial in
     let point : point_at begun ≡ point_at old = cc in
-    let steps : steps_of begun.running ≡ steps_of old.running = omega (arith, c.begin.ensures.before, c.begin.ensures.step) in
+    let steps : steps_of begun.running ≡ steps_of old.running = omega (arith, c.begin.ensures.turn.before, c.begin.ensures.step) in
     all_walk (wanted_by c.args.stops.now) old begun _ c.proceed.result point steps c.begin.ensures.step (sym c.halt_here.ensures ∙ c.in_default.is) c.proceed.ensures.walked
 
 pub returns-in-Some-2-clause-walked : goal.returns-in-Some-2-clause-walked

@@ -9,14 +9,13 @@ loop-self-preserved c =
     let invariant = c.loop-self.invariant in
     let pass = c.in_ok-found.ensures in
     record {
-      sound = c.pass.ensures.sound;
-      begins = λ start begins. c.pass.ensures.begins start (invariant.begins start begins);
+      stays = record { sound = c.pass.ensures.stays.sound; begins = λ start begins. c.pass.ensures.stays.begins start (invariant.stays.begins start begins) };
       since = omega (arith, invariant.since, pass.further);
       within = pass.within;
       found = λ start begins.
           rw c.or-last.ensures
           (then_found (wanted_by c.args.stops.now) start (step_of c.args.self.now) (step_of c.loop-self.self) (step_of c.pass.new.self) c.loop-self.last c.in_ok-found.found invariant.since
-          (omega (arith, pass.further)) (invariant.found start begins) (pass.found start (invariant.begins start begins)));
+          (omega (arith, pass.further)) (invariant.found start begins) (pass.found start (invariant.stays.begins start begins)));
     }
 
 pub loop-self-preserved-then-quiet-eq-QUIET : goal.loop-self-preserved-then-quiet-eq-QUIET
@@ -26,18 +25,20 @@ loop-self-preserved-then-quiet-eq-QUIET c =
     let skip = c.in_ok-skip.ensures in
     let wanted = wanted_by c.args.stops.now in
     record {
-      sound = c.skip.ensures.sound;
-      begins = λ start begins. c.skip.ensures.begins start (c.pass.ensures.begins start (invariant.begins start begins));
+      stays = record {
+        sound = c.skip.ensures.stays.sound;
+        begins = λ start begins. c.skip.ensures.stays.begins start (c.pass.ensures.stays.begins start (invariant.stays.begins start begins));
+      };
       since = omega (arith, invariant.since, pass.further, skip.since);
       within = skip.within;
       found = λ start begins.
-          let here = invariant.begins start begins in
+          let here = invariant.stays.begins start begins in
           let passed =
           then_found wanted start (step_of c.args.self.now) (step_of c.loop-self.self) (step_of c.pass.new.self) c.loop-self.last c.in_ok-found.found invariant.since (omega (arith, pass.further))
           (invariant.found start begins) (pass.found start here) in
           let found = rw (sym c.or-last.ensures) at passed in
           then_found wanted start (step_of c.args.self.now) (step_of c.pass.new.self) (step_of c.skip.new.self) c.or-last.result None (omega (arith, invariant.since, pass.further)) skip.since found
-          (skip.silent start (c.pass.ensures.begins start here));
+          (skip.silent start (c.pass.ensures.stays.begins start here));
     }
 
 pub returns : goal.returns

@@ -1,7 +1,8 @@
 use Rattle.std.proofs.Common.{◌≡◌, ◌∙◌, ◌+◌, sym, ap, arith}
+use Rattle.std.proofs.lemmas.Result.{on_ok_weaker}
 use Rattle.timeline.specs.Halts.{wanted_by}
 use Rattle.timeline.specs.Present.{step_of, steps_of}
-use Rattle.timeline.proofs.Backing.{on_both, silent_walk}
+use Rattle.timeline.proofs.Backing.{silent_walk}
 use Rattle.timeline.proofs.Passing.{skipped_plain}
 use Rattle.timeline.proofs.present.Present.skip.Goals as goal
 use Rattle.timeline.proofs.present.Present.skip.Goals.{in-Some, in_default-2, in_default}
@@ -18,9 +19,11 @@ returns-else-is_err-clause-silent c =
           let turns = rw w.in-Some.is at c.requires.sound.turns in
           let to : step_of c.match-self.self ≡ old.before + new.done = ap step_of w.self-is in
           rw w.skipped-is
-          (on_both w.skip-skipped.result _ _ _ w.skip-skipped.ensures.skipped w.skip-skipped.ensures.still (λ skipped still. λ start begins.
-          let plain = skipped_plain wanted old running new _ w.in-Some.is turns skipped still in
-          silent_walk wanted start old (step_of c.match-self.self) begins moves (λ k low high. plain k low (omega (arith, to, low, high)))))
+          (on_ok_weaker w.skip-skipped.result
+          (λ is. λ start begins.
+          let plain = skipped_plain wanted old running new _ w.in-Some.is turns is in
+          silent_walk wanted start old (step_of c.match-self.self) begins moves (λ k low high. plain k low (omega (arith, to, low, high))))
+          w.skip-skipped.ensures)
       | in_default-2 w ↦
           let steps : steps_of old.running ≡ w.in-Some.running.done = ap steps_of w.in-Some.is in
           let there : step_of c.match-self.self ≡ old.before + w.in-Some.running.done = ap step_of w.self-is in

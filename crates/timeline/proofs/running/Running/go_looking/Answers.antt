@@ -1,6 +1,6 @@
 use Rattle.std.proofs.Common.{◌≡◌, ◌≢◌, ◌<◌, ◌∙◌, [], false, sym, arith}
-use Rattle.twins.specs.View as views
-use Rattle.timeline.specs.Halts.{calls_next, wanted_by}
+use Rattle.timeline.specs.Halts.{wanted_by}
+use Rattle.timeline.specs.Running.{is_at_call}
 use Rattle.timeline.proofs.Quieting.{looked_by}
 use Rattle.timeline.proofs.running.Running.go_looking.Goals as goal
 use Rattle.timeline.proofs.running.Running.go_looking.Goals.{else-from-self-via-then-from-self+else-has_watched_call, else-from-self-via-else-from-self}
@@ -10,7 +10,7 @@ returns-in_default-2-clause-looked c =
     let first = c.args.self.now in
     let old = c.loop-self.self in
     let wanted = wanted_by c.args.stops.now in
-    let no_call : first.done < old.done → wanted.watches ≢ [] → calls_next old.work.segment.left old.done old.hart (views.cells_of old.view) ≡ false =
+    let no_call : first.done < old.done → wanted.watches ≢ [] → is_at_call old ≡ false =
     elim c.else-from-self.branch [
       | else-from-self-via-then-from-self+else-has_watched_call w ↦ λ below watched. w.has_watched_call.ensures w.if-has_watched_call.false watched
       | else-from-self-via-else-from-self w ↦ λ below watched. absurd (omega (arith, below, w.if-from-self.false))

@@ -22,5 +22,5 @@ returns-clause-refused c =
     let wanted = wanted_by c.args.stops.now in
     let new = c.forward.new.self.present in
     let refused =
-    subst (λ (line : Line). OnErr c.forward.result (IsRefused wanted (start_of line) line.present new)) c.self.view_is c.forward.ensures.refused in
+    subst (λ (line : Line). OnErr c.forward.result (IsRefused wanted (start_of line) line.present new)) c.self.view_is c.forward.ensures.moves.refused in
     if_refused c.forward.result c.moved.result (IsRefused wanted (start_of c.args.self.now) c.args.self.now.present new) c.moved.ensures refused

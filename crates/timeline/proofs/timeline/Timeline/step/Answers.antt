@@ -10,5 +10,5 @@ use Rattle.timeline.proofs.timeline.Timeline.step.Goals as goal
 pub returns-clause-refused : goal.returns-clause-refused
 returns-clause-refused c =
     let new = c.step.new.self.present in
-    let refused = subst (λ (line : Line). OnErr c.step.result (IsRefused nothing (start_of line) line.present new)) c.self.view_is c.step.ensures.refused in
+    let refused = subst (λ (line : Line). OnErr c.step.result (IsRefused nothing (start_of line) line.present new)) c.self.view_is c.step.ensures.moves.refused in
     if_refused c.step.result c.moved.result (IsRefused nothing (start_of c.args.self.now) c.args.self.now.present new) c.moved.ensures refused
