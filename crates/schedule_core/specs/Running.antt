@@ -46,3 +46,8 @@ pub record HasCome (segment : Segment) (memory : Memory) (hart : HartState) (cel
 -- It stands where its segment has come to.
 abbrev pub IsRunning : Running → Type 0
 IsRunning run = HasCome run.work.segment (memory_of run) run.hart (views.cells_of run.view) run.steps run.stop
+
+-- It stands where its segment has come to, and has stopped there.
+pub record HasStopped (run : Running) (stop : Stop) : Type 0 where
+  pub running : IsRunning run
+  pub stopped : run.stop ≡ Some stop

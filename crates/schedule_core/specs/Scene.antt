@@ -1,12 +1,16 @@
 -- What the stored state of a schedule tells, and what holds of it.
-use Rattle.std.specs.Prelude.{◌≡◌, ℕ, ◌+◌, ◌<◌, ◌≤◌, Option, Some, None, List, All, length, map, slice_get, sum_by, vec_len}
+use Rattle.std.specs.Prelude.{◌≡◌, ℕ, ◌+◌, ◌<◌, ◌≤◌, ◌==◌, true, false, if◌then◌else◌, Option, Some, None, Result, OnOk, OnErr, List, All, length, map, slice_get, sum_by, Vec, vec_len}
 use Rattle.std.specs.Vec.{vec_capacity}
+use Rattle.std.specs.declared.alloc.AllocError.{AllocError}
+use Rattle.std.specs.declared.alloc.Global.{Global}
 use Rattle.guest_memory.specs.Memory.{Memory}
 use Rattle.hart.specs.HartState.{HartState}
 use Rattle.hart.specs.Segment.{after}
 use Rattle.run_limits.specs.Limits as limit
-use Rattle.schedule.specs.Phase.{Counts, begun}
+use Rattle.schedule.specs.Phase.{Counts, begun, is_enabled, made, opened}
 use Rattle.schedule.specs.declared.advance.Advance.{Advance}
+use Rattle.schedule.specs.declared.event.Event.{Event}
+use Rattle.schedule.specs.declared.event.Event.TheVariants.{Turn}
 use Rattle.schedule.specs.declared.fate.Fate.{Fate}
 use Rattle.schedule.specs.declared.fate.Fate.TheVariants as fate
 use Rattle.schedule.specs.declared.worker.Task.{Task}
@@ -15,11 +19,14 @@ use Rattle.schedule.specs.declared.worker.Worker.TheVariants as worker
 use Rattle.segment.specs.Ends.{IsEndOf}
 use Rattle.token.specs.Point.{Point, need_at}
 use Rattle.token.specs.RunInTurn.{point_of}
+use Rattle.token.specs.declared.need.Need.{Need}
 use Rattle.token.specs.declared.need.Need.TheVariants.{Keeper}
 use Rattle.segment.specs.declared.segment_end.SegmentEnd.{SegmentEnd}
-use Rattle.schedule_core.specs.Jobs.{Start, jobs_of, start_of, work_at}
+use Rattle.schedule_core.specs.Faults.{IsAnswerTo}
+use Rattle.schedule_core.specs.Jobs.{Start, jobs_of, start_of, verdicts_of, work_at}
 use Rattle.schedule_core.specs.Running.{IsRunning, advance_of, memory_of}
-use Rattle.schedule_core.specs.Tally.{Tally}
+use Rattle.schedule_core.specs.Tally.{Happens, Tally, is_turn_enabled, refusal_if, refusal_of}
+use Rattle.schedule_core.specs.declared.event_fault.EventFault.{EventFault}
 use Rattle.schedule_core.specs.declared.running.Running.{Running}
 use Rattle.schedule_core.specs.declared.seat.Held.{Held}
 use Rattle.schedule_core.specs.declared.seat.Seat.{Seat}
@@ -102,19 +109,77 @@ pub record IsDesk (start : Start) (number : ℕ) (places : List Seat) (results :
 abbrev pub start_in : Scene → Start
 start_in scene = start_of (point_at scene)
 
+-- there is room for the results and the places of each further phase
+pub record HasRoom (results : Vec Slot Global) (places : Vec Seat Global) : Type 0 where
+  pub slots : 256 ≤ vec_capacity results
+  pub seats : vec_len places ≤ vec_capacity places
+
 -- What holds of the stored state.
 pub record IsSound (scene : Scene) : Type 0 where
   pub desk : IsDesk (start_in scene) scene.drawn scene.seats.items scene.slots.items
   pub keeper : IsKeeper (point_at scene) scene.keeper
   pub outcome : scene.outcome ≡ (point_at scene).ended
-  -- there is room for the results and the places of each further phase
-  pub room : 256 ≤ vec_capacity scene.slots
-  pub places : vec_len scene.seats ≤ vec_capacity scene.seats
+  pub room : HasRoom scene.slots scene.seats
 
 -- Two stored states tell the same.
 pub record Same (old new : Scene) : Type 0 where
   pub point : point_at new ≡ point_at old
   pub tally : tally_of new ≡ tally_of old
+
+-- The run goes on from a stored state, which is sound.
+pub record GoesOn (scene : Scene) : Type 0 where
+  pub sound : IsSound scene
+  pub goes : (point_at scene).ended ≡ None
+
+-- The next turn of a stored state, which is sound, needs this.
+pub record NeedsNext (scene : Scene) (what : Need) : Type 0 where
+  pub sound : IsSound scene
+  pub need : need_at (point_at scene) ≡ what
+
+-- An event of a worker that is there is enabled in a stored state, which is sound.
+pub record MayDo (scene : Scene) (worker : ℕ) (event : Event) : Type 0 where
+  pub sound : IsSound scene
+  pub there : worker < length scene.seats.items
+  pub enabled : is_enabled (verdicts_of (start_in scene)) (counts_of scene) event ≡ true
+
+-- An event of a worker is done or, where it fails, nothing that is counted changes. The turns and the keeper's segment stay.
+pub record Works (old : Scene) (event : Event) (new : Scene) (result : Result (Unit {0}) AllocError) : Type 0 where
+  pub sound : IsSound new
+  pub serial : new.serial ≡ old.serial
+  pub keeper : new.keeper ≡ old.keeper
+  pub ok : OnOk result (counts_of new ≡ made (verdicts_of (start_in old)) (counts_of old) event)
+  pub err : OnErr result (counts_of new ≡ counts_of old)
+
+-- An event happens or, where it fails, nothing changes. The stored state stays sound.
+pub record Does {E : Type 0} (old : Scene) (event : Event) (new : Scene) (result : Result (Unit {0}) E) : Type 0 where
+  pub sound : IsSound new
+  pub happens : OnOk result (Happens (point_at old) (tally_of old) event (point_at new) (tally_of new))
+  pub unchanged : OnErr result (Same old new)
+
+-- An event is refused where there is a reason to refuse it. Otherwise it is done, unless memory runs out.
+pub record Answers (old : Scene) (event : Event) (new : Scene) (result : Result (Unit {0}) EventFault) : Type 0 where
+  pub refused : IsAnswerTo (refusal_of (point_at old) (tally_of old) event) result
+  pub does : Does old event new result
+
+-- The next turn, which needs this, is refused where it isn't enabled. Otherwise it is done, unless memory runs out.
+pub record TakesTurn (old : Scene) (need : Need) (new : Scene) (result : Result (Unit {0}) EventFault) : Type 0 where
+  pub answer : IsAnswerTo (refusal_if false true (is_turn_enabled (start_in old) need (tally_of old))) result
+  pub does : Does old Turn new result
+
+-- what is counted where the present phase has just opened
+abbrev pub opened_in : Scene → Counts
+opened_in scene = opened (length (jobs_of (start_in scene))) (length scene.seats.items)
+
+-- what is counted after a turn that began in this phase: if the phase is a further one now, it has just opened
+abbrev pub settled_from : Scene → ℕ → Counts
+settled_from scene phase = if (point_at scene).phase == phase then counts_of scene else opened_in scene
+
+-- No keeper's segment has begun, and this is counted. The stored state is sound, and the turns stay.
+pub record Settles (old : Scene) (counted : Counts) (new : Scene) : Type 0 where
+  pub sound : IsSound new
+  pub serial : new.serial ≡ old.serial
+  pub keeper : new.keeper ≡ None
+  pub counts : counts_of new ≡ counted
 
 -- the hart and the memory of a worker's job: as many times the next instruction from its start on the phase's first memory as its steps
 abbrev pub private_of : Start → Option Worker → Option (HartState × Memory)

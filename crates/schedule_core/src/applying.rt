@@ -4,19 +4,14 @@ use crate::scene::Scene;
 use schedule::Event;
 
 impl Scene {
-    ghost use Rattle.std.specs.Prelude.{◌≡◌, None, Some, length, OnOk, OnErr};
+    ghost use Rattle.std.specs.Prelude.{◌≡◌, Some};
     ghost use Rattle.schedule.specs.Phase.{worker_of as worker_in};
-    ghost use Rattle.schedule_core.specs.Faults.{IsAnswerTo};
-    ghost use Rattle.schedule_core.specs.Scene.{IsSound, Same, point_at, tally_of};
-    ghost use Rattle.schedule_core.specs.Tally.{Happens, refusal_of};
+    ghost use Rattle.schedule_core.specs.Scene.{Answers, GoesOn, IsSound};
 
     /// Makes an event happen.
     pub(crate) fn apply(&mut self, event: Event) -> Result<(), EventFault>
         requires { IsSound self.old }
-        ensures sound { IsSound self.new }
-        ensures refused { IsAnswerTo (refusal_of (point_at self.old) (tally_of self.old) event) result }
-        ensures happens { OnOk result (Happens (point_at self.old) (tally_of self.old) event (point_at self.new) (tally_of self.new)) }
-        ensures unchanged { OnErr result (Same self.old self.new) }
+        ensures { Answers self.old event self.new result }
     {
         if self.outcome.is_some() {
             return Err(EventFault::Ended);
@@ -34,13 +29,9 @@ impl Scene {
 
     /// Makes an event of a worker happen, while the run goes on.
     fn work(&mut self, worker: u32, event: Event) -> Result<(), EventFault>
-        requires sound { IsSound self.old }
-        requires goes { (point_at self.old).ended ≡ None }
+        requires run { GoesOn self.old }
         requires its { worker_in event ≡ Some worker }
-        ensures sound { IsSound self.new }
-        ensures refused { IsAnswerTo (refusal_of (point_at self.old) (tally_of self.old) event) result }
-        ensures happens { OnOk result (Happens (point_at self.old) (tally_of self.old) event (point_at self.new) (tally_of self.new)) }
-        ensures unchanged { OnErr result (Same self.old self.new) }
+        ensures { Answers self.old event self.new result }
     {
         if worker as usize >= self.seats.len() {
             return Err(EventFault::NoWorker);

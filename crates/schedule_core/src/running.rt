@@ -26,7 +26,7 @@ impl Running {
     ghost use Rattle.schedule.specs.Phase.{advanced, begun, is_end};
     ghost use Rattle.hart.specs.Segment.{counted};
     ghost use Rattle.segment.specs.Ends.{IsEndOf};
-    ghost use Rattle.schedule_core.specs.Running.{IsRunning, memory_of, advance_of, verdict_of, limit_at};
+    ghost use Rattle.schedule_core.specs.Running.{HasStopped, IsRunning, memory_of, advance_of, verdict_of, limit_at};
 
     /// A segment that has executed nothing, on a memory that it takes over.
     pub(crate) fn begin(work: Work, base: Snapshot) -> Self
@@ -112,8 +112,7 @@ impl Running {
 
     /// The end of the segment, which has stopped, with what it changed of its memory.
     pub(crate) fn end(&self, stop: Stop) -> Result<SegmentEnd, AllocError>
-        requires running { IsRunning self.now }
-        requires stopped { self.now.stop ≡ Some stop }
+        requires { HasStopped self.now stop }
         ensures { IfOk result (λ end. IsEndOf (memory_of self.now) self.now.work.segment end) }
     {
         let patch = Patch::of(self.view.base().allocator(), &self.view)?;
@@ -127,8 +126,7 @@ impl Running {
 
     /// How many instructions it has executed, an ecall that stopped it included.
     fn count(&self, stop: Stop) -> u64
-        requires running { IsRunning self.now }
-        requires stopped { self.now.stop ≡ Some stop }
+        requires { HasStopped self.now stop }
         ensures { result ≡ counted stop self.now.steps }
     {
         match stop {

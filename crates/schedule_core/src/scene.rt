@@ -25,11 +25,11 @@ pub struct Scene {
 }
 
 impl Scene {
-    ghost use Rattle.std.specs.Prelude.{◌≡◌, ◌<◌, true, length, Some, IfOk, OnOk, OnErr};
-    ghost use Rattle.schedule.specs.Phase.{drawing, is_enabled, made, worker_of as worker_in};
+    ghost use Rattle.std.specs.Prelude.{◌≡◌, ◌<◌, length, Some, Ok, IfOk};
+    ghost use Rattle.schedule.specs.Phase.{drawing, is_enabled, worker_of as worker_in};
     ghost use Rattle.schedule.specs.declared.event.Event.TheVariants as event;
     ghost use Rattle.schedule_core.specs.Jobs.{work_of, verdicts_of};
-    ghost use Rattle.schedule_core.specs.Scene.{IsSound, IsSeat, Same, counts_of, point_at, start_in, tally_of, worker_of};
+    ghost use Rattle.schedule_core.specs.Scene.{IsSound, IsSeat, MayDo, Works, counts_of, start_in, worker_of};
 
     /// The segment of a thread in this phase.
     #[tactic(auto, unfolding(crate::specs::Jobs::work_of))]
@@ -79,14 +79,8 @@ impl Scene {
 
     /// A worker draws a number.
     pub(crate) fn draw(&mut self, worker: u32) -> Result<(), AllocError>
-        requires sound { IsSound self.old }
-        requires there { worker < length self.old.seats.items }
-        requires enabled { is_enabled (verdicts_of (start_in self.old)) (counts_of self.old) (event.Draw worker) ≡ true }
-        ensures sound { IsSound self.new }
-        ensures serial { self.new.serial ≡ self.old.serial }
-        ensures keeper { self.new.keeper ≡ self.old.keeper }
-        ensures ok { OnOk result (counts_of self.new ≡ made (verdicts_of (start_in self.old)) (counts_of self.old) (event.Draw worker)) }
-        ensures err { OnErr result (counts_of self.new ≡ counts_of self.old) }
+        requires { MayDo self.old worker (event.Draw worker) }
+        ensures { Works self.old (event.Draw worker) self.new result }
     {
         let seat = self.next_seat()?;
         self.drawn += 1;
@@ -96,14 +90,8 @@ impl Scene {
 
     /// A worker's job goes on by an instruction, or stops.
     pub(crate) fn step(&mut self, worker: u32) -> Result<(), AllocError>
-        requires sound { IsSound self.old }
-        requires there { worker < length self.old.seats.items }
-        requires enabled { is_enabled (verdicts_of (start_in self.old)) (counts_of self.old) (event.Step worker) ≡ true }
-        ensures sound { IsSound self.new }
-        ensures serial { self.new.serial ≡ self.old.serial }
-        ensures keeper { self.new.keeper ≡ self.old.keeper }
-        ensures ok { OnOk result (counts_of self.new ≡ made (verdicts_of (start_in self.old)) (counts_of self.old) (event.Step worker)) }
-        ensures err { OnErr result (counts_of self.new ≡ counts_of self.old) }
+        requires { MayDo self.old worker (event.Step worker) }
+        ensures { Works self.old (event.Step worker) self.new result }
     {
         match &mut self.seats[worker as usize] {
             Seat::Working(held) => held.running.go_on(),
@@ -113,13 +101,8 @@ impl Scene {
 
     /// A worker makes known that its job has ended the run.
     pub(crate) fn note(&mut self, worker: u32)
-        requires sound { IsSound self.old }
-        requires there { worker < length self.old.seats.items }
-        requires enabled { is_enabled (verdicts_of (start_in self.old)) (counts_of self.old) (event.Note worker) ≡ true }
-        ensures sound { IsSound self.new }
-        ensures serial { self.new.serial ≡ self.old.serial }
-        ensures keeper { self.new.keeper ≡ self.old.keeper }
-        ensures counts { counts_of self.new ≡ made (verdicts_of (start_in self.old)) (counts_of self.old) (event.Note worker) }
+        requires { MayDo self.old worker (event.Note worker) }
+        ensures { Works self.old (event.Note worker) self.new (Ok tt) }
     {
         if let Seat::Working(held) = &mut self.seats[worker as usize] {
             held.noted = true;
@@ -129,13 +112,8 @@ impl Scene {
 
     /// A worker gives its job up.
     pub(crate) fn skip(&mut self, worker: u32)
-        requires sound { IsSound self.old }
-        requires there { worker < length self.old.seats.items }
-        requires enabled { is_enabled (verdicts_of (start_in self.old)) (counts_of self.old) (event.Skip worker) ≡ true }
-        ensures sound { IsSound self.new }
-        ensures serial { self.new.serial ≡ self.old.serial }
-        ensures keeper { self.new.keeper ≡ self.old.keeper }
-        ensures counts { counts_of self.new ≡ made (verdicts_of (start_in self.old)) (counts_of self.old) (event.Skip worker) }
+        requires { MayDo self.old worker (event.Skip worker) }
+        ensures { Works self.old (event.Skip worker) self.new (Ok tt) }
     {
         if let Seat::Working(held) = &self.seats[worker as usize] {
             let job = held.job as usize;
@@ -146,14 +124,8 @@ impl Scene {
 
     /// A worker hands over the result of its job.
     pub(crate) fn post(&mut self, worker: u32) -> Result<(), AllocError>
-        requires sound { IsSound self.old }
-        requires there { worker < length self.old.seats.items }
-        requires enabled { is_enabled (verdicts_of (start_in self.old)) (counts_of self.old) (event.Post worker) ≡ true }
-        ensures sound { IsSound self.new }
-        ensures serial { self.new.serial ≡ self.old.serial }
-        ensures keeper { self.new.keeper ≡ self.old.keeper }
-        ensures ok { OnOk result (counts_of self.new ≡ made (verdicts_of (start_in self.old)) (counts_of self.old) (event.Post worker)) }
-        ensures err { OnErr result (counts_of self.new ≡ counts_of self.old) }
+        requires { MayDo self.old worker (event.Post worker) }
+        ensures { Works self.old (event.Post worker) self.new result }
     {
         let Seat::Working(held) = &self.seats[worker as usize] else {
             return Ok(());

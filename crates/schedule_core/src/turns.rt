@@ -12,26 +12,19 @@ use std::alloc::AllocError;
 use token::{Kept, Need, RunOutcome, Serial, TurnFault, Work};
 
 impl Scene {
-    ghost use Rattle.std.specs.Prelude.{◌≡◌, ◌≤◌, ◌==◌, if◌then◌else◌, true, false, is_some, length, slice_get, vec_len, None, Some, IfSome, OnOk, OnErr};
-    ghost use Rattle.std.specs.Vec.{vec_capacity};
-    ghost use Rattle.schedule.specs.Phase.{advanced, begun, opened};
+    ghost use Rattle.std.specs.Prelude.{◌≡◌, ◌≤◌, true, is_some, length, slice_get, None, Some, IfSome, OnOk, OnErr};
+    ghost use Rattle.schedule.specs.Phase.{advanced, begun};
     ghost use Rattle.schedule.specs.declared.event.Event.TheVariants as event;
-    ghost use Rattle.token.specs.Point.{need_at};
     ghost use Rattle.token.specs.declared.need.Need.TheVariants as need;
     ghost use Rattle.run_limits.specs.Limits as limit;
-    ghost use Rattle.schedule_core.specs.Faults.{IsAnswerTo};
-    ghost use Rattle.schedule_core.specs.Jobs.{job_of, jobs_of, verdict_by};
-    ghost use Rattle.schedule_core.specs.Scene.{IsDesk, IsSound, Same, counts_of, keeper_advance, point_at, start_in, tally_of};
-    ghost use Rattle.schedule_core.specs.Tally.{Happens, is_posted, is_posted_at, is_turn_enabled, refusal_if, refusal_of};
+    ghost use Rattle.schedule_core.specs.Jobs.{job_of, verdict_by};
+    ghost use Rattle.schedule_core.specs.Scene.{Answers, Does, GoesOn, HasRoom, IsDesk, IsSound, NeedsNext, Settles, TakesTurn, counts_of, keeper_advance, opened_in, point_at, settled_from, start_in};
+    ghost use Rattle.schedule_core.specs.Tally.{is_posted, is_posted_at};
 
     /// The keeper's segment goes on by an instruction, or stops.
     pub(crate) fn hold(&mut self) -> Result<(), EventFault>
-        requires sound { IsSound self.old }
-        requires goes { (point_at self.old).ended ≡ None }
-        ensures sound { IsSound self.new }
-        ensures refused { IsAnswerTo (refusal_of (point_at self.old) (tally_of self.old) event.Hold) result }
-        ensures happens { OnOk result (Happens (point_at self.old) (tally_of self.old) event.Hold (point_at self.new) (tally_of self.new)) }
-        ensures unchanged { OnErr result (Same self.old self.new) }
+        requires { GoesOn self.old }
+        ensures { Answers self.old event.Hold self.new result }
     {
         let Need::Keeper(work) = self.serial.need() else {
             return Err(EventFault::NotEnabled);
@@ -53,9 +46,8 @@ impl Scene {
 
     /// The keeper's segment begins and goes on by an instruction, or stops at once.
     fn begin_keeper(&mut self, work: Work) -> Result<(), AllocError>
-        requires sound { IsSound self.old }
+        requires needs { NeedsNext self.old (need.Keeper work) }
         requires none { self.old.keeper ≡ None }
-        requires need { need_at (point_at self.old) ≡ need.Keeper work }
         ensures sound { IsSound self.new }
         ensures serial { self.new.serial ≡ self.old.serial }
         ensures counts { counts_of self.new ≡ counts_of self.old }
@@ -70,12 +62,8 @@ impl Scene {
 
     /// Does the next turn.
     pub(crate) fn turn(&mut self) -> Result<(), EventFault>
-        requires sound { IsSound self.old }
-        requires goes { (point_at self.old).ended ≡ None }
-        ensures sound { IsSound self.new }
-        ensures refused { IsAnswerTo (refusal_of (point_at self.old) (tally_of self.old) event.Turn) result }
-        ensures happens { OnOk result (Happens (point_at self.old) (tally_of self.old) event.Turn (point_at self.new) (tally_of self.new)) }
-        ensures unchanged { OnErr result (Same self.old self.new) }
+        requires { GoesOn self.old }
+        ensures { Answers self.old event.Turn self.new result }
     {
         match self.serial.need() {
             Need::Segment(work) => self.segment_turn(work),
@@ -90,12 +78,8 @@ impl Scene {
 
     /// The turn of a thread whose job's result was posted.
     fn segment_turn(&mut self, work: Work) -> Result<(), EventFault>
-        requires sound { IsSound self.old }
-        requires need { need_at (point_at self.old) ≡ need.Segment work }
-        ensures sound { IsSound self.new }
-        ensures answer { IsAnswerTo (refusal_if false true (is_turn_enabled (start_in self.old) (need.Segment work) (tally_of self.old))) result }
-        ensures ok { OnOk result (Happens (point_at self.old) (tally_of self.old) event.Turn (point_at self.new) (tally_of self.new)) }
-        ensures err { OnErr result (Same self.old self.new) }
+        requires { NeedsNext self.old (need.Segment work) }
+        ensures { TakesTurn self.old (need.Segment work) self.new result }
     {
         let Some(job) = self.posted_job(work.thread) else {
             return Err(EventFault::NotEnabled);
@@ -107,7 +91,8 @@ impl Scene {
     /// The job of a thread, where its result was posted.
     fn posted_job(&self, thread: u32) -> Option<usize>
         ensures posted { is_some result ≡ is_posted_at (counts_of self.now).fates (job_of (start_in self.now) thread) }
-        ensures job { IfSome result (λ job. (job_of (start_in self.now) thread ≡ Some job) × (is_posted (slice_get (counts_of self.now).fates job) ≡ true)) }
+        ensures job { IfSome result (λ job.
+            (job_of (start_in self.now) thread ≡ Some job) × (is_posted (slice_get (counts_of self.now).fates job) ≡ true)) }
     {
         let job = self.job_of(thread)?;
         match self.slots.get(job) {
@@ -127,13 +112,10 @@ impl Scene {
 
     /// The turn of a thread with the posted result of its job.
     fn posted_turn(&mut self, work: Work, job: usize) -> Result<(), TurnFault>
-        requires sound { IsSound self.old }
-        requires need { need_at (point_at self.old) ≡ need.Segment work }
+        requires needs { NeedsNext self.old (need.Segment work) }
         requires job { job_of (start_in self.old) work.thread ≡ Some job }
         requires posted { is_posted (slice_get (counts_of self.old).fates job) ≡ true }
-        ensures sound { IsSound self.new }
-        ensures ok { OnOk result (Happens (point_at self.old) (tally_of self.old) event.Turn (point_at self.new) (tally_of self.new)) }
-        ensures err { OnErr result (Same self.old self.new) }
+        ensures { Does self.old event.Turn self.new result }
     {
         let phase = self.serial.phase();
         match &self.slots[job] {
@@ -148,12 +130,8 @@ impl Scene {
 
     /// The turn of the keeper, whose segment has stopped.
     fn keeper_turn(&mut self, work: Work) -> Result<(), EventFault>
-        requires sound { IsSound self.old }
-        requires need { need_at (point_at self.old) ≡ need.Keeper work }
-        ensures sound { IsSound self.new }
-        ensures answer { IsAnswerTo (refusal_if false true (is_turn_enabled (start_in self.old) (need.Keeper work) (tally_of self.old))) result }
-        ensures ok { OnOk result (Happens (point_at self.old) (tally_of self.old) event.Turn (point_at self.new) (tally_of self.new)) }
-        ensures err { OnErr result (Same self.old self.new) }
+        requires { NeedsNext self.old (need.Keeper work) }
+        ensures { TakesTurn self.old (need.Keeper work) self.new result }
     {
         let Some(running) = &self.keeper else {
             return Err(EventFault::NotEnabled);
@@ -170,11 +148,8 @@ impl Scene {
 
     /// The turn of a woken thread.
     fn wake_turn(&mut self, thread: u32) -> Result<(), TurnFault>
-        requires sound { IsSound self.old }
-        requires need { need_at (point_at self.old) ≡ need.Wake thread }
-        ensures sound { IsSound self.new }
-        ensures ok { OnOk result (Happens (point_at self.old) (tally_of self.old) event.Turn (point_at self.new) (tally_of self.new)) }
-        ensures err { OnErr result (Same self.old self.new) }
+        requires { NeedsNext self.old (need.Wake thread) }
+        ensures { Does self.old event.Turn self.new result }
     {
         let phase = self.serial.phase();
         self.serial.turn(None)?;
@@ -185,14 +160,11 @@ impl Scene {
     /// After a turn: no keeper's segment has begun, and where a further phase has begun its workers are idle and
     /// its jobs open.
     fn settle(&mut self, phase: u64)
-        requires desk { (point_at self.old).phase ≡ phase → IsDesk (start_in self.old) self.old.drawn self.old.seats.items self.old.slots.items }
-        requires slots { 256 ≤ vec_capacity self.old.slots }
-        requires seats { vec_len self.old.seats ≤ vec_capacity self.old.seats }
+        requires desk { (point_at self.old).phase ≡ phase →
+            IsDesk (start_in self.old) self.old.drawn self.old.seats.items self.old.slots.items }
+        requires room { HasRoom self.old.slots self.old.seats }
         requires few { length self.old.seats.items ≤ limit.workers }
-        ensures sound { IsSound self.new }
-        ensures serial { self.new.serial ≡ self.old.serial }
-        ensures keeper { self.new.keeper ≡ None }
-        ensures counts { counts_of self.new ≡ (if (point_at self.old).phase == phase then counts_of self.old else opened (length (jobs_of (start_in self.old))) (length self.old.seats.items)) }
+        ensures { Settles self.old (settled_from self.old phase) self.new }
     {
         self.keeper = None;
         self.outcome = outcome_of(&self.serial);
@@ -204,14 +176,10 @@ impl Scene {
     /// Opens the present phase: its workers are idle, and its jobs open.
     pub(crate) fn open_phase(&mut self)
         requires outcome { self.old.outcome ≡ (point_at self.old).ended }
-        requires slots { 256 ≤ vec_capacity self.old.slots }
-        requires seats { vec_len self.old.seats ≤ vec_capacity self.old.seats }
+        requires room { HasRoom self.old.slots self.old.seats }
         requires few { length self.old.seats.items ≤ limit.workers }
         requires keeper { self.old.keeper ≡ None }
-        ensures sound { IsSound self.new }
-        ensures serial { self.new.serial ≡ self.old.serial }
-        ensures keeper { self.new.keeper ≡ None }
-        ensures counts { counts_of self.new ≡ opened (length (jobs_of (start_in self.old))) (length self.old.seats.items) }
+        ensures { Settles self.old (opened_in self.old) self.new }
     {
         let jobs = self.serial.base_threads().ready_list().len();
         let workers = self.seats.len();

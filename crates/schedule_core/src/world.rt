@@ -72,7 +72,8 @@ impl World {
         requires some_workers { 0 < workers }
         ensures setup { IfOk result (λ world. (point_at world).setup ≡ setup_of image.now input.now bound quantum) }
         ensures done { IfOk result (λ world. (point_at world).done ≡ 0) }
-        ensures tally { IfOk result (λ world. tally_of world ≡ record { turns = 0; counts = opened (length (jobs_of (start_in world))) workers; keeper = begun }) }
+        ensures tally { IfOk result (λ world.
+            tally_of world ≡ record { turns = 0; counts = opened (length (jobs_of (start_in world))) workers; keeper = begun }) }
     {
         let start = Start::open(alloc, image, input, bound, quantum)?;
         World::of_start(alloc, start, workers)
@@ -84,7 +85,8 @@ impl World {
         requires some_workers { 0 < workers }
         ensures point { IfOk result (λ world. point_at world ≡ point_of start) }
         ensures done { IfOk result (λ world. (point_at world).done ≡ 0) }
-        ensures tally { IfOk result (λ world. tally_of world ≡ record { turns = 0; counts = opened (length (jobs_of (start_in world))) workers; keeper = begun }) }
+        ensures tally { IfOk result (λ world.
+            tally_of world ≡ record { turns = 0; counts = opened (length (jobs_of (start_in world))) workers; keeper = begun }) }
     {
         let serial = start.recorded_by(Kept::new(alloc));
         let outcome = outcome_of(&serial);
@@ -122,8 +124,11 @@ impl World {
     ///
     /// The first event that is refused, or for which memory runs out: its place and its fault.
     pub fn apply_all(&mut self, events: &[Event]) -> Result<(), RefusedEvent>
-        ensures all { OnOk result (HappenInTurn (point_at self.old) (tally_of self.old) events.now (point_at self.new) (tally_of self.new)) }
-        ensures refused { IfErr result (λ refused. IsRefusedAt (point_at self.old) (tally_of self.old) events.now refused.place refused.fault (point_at self.new) (tally_of self.new)) }
+        ensures all { OnOk result
+            (HappenInTurn (point_at self.old) (tally_of self.old) events.now (point_at self.new) (tally_of self.new)) }
+        ensures refused { IfErr result (λ refused.
+            IsRefusedAt (point_at self.old) (tally_of self.old) events.now refused.place refused.fault
+            (point_at self.new) (tally_of self.new)) }
     {
         for (place, event) in events.iter().enumerate() {
             if let Err(fault) = self.apply(*event) {
@@ -167,7 +172,8 @@ impl World {
     /// instruction from the job's start on the phase's first memory as the job has made steps, whatever turns
     /// were done since.
     pub fn private(&self, worker: u32) -> Option<(&Hart, &View)>
-        ensures { option_map (λ lent. (lent.0.now, views.cells_of lent.1.now)) result ≡ private_of (start_in self.now) (slice_get (counts_of self.now).workers worker) }
+        ensures { option_map (λ lent. (lent.0.now, views.cells_of lent.1.now)) result
+            ≡ private_of (start_in self.now) (slice_get (counts_of self.now).workers worker) }
     {
         match self.scene.seats.get(worker as usize) {
             Some(Seat::Working(held)) => Some((&held.running.hart, &held.running.view)),

@@ -12,16 +12,20 @@ index-requires c =
     grind (arith, common_steps)
 
 pub turn-requires : goal.turn-requires
-turn-requires c = posted_needed (point_at c.args.self.now) c.args.work c.args.self.now.drawn c.args.self.now.seats.items c.args.self.now.slots.items c.args.job c.in-Posted.end c.requires.need c.requires.sound.desk c.requires.job (slot_at c.args.self.now.slots.items c.args.job c.index.result.now (Posted c.in-Posted.end) (posted_there c.args.self.now.slots.items c.args.job c.requires.posted) c.index.ensures c.in-Posted.is)
+turn-requires c = posted_needed (point_at c.args.self.now) c.args.work c.args.self.now.drawn c.args.self.now.seats.items c.args.self.now.slots.items c.args.job c.in-Posted.end c.requires.needs.need c.requires.needs.sound.desk c.requires.job (slot_at c.args.self.now.slots.items c.args.job c.index.result.now (Posted c.in-Posted.end) (posted_there c.args.self.now.slots.items c.args.job c.requires.posted) c.index.ensures c.in-Posted.is)
 
 pub settle-requires-clause-desk : goal.settle-requires-clause-desk
 settle-requires-clause-desk c =
-    λ same. kept_desk (point_at c.args.self.now) (point_of c.turn.new.self) _ c.phase-phase.result c.args.self.now.drawn c.args.self.now.seats.items c.args.self.now.slots.items c.in_ok-turn-in-Posted.ensures.moved c.phase-phase.ensures c.requires.sound.desk same
+    λ same. kept_desk (point_at c.args.self.now) (point_of c.turn.new.self) _ c.phase-phase.result c.args.self.now.drawn c.args.self.now.seats.items c.args.self.now.slots.items c.in_ok-turn-in-Posted.ensures.moved c.phase-phase.ensures c.requires.needs.sound.desk same
 
-pub returns-in_ok-turn-in-Posted-clause-ok : goal.returns-in_ok-turn-in-Posted-clause-ok
-returns-in_ok-turn-in-Posted-clause-ok c =
-    turn_done c.args.self.now c.settle.new.self c.turn.new.self c.phase-phase.result (Some c.in-Posted.end) (posted_needed (point_at c.args.self.now) c.args.work c.args.self.now.drawn c.args.self.now.seats.items c.args.self.now.slots.items c.args.job c.in-Posted.end c.requires.need c.requires.sound.desk c.requires.job (slot_at c.args.self.now.slots.items c.args.job c.index.result.now (Posted c.in-Posted.end) (posted_there c.args.self.now.slots.items c.args.job c.requires.posted) c.index.ensures c.in-Posted.is))
-    c.in_ok-turn-in-Posted.ensures.moved c.in_ok-turn-in-Posted.ensures.longer c.phase-phase.ensures c.settle.ensures.serial c.settle.ensures.keeper c.settle.ensures.counts
+pub returns-in_ok-turn-in-Posted : goal.returns-in_ok-turn-in-Posted
+returns-in_ok-turn-in-Posted c = record {
+  sound = c.settle.ensures.sound;
+  happens =
+      turn_done c.args.self.now c.settle.new.self c.turn.new.self c.phase-phase.result (Some c.in-Posted.end) (posted_needed (point_at c.args.self.now) c.args.work c.args.self.now.drawn c.args.self.now.seats.items c.args.self.now.slots.items c.args.job c.in-Posted.end c.requires.needs.need c.requires.needs.sound.desk c.requires.job (slot_at c.args.self.now.slots.items c.args.job c.index.result.now (Posted c.in-Posted.end) (posted_there c.args.self.now.slots.items c.args.job c.requires.posted) c.index.ensures c.in-Posted.is))
+      c.in_ok-turn-in-Posted.ensures.moved c.in_ok-turn-in-Posted.ensures.longer c.phase-phase.ensures c.settle.ensures.serial c.settle.ensures.keeper c.settle.ensures.counts;
+  unchanged = tt;
+}
 
 pub returns-in_default : goal.returns-in_default
 returns-in_default c = absurd (must_be_posted c.args.self.now.slots.items c.args.job c.index.result.now c.index.ensures c.requires.posted c.in_default.not-Posted)

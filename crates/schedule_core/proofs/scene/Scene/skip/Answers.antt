@@ -7,25 +7,26 @@ use Rattle.schedule_core.specs.declared.seat.Seat.TheVariants.{Idle, Working}
 use Rattle.schedule_core.specs.declared.slot.Slot.TheVariants.{Skipped}
 use Rattle.schedule_core.proofs.scene.Scene.skip.Goals as goal
 
-pub returns-in-Working-clause-sound : goal.returns-in-Working-clause-sound
-returns-in-Working-clause-sound c =
+pub returns-in-Working : goal.returns-in-Working
+returns-in-Working c =
     let is = there_at c.args.self.now.seats.items c.args.worker c.index.result.now (Working c.in-Working.held) c.requires.there c.index.ensures c.in-Working.is in
     let desk = c.requires.sound.desk in
     let held = held_at (start_in c.args.self.now) c.args.self.now.drawn c.args.self.now.seats.items c.args.self.now.slots.items c.args.worker c.in-Working.held desk is in
     record {
-      desk =
-          slot_changes (start_in c.args.self.now) c.args.self.now.drawn _ c.args.self.now.slots.items c.in-Working.held.job Skipped
-          (seat_changes (start_in c.args.self.now) c.args.self.now.drawn c.args.self.now.seats.items c.args.self.now.slots.items c.args.worker (Working c.in-Working.held) Idle desk is tt refl)
-          (rw desk.jobs held.job) (λ end no. let bad : ⊥ = cc in absurd bad);
-      keeper = c.requires.sound.keeper;
-      outcome = c.requires.sound.outcome;
-      room = c.requires.sound.room;
-      places = c.requires.sound.places;
+      sound = record {
+        desk =
+            slot_changes (start_in c.args.self.now) c.args.self.now.drawn _ c.args.self.now.slots.items c.in-Working.held.job Skipped
+            (seat_changes (start_in c.args.self.now) c.args.self.now.drawn c.args.self.now.seats.items c.args.self.now.slots.items c.args.worker (Working c.in-Working.held) Idle desk is tt refl)
+            (rw desk.jobs held.job) (λ end no. let bad : ⊥ = cc in absurd bad);
+        keeper = c.requires.sound.keeper;
+        outcome = c.requires.sound.outcome;
+        room = record { slots = c.requires.sound.room.slots; seats = c.requires.sound.room.seats };
+      };
+      serial = refl;
+      keeper = refl;
+      ok = counts_skip (verdicts_of (start_in c.args.self.now)) c.args.self.now.drawn c.args.self.now.least c.args.self.now.seats.items c.args.self.now.slots.items c.args.worker c.in-Working.held is;
+      err = tt;
     }
-
-pub returns-in-Working-clause-counts : goal.returns-in-Working-clause-counts
-returns-in-Working-clause-counts c =
-    counts_skip (verdicts_of (start_in c.args.self.now)) c.args.self.now.drawn c.args.self.now.least c.args.self.now.seats.items c.args.self.now.slots.items c.args.worker c.in-Working.held (there_at c.args.self.now.seats.items c.args.worker c.index.result.now _ c.requires.there c.index.ensures c.in-Working.is)
 
 pub returns-in_default : goal.returns-in_default
 returns-in_default c = absurd (must_work (verdicts_of (start_in c.args.self.now)) c.args.self.now.drawn c.args.self.now.least c.args.self.now.seats.items c.args.self.now.slots.items c.args.worker c.index.result.now (Skip c.args.worker) refl refl c.requires.there c.index.ensures c.requires.enabled c.in_default.not-Working)
