@@ -31,5 +31,6 @@ pub trait Recorder {
     /// Records the turn that it is prepared for.
     fn record(&mut self, turn: Turn)
         requires { (addresses : List ℕ) × is_ready self.old addresses }
-        ensures { (addresses : List ℕ) (turns : List TurnRecord) (changes : List Change) → is_ready self.old addresses → records self.old turns changes → records self.new (turns ++ turn ∷ []) (changes ++ change_by turn addresses ∷ []) };
+        ensures { (addresses : List ℕ) (turns : List TurnRecord) (changes : List Change) → is_ready self.old addresses →
+            records self.old turns changes → records self.new (turns ++ turn ∷ []) (changes ++ change_by turn addresses ∷ []) };
 }

@@ -1,7 +1,7 @@
 //! A run and its turns.
 #![tactic(auto, unfolding(crate::specs::RunInTurn::point_of))]
 
-ghost use Rattle.std.specs.Prelude.{◌≡◌, ◌+◌, ◌^◌, ◌<◌, None, Some, IsSome, length, IfOk, OnOk, OnErr, option_map};
+ghost use Rattle.std.specs.Prelude.{◌≡◌, ◌+◌, ◌^◌, ◌<◌, None, Some, Ok, IsSome, length, IfOk, OnOk, option_map};
 ghost use Rattle.abi.specs.Limits as limit;
 ghost use Rattle.token.specs.Point as point;
 
@@ -50,7 +50,7 @@ impl RunInTurn {
     ghost use Rattle.call_table.specs.Shared.{state_of};
     ghost use Rattle.call_table.specs.State.{row_of};
     ghost use Rattle.token.specs.Due.{thread_due};
-    ghost use Rattle.token.specs.RunInTurn.{point_of, HasDue, CanRun, MayTurn};
+    ghost use Rattle.token.specs.RunInTurn.{point_of, HasDue, IsAmid, IsDue, MayTurn, TakesTurn};
 
     /// The same run. The pages of its memories are shared, all else is copied.
     pub(crate) fn try_clone(&self) -> Result<Self, AllocError>
@@ -99,8 +99,7 @@ impl RunInTurn {
 
     /// What who is due has in its base.
     fn base_row(&self, due: Due) -> &Thread
-        requires there { HasDue (point_of self.now) }
-        requires due { due ≡ point.due_at (point_of self.now) }
+        requires { IsDue (point_of self.now) due }
         ensures { result.now ≡ row_of (point.base_at (point_of self.now) due) (thread_due due) }
     {
         match due {
@@ -138,8 +137,7 @@ impl RunInTurn {
 
     /// The segment of who is due, with this quantum.
     fn work(&self, due: Due, quantum: Option<u64>) -> Work
-        requires there { HasDue (point_of self.now) }
-        requires due { due ≡ point.due_at (point_of self.now) }
+        requires { IsDue (point_of self.now) due }
         ensures { result ≡ point.work_from (point_of self.now).setup (point.base_at (point_of self.now) due) (thread_due due) quantum }
     {
         let row = self.base_row(due);
@@ -156,9 +154,7 @@ impl RunInTurn {
         requires ready { MayTurn (point_of self.old) (option_map (λ end. end.now) end) }
         requires phase { (point_of self.old).phase + 1 < 2 ^ 64 }
         requires done { (point_of self.old).done + 1 < 2 ^ 64 }
-        ensures turn { IfOk result (λ turn. turn ≡ (point.step_at (point_of self.old) (option_map (λ end. end.now) end.entry)).turn) }
-        ensures moved { OnOk result (point_of self.new ≡ point.moved (point_of self.old) (point.step_at (point_of self.old) (option_map (λ end. end.now) end.entry))) }
-        ensures kept { OnErr result (point_of self.new ≡ point_of self.old) }
+        ensures { TakesTurn self.old (option_map (λ end. end.now) end.entry) point.moved self.new result }
     {
         self.keep_base()?;
         let turn = match end {
@@ -185,12 +181,8 @@ impl RunInTurn {
     /// The turn of a woken thread.
     #[tactic(auto, unfolding(crate::specs::RunInTurn::point_of, crate::specs::Point::after_step, crate::specs::Point::woken_step, crate::specs::Turns::wake_step))]
     fn wake_turn(&mut self) -> Turn
-        requires due { HasDue (point_of self.old) }
-        requires woken { MayTurn (point_of self.old) None }
-        requires base { IsSome self.old.phase.base }
-        requires done { (point_of self.old).done + 1 < 2 ^ 64 }
-        ensures turn { result ≡ (point.woken_step (point_of self.old) (point.due_at (point_of self.old))).turn }
-        ensures moved { point_of self.new ≡ point.after_step (point_of self.old) (point.woken_step (point_of self.old) (point.due_at (point_of self.old))) }
+        requires { IsAmid self.old None }
+        ensures { TakesTurn self.old None point.after_step self.new (Ok result) }
     {
         let due = self.due();
         let turn = Turn {
@@ -210,13 +202,8 @@ impl RunInTurn {
     /// The turn of a thread whose segment ended.
     #[tactic(auto, unfolding(crate::specs::RunInTurn::point_of, crate::specs::Point::after_step, crate::specs::Point::ran_step))]
     fn run_turn(&mut self, end: &SegmentEnd) -> Result<Turn, AllocError>
-        requires due { HasDue (point_of self.old) }
-        requires ready { CanRun (point_of self.old) end.now }
-        requires base { IsSome self.old.phase.base }
-        requires done { (point_of self.old).done + 1 < 2 ^ 64 }
-        ensures turn { IfOk result (λ turn. turn ≡ (point.ran_step (point_of self.old) (point.due_at (point_of self.old)) end.now).turn) }
-        ensures moved { OnOk result (point_of self.new ≡ point.after_step (point_of self.old) (point.ran_step (point_of self.old) (point.due_at (point_of self.old)) end.now)) }
-        ensures kept { OnErr result (point_of self.new ≡ point_of self.old) }
+        requires { IsAmid self.old (Some end.now) }
+        ensures { TakesTurn self.old (Some end.now) point.after_step self.new result }
     {
         let due = self.due();
         let executed = self.base_row(due).executed + end.count;

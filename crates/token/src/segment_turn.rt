@@ -48,7 +48,8 @@ pub(crate) fn run_on(
 
 /// The stop of a hart by an ecall, where the call came to this.
 fn call_stop(hart: &Hart, reply: Reply) -> TurnStop
-    ensures { result ≡ TurnStop.Call (register hart.now 17) (register hart.now 10 ∷ register hart.now 11 ∷ register hart.now 12 ∷ []) reply }
+    ensures { result
+        ≡ TurnStop.Call (register hart.now 17) (register hart.now 10 ∷ register hart.now 11 ∷ register hart.now 12 ∷ []) reply }
 {
     TurnStop::Call {
         number: hart.reg(17),

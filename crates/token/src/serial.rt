@@ -189,7 +189,8 @@ impl<R: Recorder> Serial<R> {
     pub fn turn(&mut self, end: Option<&SegmentEnd>) -> Result<Turn, TurnFault>
         requires { IsNeeded self.old (option_map (λ end. end.now) end) }
         ensures turn { IfOk result (λ turn. turn ≡ (step_at (point_of self.old) (option_map (λ end. end.now) end.entry)).turn) }
-        ensures moved { OnOk result (point_of self.new ≡ moved (point_of self.old) (step_at (point_of self.old) (option_map (λ end. end.now) end.entry))) }
+        ensures moved { OnOk result
+            (point_of self.new ≡ moved (point_of self.old) (step_at (point_of self.old) (option_map (λ end. end.now) end.entry))) }
         ensures longer { OnOk result (IsLonger (point_of self.old) (point_of self.new)) }
         ensures kept { OnErr result (point_of self.new ≡ point_of self.old) }
         ensures fault { IfErr result (λ fault. fault ≡ WriteFailed → R.writes) }
