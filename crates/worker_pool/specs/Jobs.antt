@@ -6,10 +6,14 @@ use Rattle.segment.specs.Stands.{UnderwayState}
 use Rattle.segment.specs.declared.segment.Segment.{Segment}
 use Rattle.thread_table.specs.declared.thread.Thread.{Thread}
 use Rattle.token.specs.History.{History}
-use Rattle.token.specs.Point.{Point}
+use Rattle.token.specs.Point.{Point, need_at}
+use Rattle.token.specs.RunInTurn.{point_of}
 use Rattle.token.specs.Segments.{segment_in}
-use Rattle.token.specs.Serial.{StandsAfter}
+use Rattle.token.specs.Serial.{IsAskedFor, StandsAfter}
 use Rattle.token.specs.Setup.{Setup}
+use Rattle.token.specs.declared.need.Need.TheVariants as need
+use Rattle.token.specs.declared.need.Work.{Work}
+use Rattle.token.specs.declared.run_in_turn.RunInTurn.{RunInTurn}
 
 -- how many host threads there may be and are, the caller counted
 pub record PoolState : Type 0 where
@@ -30,3 +34,13 @@ pub record IsBegunIn (point : Point) (thread : ℕ) (job : UnderwayState) : Type
   pub segment_is : job.segment ≡ segment_in point.setup point.base_threads thread
   pub memory_is : cells_of job.base ≡ point.base
   pub going : job.done < job.segment.left
+
+-- A run of a setup is asked for its next turn.
+pub record IsAsked (given : Setup) (run : RunInTurn) : Type 0 where
+  pub setup : (point_of run).setup ≡ given
+  pub asked : IsAskedFor run
+
+-- A run of a setup is asked for its next turn, and needs the end of this segment for it.
+pub record NeedsEnd (given : Setup) (serial : RunInTurn) (work : Work) : Type 0 where
+  pub run : IsAsked given serial
+  pub need : need_at (point_of serial) ≡ need.Segment work

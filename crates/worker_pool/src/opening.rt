@@ -4,9 +4,8 @@ ghost use Rattle.claim_table.specs.Logs.{most_seats, times};
 ghost use Rattle.paged_memory.specs.Snapshot.{cells_of};
 ghost use Rattle.phase_workers.specs.Hands.{IsHeld};
 ghost use Rattle.token.specs.RunInTurn.{point_of};
-ghost use Rattle.token.specs.Serial.{IsAskedFor};
 ghost use Rattle.token.specs.Segments as segments;
-ghost use Rattle.worker_pool.specs.Jobs.{IsBegunIn, jobs_in};
+ghost use Rattle.worker_pool.specs.Jobs.{IsAsked, IsBegunIn, jobs_in};
 
 use crate::ends_of_run::EndsOfRun;
 use crate::of_run::OfRun;
@@ -28,7 +27,8 @@ fn jobs_of(
     quantum: Option<u64>,
 ) -> Result<Vec<Segment>, AllocError>
     requires { All (λ thread. thread < length rows.now) threads.now }
-    ensures { IfOk result (λ jobs. jobs.items ≡ map (λ thread. segments.segment_of bound quantum (segments.row_in rows.now thread)) threads.now) }
+    ensures { IfOk result (λ jobs.
+        jobs.items ≡ map (λ thread. segments.segment_of bound quantum (segments.row_in rows.now thread)) threads.now) }
 {
     let mut jobs = Vec::with_capacity(alloc, threads.len())?;
     for thread in threads {
@@ -43,8 +43,7 @@ fn shared_phase<B: OfRun, K: Recorder>(
     serial: &Serial<K>,
     seats: u32,
 ) -> Result<(SharedPhase<EndsOfRun<B>>, Vec<DrawSeat>), AllocError>
-    requires setup { (point_of serial.now).setup ≡ B.setup }
-    requires asked { IsAskedFor serial.now }
+    requires run { IsAsked B.setup serial.now }
     requires seats { (0 < seats) × (seats ≤ most_seats) }
     ensures some { IfOk result (λ made. 0 < vec_len made.1) }
     ensures seats { IfOk result (λ made. All (λ seat. seat.row ≡ made.0.phase.row) made.1.items) }
@@ -132,8 +131,7 @@ pub(crate) fn share_out<B: OfRun + Send + Sync, R: Wait, K: Recorder>(
     thread: u32,
     job: Option<Underway>,
 ) -> Result<bool, AllocError>
-    requires setup { (point_of serial.now).setup ≡ B.setup }
-    requires asked { IsAskedFor serial.now }
+    requires run { IsAsked B.setup serial.now }
     requires most { (0 < most) × (most ≤ most_seats) }
     requires job { IfSome job (IsBegunIn (point_of serial.now) thread) }
 {

@@ -5,7 +5,7 @@ ghost use Rattle.segment.specs.Ends.{IsEndOf};
 ghost use Rattle.token.specs.Point.{need_at};
 ghost use Rattle.token.specs.RunInTurn.{point_of};
 ghost use Rattle.token.specs.Serial.{IsAskedFor};
-ghost use Rattle.worker_pool.specs.Jobs.{IsBegunIn};
+ghost use Rattle.worker_pool.specs.Jobs.{IsAsked, IsBegunIn, NeedsEnd};
 ghost use Rattle.worker_pool.specs.Ends.{IsEndIn};
 
 use crate::ends_of_run::EndsOfRun;
@@ -161,9 +161,7 @@ impl<B: OfRun + Send + Sync> Pool<B> {
         work: &Work,
         gate: &G,
     ) -> Result<Option<SegmentEnd>, AllocError>
-        requires setup { (point_of serial.now).setup ≡ B.setup }
-        requires asked { IsAskedFor serial.now }
-        requires need { need_at (point_of serial.now) ≡ Need.Segment work.now }
+        requires { NeedsEnd B.setup serial.now work.now }
         ensures end { IfOk result (λ end. IfSome end (IsEndOf (point_of serial.now).base work.now.segment)) }
         ensures same { self.new ≡ self.old }
     {
@@ -200,8 +198,7 @@ impl<B: OfRun + Send + Sync> Pool<B> {
         thread: u32,
         job: Option<Underway>,
     ) -> bool
-        requires setup { (point_of serial.now).setup ≡ B.setup }
-        requires asked { IsAskedFor serial.now }
+        requires run { IsAsked B.setup serial.now }
         requires job { IfSome job (IsBegunIn (point_of serial.now) thread) }
         ensures { self.new ≡ self.old }
     {

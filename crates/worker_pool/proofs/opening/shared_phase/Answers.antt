@@ -16,8 +16,8 @@ use Rattle.worker_pool.proofs.opening.shared_phase.Goals as goal
 pub new-requires : goal.new-requires
 new-requires g c =
     let point : Point = point_of c.args.serial.now in
-    let bound = c.bound.ensures ∙ ap (λ (s : Setup). s.bound) c.requires.setup in
-    let quantum = c.quantum.ensures ∙ ap (λ (s : Setup). s.quantum) c.requires.setup in
+    let bound = c.bound.ensures ∙ ap (λ (s : Setup). s.bound) c.requires.run.setup in
+    let quantum = c.quantum.ensures ∙ ap (λ (s : Setup). s.quantum) c.requires.run.setup in
     let given : c.in_ok-phase.phase.jobs ≡ map (λ thread. segment_of c.bound.result c.quantum.result (row_in c.base_threads-2.result.now thread)) c.as_slice-2.result.now =
     c.in_ok-phase.ensures.jobs.0 ∙ c.as_slice-3.ensures.value ∙ c.in_ok-jobs.ensures in
     let jobs : c.in_ok-phase.phase.jobs ≡ jobs_in g.B.OfRun.setup point.base_threads c.in_ok-threads.threads.items =
@@ -25,7 +25,7 @@ new-requires g c =
     record {
       as_many = sym (ap length jobs ∙ length-map c.in_ok-threads.threads.items (segment_in g.B.OfRun.setup point.base_threads));
       facts = λ k name end at is. end_of_job g.B.OfRun.setup _ _ _ _ k name end
-          (jobs_everywhere g.B.OfRun.setup point c.requires.asked.0 _ _ _ _ c.requires.asked.1 c.requires.setup c.phase.ensures (c.in_ok-phase.ensures.jobs.1 ∙ c.base.ensures) jobs) at is;
+          (jobs_everywhere g.B.OfRun.setup point c.requires.run.asked.0 _ _ _ _ c.requires.run.asked.1 c.requires.run.setup c.phase.ensures (c.in_ok-phase.ensures.jobs.1 ∙ c.base.ensures) jobs) at is;
     }
 
 pub returns-clause-some : goal.returns-clause-some
