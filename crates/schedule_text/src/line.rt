@@ -18,7 +18,9 @@ pub(crate) struct FirstLine<'a> {
 
 /// The first line of a text, none where it begins with no event's line.
 pub(crate) fn first_line(text: &[u8]) -> Option<FirstLine<'_>>
-    ensures { MatchOption result ((event : AnEvent) (after : List ℕ) → IsWritable event → text.now ≡ words_of event ++ 10 ∷ after → ⊥) (λ line. IsFirstLine text.now line.event line.rest.now) }
+    ensures { MatchOption result
+        ((event : AnEvent) (after : List ℕ) → IsWritable event → text.now ≡ words_of event ++ 10 ∷ after → ⊥)
+        (λ line. IsFirstLine text.now line.event line.rest.now) }
 {
     let Some(end) = newline(text) else {
         return None;
@@ -58,7 +60,9 @@ pub(crate) fn event_of(line: &[u8]) -> Option<Event>
 
 /// The number of a worker, 0 to 63, in decimal digits without a leading zero; none where it is no such number.
 fn worker_of(digits: &[u8]) -> Option<u32>
-    ensures { MatchOption result ((worker : ℕ) → worker < limit.workers → digits.now ≡ decimal worker → ⊥) (λ worker. (worker < limit.workers) × (digits.now ≡ decimal worker)) }
+    ensures { MatchOption result
+        ((worker : ℕ) → worker < limit.workers → digits.now ≡ decimal worker → ⊥)
+        (λ worker. (worker < limit.workers) × (digits.now ≡ decimal worker)) }
 {
     let worker = match digits {
         [ones @ b'0'..=b'9'] => u32::from(*ones - b'0'),
