@@ -52,7 +52,8 @@ impl<W: Write> TraceRecorder<W> {
     /// recorded. Where that fails nothing is lost: the writer has a prefix of the text, and the rest is kept.
     pub fn finish(&mut self) -> Result<(), TurnFault>
         ensures kept { (turns : List TurnRecord) → Traces W.contents self.old turns → Traces W.contents self.new turns }
-        ensures whole { OnOk result ((turns : List TurnRecord) → Traces W.contents self.old turns → Holds W.contents self.new.writer (text_of turns)) }
+        ensures whole { OnOk result ((turns : List TurnRecord) →
+            Traces W.contents self.old turns → Holds W.contents self.new.writer (text_of turns)) }
     {
         self.make_line()?;
         self.send()?;
@@ -123,7 +124,8 @@ impl<W: Write> Recorder for TraceRecorder<W> {
     /// Writes out what is buffered where that is much. Then fewer than 8,192 bytes are kept.
     fn prepare(&mut self, _patch: Option<&Patch>) -> Result<(), TurnFault>
         ensures ready { OnOk result (self.new.last ≡ None) }
-        ensures kept { (turns : List TurnRecord) (changes : List Change) → Traces W.contents self.old turns → Traces W.contents self.new turns }
+        ensures kept { (turns : List TurnRecord) (changes : List Change) →
+            Traces W.contents self.old turns → Traces W.contents self.new turns }
         ensures fault { IfErr result (λ fault. fault ≡ TurnFault.WriteFailed → Unit {0}) }
         ensures few { OnOk result (length (unwritten self.new) < 8192) }
     {
