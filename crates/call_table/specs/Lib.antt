@@ -1,6 +1,7 @@
 pub mod Called
 pub mod CommitAndWake
 pub mod Effects
+pub mod Output
 pub mod Room
 pub mod Shared
 pub mod State

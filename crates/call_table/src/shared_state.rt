@@ -129,7 +129,8 @@ impl SharedState {
         requires made { thread < length (state_of self.old).threads }
         requires ready { is_ready (row_of (state_of self.old) thread).status ≡ true }
         ensures reply { IfOk result (λ reply. reply ≡ (commit_then_call (state_of self.old) thread patch.now hart executed).reply) }
-        ensures settled { OnOk result (state_of self.new ≡ settled thread (commit_then_call (state_of self.old) thread patch.now hart executed)) }
+        ensures settled { OnOk result
+            (state_of self.new ≡ settled thread (commit_then_call (state_of self.old) thread patch.now hart executed)) }
         ensures kept { OnErr result (state_of self.new ≡ state_of self.old) }
         ensures input { input_of self.new ≡ input_of self.old }
     {

@@ -43,10 +43,8 @@ pub(crate) struct StateInCall {
 }
 
 impl StateInCall {
-    ghost use Rattle.std.specs.Prelude.{◌≡◌, ◌<◌, true, false, IfOk, IsOk, OnOk, OnErr, length};
+    ghost use Rattle.std.specs.Prelude.{◌≡◌, ◌<◌, true, IfOk, IsOk, length};
     ghost use Rattle.ecalls.specs.Request.{call_of};
-    ghost use Rattle.condvar_barrier.specs.Objects.{is_waiting};
-    ghost use Rattle.thread_table.specs.Status.{is_ready};
     ghost use Rattle.thread_table.specs.declared.status.Status.TheVariants.{Woken};
     ghost use Rattle.call_table.specs.Effects.{effect, settled};
     ghost use Rattle.call_table.specs.Called.{called};
@@ -54,7 +52,7 @@ impl StateInCall {
     ghost use Rattle.call_table.specs.Waiting.{are_parked};
     ghost use Rattle.call_table.specs.CommitAndWake.{after_wake};
     ghost use Rattle.call_table.specs.State.{row_of};
-    ghost use Rattle.call_table.specs.StateInCall.{state_in, came_to};
+    ghost use Rattle.call_table.specs.StateInCall.{state_in, came_to, MayTakeTurn, MayComeToWait, CarriesOut, Settles, EndsTurn};
 
     /// The same state. The memory's pages are shared, all else is copied.
     pub(crate) fn try_clone(&self) -> Result<Self, AllocError>
@@ -81,15 +79,9 @@ impl StateInCall {
     /// when memory runs out.
     #[tactic(auto, unfolding(crate::specs::StateInCall::state_in))]
     pub(crate) fn call(&mut self, thread: u32) -> Result<Reply, AllocError>
-        requires made { thread < length self.old.threads }
-        requires ready { is_ready (row_of (state_in self.old) thread).status ≡ true }
-        requires parked { are_parked self.old.threads self.old.objects.waiters ≡ true }
-        ensures reply { IfOk result (λ reply. reply ≡ (called (state_in self.old) thread).reply) }
-        ensures settled { OnOk result (state_in self.new ≡ settled thread (called (state_in self.old) thread)) }
-        ensures kept { OnErr result (state_in self.new ≡ state_in self.old) }
+        requires { MayTakeTurn self.old thread }
+        ensures settles { Settles result self.old thread (called (state_in self.old) thread) self.new }
         ensures succeeds { HasRoom self.old.output (call_of (row_of (state_in self.old) thread).hart) → IsOk result }
-        ensures parked { are_parked self.new.threads self.new.objects.waiters ≡ true }
-        ensures input { self.new.input ≡ self.old.input }
     {
         prove!((thread as usize) < self.threads.len());
         let call = call_of(&self.threads.get(thread).hart);
@@ -103,12 +95,9 @@ impl StateInCall {
     #[tactic(auto, unfolding(crate::specs::StateInCall::state_in, crate::specs::Effects::effect))]
     fn carry_out(&mut self, thread: u32, call: Call) -> Result<Reply, AllocError>
         requires made { thread < length self.old.threads }
-        requires number { thread < limit.threads }
-        requires idle { is_waiting self.old.objects thread ≡ false }
-        ensures done { IfOk result (λ reply. came_to reply self.new ≡ effect (state_in self.old) thread call) }
-        ensures kept { OnErr result (state_in self.new ≡ state_in self.old) }
+        requires waits { MayComeToWait self.old thread }
+        ensures carries { CarriesOut result self.old (effect (state_in self.old) thread call) self.new }
         ensures succeeds { HasRoom self.old.output call → IsOk result }
-        ensures input { self.new.input ≡ self.old.input }
     {
         match call {
             Call::Exit { .. } => Ok(Reply::Ends),
@@ -155,8 +144,7 @@ impl StateInCall {
         requires woken { (row_of (state_in self.old) thread).status ≡ Woken mutex }
         requires parked { are_parked self.old.threads self.old.objects.waiters ≡ true }
         ensures state { state_in self.new ≡ after_wake (state_in self.old) thread mutex }
-        ensures parked { are_parked self.new.threads self.new.objects.waiters ≡ true }
-        ensures input { self.new.input ≡ self.old.input }
+        ensures ends { EndsTurn self.old self.new }
     {
         prove!((thread as usize) < self.threads.len());
         self.objects.take_back(thread, mutex);

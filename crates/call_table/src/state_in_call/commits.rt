@@ -1,16 +1,12 @@
 //! The commit of what a thread changed, alone and with its call.
 #![tactic(auto, unfolding(crate::specs::StateInCall::state_in))]
 
-ghost use Rattle.std.specs.Prelude.{◌≡◌, ◌<◌, true, false, IfOk, OnOk, OnErr, length, slice_set};
+ghost use Rattle.std.specs.Prelude.{◌≡◌, false, OnOk, OnErr, slice_set};
 ghost use Rattle.call_table.specs.Called.{commit_then_call};
 ghost use Rattle.call_table.specs.CommitAndWake.{committed_bytes};
-ghost use Rattle.call_table.specs.Effects.{settled};
-ghost use Rattle.call_table.specs.State.{row_of};
 ghost use Rattle.call_table.specs.Room.{changes_memory, HasRoom};
-ghost use Rattle.call_table.specs.StateInCall.{state_in};
-ghost use Rattle.call_table.specs.Waiting.{are_parked};
+ghost use Rattle.call_table.specs.StateInCall.{state_in, MayTakeTurn, Settles, EndsTurn};
 ghost use Rattle.paged_memory.specs.Snapshot.{cells_of};
-ghost use Rattle.thread_table.specs.Status.{is_ready};
 
 use crate::state_in_call::StateInCall;
 use abi::limits::TRANSFER;
@@ -33,13 +29,10 @@ impl StateInCall {
         hart: Hart,
         executed: u64,
     ) -> Result<(), AllocError>
-        requires made { thread < length self.old.threads }
-        requires ready { is_ready (row_of (state_in self.old) thread).status ≡ true }
-        requires parked { are_parked self.old.threads self.old.objects.waiters ≡ true }
+        requires { MayTakeTurn self.old thread }
         ensures committed { OnOk result (state_in self.new ≡ committed_bytes (state_in self.old) thread patch.now hart executed) }
         ensures kept { OnErr result (state_in self.new ≡ state_in self.old) }
-        ensures parked { are_parked self.new.threads self.new.objects.waiters ≡ true }
-        ensures input { self.new.input ≡ self.old.input }
+        ensures ends { EndsTurn self.old self.new }
         ensures output { self.new.output ≡ self.old.output }
     {
         apply(&mut self.memory, patch)?;
@@ -57,12 +50,10 @@ impl StateInCall {
 
     /// Sets the shared memory, and the row of a ready thread. It takes back a commit.
     fn restore(&mut self, memory: Snapshot, thread: u32, row: Thread)
-        requires made { thread < length self.old.threads }
-        requires ready { is_ready (row_of (state_in self.old) thread).status ≡ true }
-        requires parked { are_parked self.old.threads self.old.objects.waiters ≡ true }
-        ensures restored { state_in self.new ≡ record (state_in self.old) { memory = cells_of memory; threads = slice_set self.old.threads thread row } }
-        ensures parked { are_parked self.new.threads self.new.objects.waiters ≡ true }
-        ensures input { self.new.input ≡ self.old.input }
+        requires { MayTakeTurn self.old thread }
+        ensures restored { state_in self.new
+            ≡ record (state_in self.old) { memory = cells_of memory; threads = slice_set self.old.threads thread row } }
+        ensures ends { EndsTurn self.old self.new }
     {
         self.memory = memory;
         self.threads.set(thread, row);
@@ -77,14 +68,8 @@ impl StateInCall {
         hart: Hart,
         executed: u64,
     ) -> Result<Reply, AllocError>
-        requires made { thread < length self.old.threads }
-        requires ready { is_ready (row_of (state_in self.old) thread).status ≡ true }
-        requires parked { are_parked self.old.threads self.old.objects.waiters ≡ true }
-        ensures reply { IfOk result (λ reply. reply ≡ (commit_then_call (state_in self.old) thread patch.now hart executed).reply) }
-        ensures settled { OnOk result (state_in self.new ≡ settled thread (commit_then_call (state_in self.old) thread patch.now hart executed)) }
-        ensures kept { OnErr result (state_in self.new ≡ state_in self.old) }
-        ensures parked { are_parked self.new.threads self.new.objects.waiters ≡ true }
-        ensures input { self.new.input ≡ self.old.input }
+        requires { MayTakeTurn self.old thread }
+        ensures { Settles result self.old thread (commit_then_call (state_in self.old) thread patch.now hart executed) self.new }
     {
         let call = call_of(&hart);
         if changes_memory(call) {
@@ -120,14 +105,8 @@ impl StateInCall {
         hart: Hart,
         executed: u64,
     ) -> Result<Reply, AllocError>
-        requires made { thread < length self.old.threads }
-        requires ready { is_ready (row_of (state_in self.old) thread).status ≡ true }
-        requires parked { are_parked self.old.threads self.old.objects.waiters ≡ true }
-        ensures reply { IfOk result (λ reply. reply ≡ (commit_then_call (state_in self.old) thread patch.now hart executed).reply) }
-        ensures settled { OnOk result (state_in self.new ≡ settled thread (commit_then_call (state_in self.old) thread patch.now hart executed)) }
-        ensures kept { OnErr result (state_in self.new ≡ state_in self.old) }
-        ensures parked { are_parked self.new.threads self.new.objects.waiters ≡ true }
-        ensures input { self.new.input ≡ self.old.input }
+        requires { MayTakeTurn self.old thread }
+        ensures { Settles result self.old thread (commit_then_call (state_in self.old) thread patch.now hart executed) self.new }
     {
         let memory = self.memory.try_clone()?;
         let row = *self.threads.get(thread);

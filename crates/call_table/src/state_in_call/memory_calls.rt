@@ -1,12 +1,12 @@
 //! The calls that map and unmap pages of the heap.
 #![tactic(auto, unfolding(crate::specs::StateInCall::state_in))]
 
-ghost use Rattle.std.specs.Prelude.{◌≡◌, ◌+◌, ◌*◌, ◌^◌, ◌≤◌, IfOk, OnErr};
+ghost use Rattle.std.specs.Prelude.{◌≡◌, ◌+◌, ◌*◌, ◌^◌, ◌≤◌};
 ghost use Rattle.abi.specs.Limits as limit;
 ghost use Rattle.paged_memory.specs.Snapshot.{cells_of};
 ghost use Rattle.call_table.specs.State.{heap_top};
 ghost use Rattle.call_table.specs.Effects as effects;
-ghost use Rattle.call_table.specs.StateInCall.{state_in, came_to};
+ghost use Rattle.call_table.specs.StateInCall.{state_in, CarriesOut};
 
 use crate::state_in_call::StateInCall;
 use crate::state_in_call::replies::{answered, answered_with};
@@ -19,9 +19,7 @@ use std::alloc::AllocError;
 impl StateInCall {
     #[tactic(auto, unfolding(crate::specs::StateInCall::state_in, crate::specs::Effects::new_pages))]
     pub(super) fn new_pages(&mut self, count: u32) -> Result<Reply, AllocError>
-        ensures done { IfOk result (λ reply. came_to reply self.new ≡ effects.new_pages (state_in self.old) count) }
-        ensures kept { OnErr result (state_in self.new ≡ state_in self.old) }
-        ensures input { self.new.input ≡ self.old.input }
+        ensures { CarriesOut result self.old (effects.new_pages (state_in self.old) count) self.new }
     {
         if !is_page_count(count) {
             return Ok(answered(Code::BadArgument));
@@ -38,9 +36,7 @@ impl StateInCall {
 
     #[tactic(auto, unfolding(crate::specs::StateInCall::state_in, crate::specs::Effects::release))]
     pub(super) fn release(&mut self, address: u32, count: u32) -> Result<Reply, AllocError>
-        ensures done { IfOk result (λ reply. came_to reply self.new ≡ effects.release (state_in self.old) address count) }
-        ensures kept { OnErr result (state_in self.new ≡ state_in self.old) }
-        ensures input { self.new.input ≡ self.old.input }
+        ensures { CarriesOut result self.old (effects.release (state_in self.old) address count) self.new }
     {
         if !is_page_count(count) || address % PAGE_SIZE != 0 {
             return Ok(answered(Code::BadArgument));

@@ -1,9 +1,9 @@
 //! The calls that make threads, wait for their end, and end them.
 #![tactic(auto, unfolding(crate::specs::StateInCall::state_in))]
 
-ghost use Rattle.std.specs.Prelude.{◌≡◌, ◌<◌, length};
+ghost use Rattle.std.specs.Prelude.{◌<◌, length};
 ghost use Rattle.call_table.specs.Effects as effects;
-ghost use Rattle.call_table.specs.StateInCall.{state_in, came_to};
+ghost use Rattle.call_table.specs.StateInCall.{state_in, ComesTo};
 
 use crate::state_in_call::StateInCall;
 use crate::state_in_call::replies::{answered, answered_with};
@@ -15,8 +15,7 @@ impl StateInCall {
     #[tactic(auto, unfolding(crate::specs::StateInCall::state_in, crate::specs::Effects::thread_exit))]
     pub(super) fn thread_exit(&mut self, thread: u32, value: u32) -> Reply
         requires { thread < length self.old.threads }
-        ensures done { came_to result self.new ≡ effects.thread_exit (state_in self.old) thread value }
-        ensures input { self.new.input ≡ self.old.input }
+        ensures { ComesTo result self.old (effects.thread_exit (state_in self.old) thread value) self.new }
     {
         self.objects.release_all(thread);
         let joiners = self.threads.end(thread, value);
@@ -26,8 +25,7 @@ impl StateInCall {
 
     #[tactic(auto, unfolding(crate::specs::StateInCall::state_in, crate::specs::Effects::create))]
     pub(super) fn create(&mut self, entry: u32, argument: u32, stack_pointer: u32) -> Reply
-        ensures done { came_to result self.new ≡ effects.create (state_in self.old) entry argument stack_pointer }
-        ensures input { self.new.input ≡ self.old.input }
+        ensures { ComesTo result self.old (effects.create (state_in self.old) entry argument stack_pointer) self.new }
     {
         if entry % 4 != 0 {
             return answered(Code::BadArgument);
@@ -45,8 +43,7 @@ impl StateInCall {
     #[tactic(auto, unfolding(crate::specs::StateInCall::state_in, crate::specs::Effects::join))]
     pub(super) fn join(&mut self, thread: u32, n: u32) -> Reply
         requires { thread < length self.old.threads }
-        ensures done { came_to result self.new ≡ effects.join (state_in self.old) thread n }
-        ensures input { self.new.input ≡ self.old.input }
+        ensures { ComesTo result self.old (effects.join (state_in self.old) thread n) self.new }
     {
         let holds_lock = self.objects.holds(thread);
         self.threads.join(thread, n, holds_lock)

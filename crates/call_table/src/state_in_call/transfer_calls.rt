@@ -1,7 +1,7 @@
 //! The calls that append to the output and take from the input.
 #![tactic(auto, unfolding(crate::specs::StateInCall::state_in))]
 
-ghost use Rattle.std.specs.Prelude.{◌≡◌, ◌+◌, ◌-◌, ◌%◌, ◌++◌, ◌^◌, ◌<◌, ◌≤◌, ℕ, Bool, IfOk, IsOk, OnOk, OnErr, if◌then◌else◌, length, min, slice_index, vec_capacity};
+ghost use Rattle.std.specs.Prelude.{◌≡◌, ◌+◌, ◌-◌, ◌%◌, ◌^◌, ◌<◌, ◌≤◌, ℕ, Bool, IsOk, OnOk, if◌then◌else◌, length, min, slice_index, vec_capacity};
 ghost use Rattle.std.specs.Fn.{FnReturnsAt};
 ghost use Rattle.abi.specs.Limits as limit;
 ghost use Rattle.guest_memory.specs.Layout as layout;
@@ -9,7 +9,8 @@ ghost use Rattle.guest_memory.specs.declared.perm.Perm.{Perm as Permission};
 ghost use Rattle.paged_memory.specs.Mapping.{is_among, with_bytes};
 ghost use Rattle.paged_memory.specs.Snapshot.{cells_of};
 ghost use Rattle.call_table.specs.Effects as effects;
-ghost use Rattle.call_table.specs.StateInCall.{state_in, came_to};
+ghost use Rattle.call_table.specs.Output.{Appends};
+ghost use Rattle.call_table.specs.StateInCall.{state_in, CarriesOut};
 
 use crate::state_in_call::StateInCall;
 use crate::state_in_call::replies::{answered, answered_with};
@@ -23,10 +24,8 @@ use std::sync::Arc;
 impl StateInCall {
     #[tactic(auto, using(crate::proofs::Ranges::lengths), unfolding(crate::specs::StateInCall::state_in, crate::specs::Effects::write))]
     pub(super) fn write(&mut self, address: u32, count: u32) -> Result<Reply, AllocError>
-        ensures done { IfOk result (λ reply. came_to reply self.new ≡ effects.write (state_in self.old) address count) }
-        ensures kept { OnErr result (state_in self.new ≡ state_in self.old) }
+        ensures carries { CarriesOut result self.old (effects.write (state_in self.old) address count) self.new }
         ensures succeeds { length self.old.output.items + min count limit.transfer ≤ vec_capacity self.old.output → IsOk result }
-        ensures input { self.new.input ≡ self.old.input }
     {
         if count > TRANSFER {
             return Ok(answered(Code::BadArgument));
@@ -43,9 +42,7 @@ impl StateInCall {
 
     #[tactic(auto, unfolding(crate::specs::StateInCall::state_in, crate::specs::Effects::read))]
     pub(super) fn read(&mut self, address: u32, count: u32) -> Result<Reply, AllocError>
-        ensures done { IfOk result (λ reply. came_to reply self.new ≡ effects.read (state_in self.old) address count) }
-        ensures kept { OnErr result (state_in self.new ≡ state_in self.old) }
-        ensures input { self.new.input ≡ self.old.input }
+        ensures { CarriesOut result self.old (effects.read (state_in self.old) address count) self.new }
     {
         if count > TRANSFER {
             return Ok(answered(Code::BadArgument));
@@ -114,10 +111,8 @@ fn append(
     count: u32,
 ) -> Result<(), AllocError>
     requires { address + count ≤ 2 ^ 32 }
-    ensures done { OnOk result (output.new.items ≡ output.old.items ++ effects.bytes_of (cells_of memory.now) address count) }
-    ensures kept { OnErr result (output.new.items ≡ output.old.items) }
+    ensures appends { Appends result output.old (cells_of memory.now) address count output.new }
     ensures room { length output.new.items ≤ length output.old.items + count }
-    ensures succeeds { length output.old.items + count ≤ vec_capacity output.old → IsOk result }
 {
     let before = output.len();
     let mut done = 0;
@@ -140,10 +135,8 @@ fn append_run(
     count: u32,
 ) -> Result<(), AllocError>
     requires { address % layout.page_size + count ≤ layout.page_size }
-    ensures done { OnOk result (output.new.items ≡ output.old.items ++ effects.bytes_of (cells_of memory.now) address count) }
-    ensures kept { OnErr result (output.new.items ≡ output.old.items) }
+    ensures appends { Appends result output.old (cells_of memory.now) address count output.new }
     ensures capacity { vec_capacity output.old ≤ vec_capacity output.new }
-    ensures succeeds { length output.old.items + count ≤ vec_capacity output.old → IsOk result }
 {
     let start = (address % PAGE_SIZE) as usize;
     match memory.page(address / PAGE_SIZE) {
@@ -188,7 +181,8 @@ fn fill_run(memory: &mut Snapshot, address: u32, bytes: &[u8]) -> Result<(), All
 /// Replaces the bytes of a page from a place on.
 fn overwrite(page: &mut [u8; PAGE_SIZE as usize], start: usize, bytes: &[u8])
     requires { start + length bytes.now ≤ layout.page_size }
-    ensures { (i : ℕ) → i < layout.page_size → slice_index page.new i ≡ (if is_among start (length bytes.now) i then slice_index bytes.now (i - start) else slice_index page.old i) }
+    ensures { (i : ℕ) → i < layout.page_size → slice_index page.new i
+        ≡ (if is_among start (length bytes.now) i then slice_index bytes.now (i - start) else slice_index page.old i) }
 {
     page[start..start + bytes.len()].copy_from_slice(bytes);
 }

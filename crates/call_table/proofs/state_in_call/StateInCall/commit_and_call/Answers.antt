@@ -1,4 +1,4 @@
-use Rattle.std.proofs.Common.{◌≡◌, ℕ, Option, Result, Ok, Err, IfOk, ap, sym, ◌∙◌, subst}
+use Rattle.std.proofs.Common.{◌≡◌, ℕ, Result, Ok, Err, IfOk, ap, sym, ◌∙◌, subst}
 use Rattle.std.specs.Prelude.{IsOk, OnOk, OnErr, Vec}
 use Rattle.std.specs.declared.alloc.Global.{Global}
 use Rattle.abi.specs.declared.call.Call.{Call}
@@ -30,39 +30,30 @@ never_err : {A E : Type 0} (result : Result A E) (P : Type 0) → IsOk result �
 never_err (Ok value) P succeeds = tt
 never_err (Err error) P succeeds = absurd (cc)
 
-pub call-requires-clause-made : goal.call-requires-clause-made
+pub call-requires : goal.call-requires
 unfolding state_in
-call-requires-clause-made c =
-    there_after (state_in c.commit.new.self) (state_in c.args.self.now) c.args.thread _ _ _ c.requires.made
-    (after_room _ _ _ _ _ _ _ c.in_ok-commit.ensures.committed c.in_ok-make_room.ensures.state)
+call-requires c =
+    let after = after_room _ _ _ c.args.thread _ _ _ c.in_ok-commit.ensures.committed c.in_ok-make_room.ensures.state in
+    record {
+      made = there_after (state_in c.commit.new.self) (state_in c.args.self.now) c.args.thread _ _ _ c.requires.made after;
+      ready = ready_after (state_in c.commit.new.self) (state_in c.args.self.now) c.args.thread _ _ _ c.requires.made c.requires.ready after;
+      parked = c.in_ok-commit.ensures.ends.parked;
+    }
 
-pub call-requires-clause-ready : goal.call-requires-clause-ready
+pub returns : goal.returns
 unfolding state_in
-call-requires-clause-ready c =
-    ready_after (state_in c.commit.new.self) (state_in c.args.self.now) c.args.thread _ _ _ c.requires.made c.requires.ready
-    (after_room _ _ _ _ _ _ _ c.in_ok-commit.ensures.committed c.in_ok-make_room.ensures.state)
-
-pub returns-clause-reply : goal.returns-clause-reply
-unfolding state_in
-returns-clause-reply c =
-    let made = committed_effect (state_in c.commit.new.self) (state_in c.args.self.now) c.args.thread _ _ _ c.requires.made
-    (after_room _ _ _ _ _ _ _ c.in_ok-commit.ensures.committed c.in_ok-make_room.ensures.state) in
-    if_ok c.call.result (λ reply is. is ∙ ap (λ (outcome : Effect). outcome.reply) made) c.call.ensures.reply
-
-pub returns-clause-settled : goal.returns-clause-settled
-unfolding state_in
-returns-clause-settled c =
-    let made = committed_effect (state_in c.commit.new.self) (state_in c.args.self.now) c.args.thread _ _ _ c.requires.made
-    (after_room _ _ _ _ _ _ _ c.in_ok-commit.ensures.committed c.in_ok-make_room.ensures.state) in
-    on_ok c.call.result (λ is. is ∙ ap (settled c.args.thread) made) c.call.ensures.settled
-
-pub returns-clause-kept : goal.returns-clause-kept
-unfolding state_in
-returns-clause-kept c =
-    let hart = committed_hart (state_in c.commit.new.self) (state_in c.args.self.now) c.args.thread _ _ _ c.requires.made
-    (after_room _ _ _ _ _ _ _ c.in_ok-commit.ensures.committed c.in_ok-make_room.ensures.state) in
+returns c =
+    let after = after_room _ _ _ c.args.thread _ _ _ c.in_ok-commit.ensures.committed c.in_ok-make_room.ensures.state in
+    let made = committed_effect (state_in c.commit.new.self) (state_in c.args.self.now) c.args.thread _ _ _ c.requires.made after in
+    let hart = committed_hart (state_in c.commit.new.self) (state_in c.args.self.now) c.args.thread _ _ _ c.requires.made after in
     let wanted : Call = call_of (row_of (state_in c.commit.new.self) c.args.thread).hart in
     let same : c.call_of-call.result ≡ wanted = c.call_of-call.ensures ∙ ap call_of (sym hart) in
     let room : HasRoom c.make_room.new.self.output wanted = subst (HasRoom c.make_room.new.self.output) same c.in_ok-make_room.ensures.room in
     let left : HasRoom c.commit.new.self.output wanted = subst (λ (output : Vec ℕ Global). HasRoom output wanted) (sym c.in_ok-commit.ensures.output) room in
-    never_err c.call.result _ (c.call.ensures.succeeds left)
+    let settles = c.call.ensures.settles in
+    record {
+      reply = if_ok c.call.result (λ reply is. is ∙ ap (λ (outcome : Effect). outcome.reply) made) settles.reply;
+      settled = on_ok c.call.result (λ is. is ∙ ap (settled c.args.thread) made) settles.settled;
+      kept = never_err c.call.result _ (c.call.ensures.succeeds left);
+      ends = record { parked = settles.ends.parked; input = settles.ends.input ∙ c.in_ok-commit.ensures.ends.input ∙ c.in_ok-make_room.ensures.input };
+    }

@@ -1,5 +1,6 @@
+use Rattle.std.proofs.Common.{refl}
 use Rattle.call_table.proofs.Calls.{parked-set}
 use Rattle.call_table.proofs.state_in_call.StateInCall.restore.Goals as goal
 
-pub returns-clause-parked : goal.returns-clause-parked
-returns-clause-parked c = parked-set c.args.self.now c.args.thread c.args.row c.set.new.self c.set.ensures c.requires.ready c.requires.parked
+pub returns-clause-ends : goal.returns-clause-ends
+returns-clause-ends c = record { parked = parked-set c.args.self.now c.args.thread c.args.row c.set.new.self c.set.ensures c.requires.ready c.requires.parked; input = refl }

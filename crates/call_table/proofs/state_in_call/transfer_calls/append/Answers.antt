@@ -1,4 +1,4 @@
-use Rattle.std.proofs.Common.{◌+◌, List, ℕ, ◌≤◌, append_assoc, append-nil, arith, length-append}
+use Rattle.std.proofs.Common.{◌+◌, List, ℕ, ◌≤◌, append_assoc, append-nil, arith, rules, length-append}
 use Rattle.std.proofs.lemmas.List.{take-append-le}
 use Rattle.paged_memory.specs.Snapshot.{cells_of}
 use Rattle.call_table.specs.Effects.{bytes_of}
@@ -19,17 +19,17 @@ loop-done-preserved c =
     let within : c.loop-done.done + run ≤ c.args.count = omega (arith, ran.within) in
     record {
       within = within;
-      begins = rw (c.in_default.ensures.done, take-append-le) old.begins;
-      gathered = rw (c.in_default.ensures.done, append_assoc, ← bytes_of-run memory c.args.address c.loop-done.done run c.args.count within) old.gathered;
-      reached = rw c.in_default.ensures.done (omega (arith, length-append output made));
-      done = rw c.in_default.ensures.done (omega (arith, length-append output made, length-bytes_of memory (c.args.address + c.loop-done.done) run));
+      begins = rw (c.in_default.ensures.appends.done, take-append-le) old.begins;
+      gathered = rw (c.in_default.ensures.appends.done, append_assoc, ← bytes_of-run memory c.args.address c.loop-done.done run c.args.count within) old.gathered;
+      reached = rw c.in_default.ensures.appends.done (omega (arith, length-append output made));
+      done = rw c.in_default.ensures.appends.done (omega (arith, length-append output made, length-bytes_of memory (c.args.address + c.loop-done.done) run));
       capacity = omega (arith, c.in_default.ensures.capacity);
     }
 
-pub returns-clause-done : goal.returns-clause-done
-returns-clause-done c =
+pub returns-clause-appends : goal.returns-clause-appends
+returns-clause-appends c =
     let ended = bytes_of-end (cells_of c.args.memory.now) (c.args.address + c.loop-done.done) c.loop-done.done c.args.count c.loop-done-test.false in
-    rw (ended, append-nil) at c.loop-done.invariant.gathered
+    record { done = rw (ended, append-nil) at c.loop-done.invariant.gathered; kept = search rules; succeeds = search rules }
 
 pub returns-clause-room : goal.returns-clause-room
 returns-clause-room c =
