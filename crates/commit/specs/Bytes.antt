@@ -1,4 +1,9 @@
-use Rattle.std.specs.Prelude.{ℕ, ◌+◌, ◌==◌, if◌then◌else◌, List, [], ◌∷◌}
+use Rattle.std.specs.Prelude.{ℕ, ◌+◌, ◌≤◌, ◌==◌, if◌then◌else◌, List, [], ◌∷◌, length}
+
+-- So many bytes from a place on lie within those that were found, and within those that were left.
+pub record LieInBoth (at count : ℕ) (found left : List ℕ) : Type 0 where
+  pub copy : at + count ≤ length found
+  pub mine : at + count ≤ length left
 
 -- at how many places two lists of bytes differ
 unfoldable pub differing_count : List ℕ → List ℕ → ℕ

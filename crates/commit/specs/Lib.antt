@@ -4,4 +4,5 @@ pub mod Changed
 pub mod Groups
 pub mod Merge
 pub mod Mine
+pub mod Pages
 pub mod Patched

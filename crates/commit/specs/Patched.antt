@@ -1,6 +1,7 @@
-use Rattle.std.specs.Prelude.{◌≡◌, ℕ, ◌*◌, ◌%◌, ◌<◌, ◌==◌, if◌then◌else◌, Option, None, List, [], ◌∷◌, length, slice_index, map, filter, is_some}
+use Rattle.std.specs.Prelude.{◌≡◌, ℕ, ◌+◌, ◌*◌, ◌%◌, ◌^◌, ◌<◌, ◌==◌, if◌then◌else◌, Option, None, List, [], ◌∷◌, length, slice_index, map, filter, is_some}
 use Rattle.std.specs.List.Sorted.{IsStrictlyIncreasing}
 use Rattle.guest_memory.specs.Layout.{page_of, page_size}
+use Rattle.paged_memory.specs.Page.{PageValue}
 use Rattle.commit.specs.ByteMap.{all_addresses}
 use Rattle.commit.specs.Bytes.{differing_from}
 use Rattle.commit.specs.Merge.{changed_byte}
@@ -10,6 +11,10 @@ pub record PageChange : Type 0 where
   pub number : ℕ
   pub copy : List ℕ
   pub mine : List ℕ
+
+-- what is kept of a page that was found and left so
+abbrev pub page_change : ℕ → PageValue → PageValue → PageChange
+page_change number found left = record { number = number; copy = found.bytes; mine = left.bytes }
 
 -- the byte that a page's change has at an address of the page
 abbrev pub byte_of_change : PageChange → ℕ → Option ℕ
@@ -35,6 +40,16 @@ numbers_of pages = map (λ change. change.number) pages
 -- all page numbers are below another
 abbrev pub AreBelow : List PageChange → ℕ → Type 0
 AreBelow pages bound = (place : ℕ) → place < length pages → slice_index (numbers_of pages) place < bound
+
+-- A page of this number may come after some pages.
+pub record MayFollow (pages : List PageChange) (next : ℕ) : Type 0 where
+  pub number : next < 2 ^ 20
+  pub below : AreBelow pages next
+
+-- The changes of one more page are added: it has the bytes that a function gives at its addresses, and other pages may follow it.
+pub record Adds (old : List PageChange) (number : ℕ) (byte_at : ℕ → Option ℕ) (new : List PageChange) : Type 0 where
+  pub added : (address : ℕ) → patched new address ≡ (if number == page_of address then byte_at address else patched old address)
+  pub below : AreBelow new (number + 1)
 
 -- What holds of the changed pages of a patch: they ascend, and the count is that of the addresses that they have a byte at.
 pub record AreCounted (pages : List PageChange) (count : ℕ) : Type 0 where

@@ -3,10 +3,10 @@ ghost use Rattle.std.specs.Prelude.{◌≡◌, ◌^◌, ◌<◌, [], ◌∷◌, 
 ghost use Rattle.std.specs.Arc.{arc_value};
 ghost use Rattle.guest_memory.specs.Layout.{page_size};
 ghost use Rattle.paged_memory.specs.Page.{PageValue};
-ghost use Rattle.commit.specs.Bytes.{merged_bytes};
 ghost use Rattle.commit.specs.Groups.{IsComparison};
 ghost use Rattle.commit.specs.Mine.{bytes_left};
-ghost use Rattle.commit.specs.Patched.{PageChange};
+ghost use Rattle.commit.specs.Pages.{merged_page, AreWhole};
+ghost use Rattle.commit.specs.Patched.{PageChange, page_change};
 
 use crate::comparison::Comparison;
 use crate::kernels::{count_page, merge_page, push_differing};
@@ -50,7 +50,7 @@ impl ChangedPage {
     ) -> Result<Self, AllocError>
         requires number { number < 2 ^ 20 }
         requires found { IsComparison (arc_value copy.now).bytes mine.now.bytes found }
-        ensures { IfOk result (λ page. page ≡ record { number = number; copy = (arc_value copy.now).bytes; mine = mine.now.bytes }) }
+        ensures { IfOk result (λ page. page ≡ page_change number (arc_value copy.now) mine.now) }
     {
         let mine = Mine::of(alloc, copy, mine, found)?;
         Ok(ChangedPage {
@@ -98,10 +98,8 @@ impl ChangedPage {
 /// What a thread's page makes of the present page. Where nobody else changed the page, that is the thread's page,
 /// which is shared then.
 fn merged(alloc: Global, now: &Page, copy: &Page, mine: &Arc<Page>) -> Result<Arc<Page>, AllocError>
-    ensures merged { IfOk result (λ page. arc_value page ≡ record { perm = now.now.perm; bytes = merged_bytes now.now.bytes copy.now.bytes (arc_value mine.now).bytes }) }
-    ensures now { length now.now.bytes ≡ page_size }
-    ensures copy { length copy.now.bytes ≡ page_size }
-    ensures mine { length (arc_value mine.now).bytes ≡ page_size }
+    ensures merged { IfOk result (λ page. arc_value page ≡ merged_page now.now copy.now (arc_value mine.now)) }
+    ensures whole { AreWhole now.now copy.now (arc_value mine.now) }
 {
     if count_page(now.bytes(), copy.bytes()) == 0 && now.perm() == mine.perm() {
         return Arc::try_clone(mine);
@@ -112,10 +110,8 @@ fn merged(alloc: Global, now: &Page, copy: &Page, mine: &Arc<Page>) -> Result<Ar
 /// The present page with what a thread's page changes, as a page of its own.
 #[inline(never)]
 fn merged_copy(alloc: Global, now: &Page, copy: &Page, mine: &Page) -> Result<Arc<Page>, AllocError>
-    ensures merged { IfOk result (λ page. arc_value page ≡ record { perm = now.now.perm; bytes = merged_bytes now.now.bytes copy.now.bytes mine.now.bytes }) }
-    ensures now { length now.now.bytes ≡ page_size }
-    ensures copy { length copy.now.bytes ≡ page_size }
-    ensures mine { length mine.now.bytes ≡ page_size }
+    ensures merged { IfOk result (λ page. arc_value page ≡ merged_page now.now copy.now mine.now) }
+    ensures whole { AreWhole now.now copy.now mine.now }
 {
     let mut bytes = *now.bytes();
     merge_page(&mut bytes, copy.bytes(), mine.bytes());

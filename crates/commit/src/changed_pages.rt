@@ -1,10 +1,9 @@
 //! The changed pages of a patch, ascending by number.
-ghost use Rattle.std.specs.Prelude.{◌≡◌, ◌+◌, ◌^◌, ◌<◌, ◌==◌, if◌then◌else◌, ℕ, List, [], length, OnOk};
+ghost use Rattle.std.specs.Prelude.{◌≡◌, List, [], length, OnOk};
 ghost use Rattle.std.specs.Arc.{arc_value};
 ghost use Rattle.std.specs.List.Sorted.{IsStrictlyIncreasing};
-ghost use Rattle.guest_memory.specs.Layout.{page_of};
 ghost use Rattle.paged_memory.specs.Page.{PageValue};
-ghost use Rattle.commit.specs.Patched.{PageChange, byte_of_change, patched, addresses_with, numbers_of, AreBelow, AreCounted};
+ghost use Rattle.commit.specs.Patched.{PageChange, page_change, byte_of_change, patched, addresses_with, numbers_of, MayFollow, Adds, AreCounted};
 
 use crate::changed_page::ChangedPage;
 use crate::kernels::compare_page;
@@ -54,10 +53,9 @@ impl ChangedPages {
         view: &View,
         number: u32,
     ) -> Result<(), AllocError>
-        requires number { number < 2 ^ 20 }
-        requires below { AreBelow self.old number }
-        ensures compared { OnOk result ((address : ℕ) → patched self.new address ≡ (if number == page_of address then change_at (snapshots.cells_of (views.base_of view.now)) (views.cells_of view.now) address else patched self.old address)) }
-        ensures below { OnOk result (AreBelow self.new (number + 1)) }
+        requires { MayFollow self.old number }
+        ensures { OnOk result (Adds self.old number
+            (change_at (snapshots.cells_of (views.base_of view.now)) (views.cells_of view.now)) self.new) }
     {
         let Some(copy) = view.base().page(number) else {
             return Ok(());
@@ -77,10 +75,8 @@ impl ChangedPages {
         copy: &Arc<Page>,
         mine: &Page,
     ) -> Result<(), AllocError>
-        requires number { number < 2 ^ 20 }
-        requires below { AreBelow self.old number }
-        ensures added { OnOk result ((address : ℕ) → patched self.new address ≡ (if number == page_of address then byte_of_change (record { number = number; copy = (arc_value copy.now).bytes; mine = mine.now.bytes }) address else patched self.old address)) }
-        ensures below { OnOk result (AreBelow self.new (number + 1)) }
+        requires { MayFollow self.old number }
+        ensures { OnOk result (Adds self.old number (byte_of_change (page_change number (arc_value copy.now) mine.now)) self.new) }
     {
         let found = compare_page(copy.bytes(), mine.bytes());
         if found.count > 0 {

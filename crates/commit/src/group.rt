@@ -56,7 +56,8 @@ impl Group {
         copy: &[u8; PAGE_BYTES],
     ) -> Result<(), AllocError>
         requires { first + PAGE_BYTES ≤ 2 ^ 32 }
-        ensures { OnOk result (numbers.new.items ≡ numbers.old.items ++ differing_from (first + self.now.at) (chunk self.now.at GROUP copy.now) self.now.bytes) }
+        ensures { OnOk result (numbers.new.items
+            ≡ numbers.old.items ++ differing_from (first + self.now.at) (chunk self.now.at GROUP copy.now) self.now.bytes) }
     {
         let here = &copy[self.at..self.at + GROUP];
         push_differing(numbers, first + self.at as u32, here, &self.bytes)

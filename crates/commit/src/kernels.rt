@@ -4,7 +4,7 @@
 
 ghost use Rattle.std.specs.Prelude.{◌≡◌, ◌+◌, ◌%◌, ◌^◌, ◌≤◌, ◌++◌, OnOk, true, bit_xor, length};
 ghost use Rattle.std.specs.Simd.Lanes.{chunk, put_chunk, zip2};
-ghost use Rattle.commit.specs.Bytes.{differing_count, differing_from, merged_bytes};
+ghost use Rattle.commit.specs.Bytes.{LieInBoth, differing_count, differing_from, merged_bytes};
 ghost use Rattle.commit.specs.Groups.{IsComparison};
 
 use crate::comparison::Comparison;
@@ -97,9 +97,9 @@ fn push_block(
     at: usize,
 ) -> Result<(), AllocError>
     requires first { first + at + LANES ≤ 2 ^ 32 }
-    requires copy { at + LANES ≤ length copy.now }
-    requires mine { at + LANES ≤ length mine.now }
-    ensures { OnOk result (numbers.new.items ≡ numbers.old.items ++ differing_from (first + at) (chunk at LANES copy.now) (chunk at LANES mine.now)) }
+    requires within { LieInBoth at LANES copy.now mine.now }
+    ensures { OnOk result (numbers.new.items
+        ≡ numbers.old.items ++ differing_from (first + at) (chunk at LANES copy.now) (chunk at LANES mine.now)) }
 {
     if count_block(copy, mine, at) == 0 {
         return Ok(());
@@ -115,8 +115,7 @@ fn push_block(
 /// How many bytes of a group differ.
 #[inline(always)]
 pub(crate) fn count_group(copy: &[u8], mine: &[u8], at: usize) -> u32
-    requires copy { at + GROUP ≤ length copy.now }
-    requires mine { at + GROUP ≤ length mine.now }
+    requires { LieInBoth at GROUP copy.now mine.now }
     ensures { result ≡ differing_count (chunk at GROUP copy.now) (chunk at GROUP mine.now) }
 {
     if is_same(copy, mine, at) {
@@ -132,8 +131,7 @@ pub(crate) fn count_group(copy: &[u8], mine: &[u8], at: usize) -> u32
 /// Whether no byte of a group differs.
 #[inline(always)]
 fn is_same(copy: &[u8], mine: &[u8], at: usize) -> bool
-    requires copy { at + GROUP ≤ length copy.now }
-    requires mine { at + GROUP ≤ length mine.now }
+    requires { LieInBoth at GROUP copy.now mine.now }
     ensures { result ≡ true → differing_count (chunk at GROUP copy.now) (chunk at GROUP mine.now) ≡ 0 }
 {
     let first = differences(copy, mine, at) | differences(copy, mine, at + LANES);
@@ -144,8 +142,7 @@ fn is_same(copy: &[u8], mine: &[u8], at: usize) -> bool
 /// The bits that differ in a block.
 #[inline(always)]
 fn differences(copy: &[u8], mine: &[u8], at: usize) -> u8x32
-    requires copy { at + LANES ≤ length copy.now }
-    requires mine { at + LANES ≤ length mine.now }
+    requires { LieInBoth at LANES copy.now mine.now }
     ensures { result ≡ zip2 bit_xor (chunk at LANES copy.now) (chunk at LANES mine.now) }
 {
     u8x32::from_slice(&copy[at..]) ^ u8x32::from_slice(&mine[at..])
@@ -154,8 +151,7 @@ fn differences(copy: &[u8], mine: &[u8], at: usize) -> u8x32
 /// How many bytes of a block differ.
 #[inline(always)]
 fn count_block(copy: &[u8], mine: &[u8], at: usize) -> u32
-    requires copy { at + LANES ≤ length copy.now }
-    requires mine { at + LANES ≤ length mine.now }
+    requires { LieInBoth at LANES copy.now mine.now }
     ensures { result ≡ differing_count (chunk at LANES copy.now) (chunk at LANES mine.now) }
 {
     let copy = u8x32::from_slice(&copy[at..]);
@@ -167,8 +163,7 @@ fn count_block(copy: &[u8], mine: &[u8], at: usize) -> u32
 #[inline(always)]
 fn merge_block(now: &mut [u8], copy: &[u8], mine: &[u8], at: usize)
     requires now { at + LANES ≤ length now.old }
-    requires copy { at + LANES ≤ length copy.now }
-    requires mine { at + LANES ≤ length mine.now }
+    requires within { LieInBoth at LANES copy.now mine.now }
     ensures { now.new ≡ put_chunk at now.old (merged_bytes (chunk at LANES now.old) (chunk at LANES copy.now) (chunk at LANES mine.now)) }
 {
     let old = u8x32::from_slice(&now[at..]);

@@ -8,4 +8,4 @@ pub returns : goal.returns
 returns c =
     ap (put_chunk c.args.at c.args.now.now)
     (block-merged (chunk c.args.at 32 c.args.now.now) (chunk c.args.at 32 c.args.copy.now) (chunk c.args.at 32 c.args.mine.now)
-    (length-chunk c.args.at 32 c.args.now.now c.requires.now) (length-chunk c.args.at 32 c.args.copy.now c.requires.copy) (length-chunk c.args.at 32 c.args.mine.now c.requires.mine))
+    (length-chunk c.args.at 32 c.args.now.now c.requires.now) (length-chunk c.args.at 32 c.args.copy.now c.requires.within.copy) (length-chunk c.args.at 32 c.args.mine.now c.requires.within.mine))

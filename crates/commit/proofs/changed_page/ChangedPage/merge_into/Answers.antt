@@ -33,9 +33,9 @@ returns-in_ok-merged-in-Page-clause-merged c =
     let value : arc_value c.in_ok-merged-in-Page.merged ≡ record { perm = page.perm; bytes = merged_bytes page.bytes change.copy change.mine } =
     rw (c.in_ok-merged-in-Page.ensures.merged, here, there, copy, mine) refl in
     let found : pages change.number ≡ Some page = ap pages (sym number) ∙ sym c.in-Some.ensures in
-    let size : length page.bytes ≡ 4096 = rw (← here) c.in_ok-merged-in-Page.ensures.now in
-    let size' : length change.copy ≡ 4096 = rw (← copy, ← there) c.in_ok-merged-in-Page.ensures.copy in
-    let size'' : length change.mine ≡ 4096 = rw (← mine) c.in_ok-merged-in-Page.ensures.mine in
+    let size : length page.bytes ≡ 4096 = rw (← here) c.in_ok-merged-in-Page.ensures.whole.now in
+    let size' : length change.copy ≡ 4096 = rw (← copy, ← there) c.in_ok-merged-in-Page.ensures.whole.copy in
+    let size'' : length change.mine ≡ 4096 = rw (← mine) c.in_ok-merged-in-Page.ensures.whole.mine in
     on-ok c.replace.result (λ replaced.
     ap memory_of_pages (replaced ∙ ap₂ (λ (n : ℕ) (it : PageValue). with_page n (λ _. Some it) pages) number value)
     ∙ memory-merged pages change page found size size' size'')

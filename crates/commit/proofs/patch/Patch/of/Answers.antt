@@ -18,7 +18,7 @@ loop-number-preserved c =
     let dirty : List ℕ = c.deref-number-items.result.now in
     let ascending : IsStrictlyIncreasing dirty = rw c.deref-number-items.ensures.value c.in_ok-dirty.ensures.ascending in
     Compares-more (snapshots.pages_of (views.base_of c.args.view.now)) (views.pages_of c.args.view.now) dirty c.loop-number.pages c.compare.new.self
-    c.loop-number.number-index c.loop-number.invariant ascending (omega arith) c.in_ok-compare.ensures.compared c.in_ok-compare.ensures.below
+    c.loop-number.number-index c.loop-number.invariant ascending (omega arith) c.in_ok-compare.ensures.added c.in_ok-compare.ensures.below
 
 pub returns : goal.returns
 returns c =
@@ -35,8 +35,11 @@ returns c =
     let place = stands dirty number listed in
     others place.0 place.1 place.2))))
 
-pub compare-requires-clause-number : goal.compare-requires-clause-number
-compare-requires-clause-number c =
+pub compare-requires : goal.compare-requires
+compare-requires c =
     let listed : Contains c.in_ok-dirty.dirty.items (slice_index c.deref-number-items.result.now c.loop-number.number-index) =
     rw (← c.deref-number-items.ensures.value) (Contains-get_or c.deref-number-items.result.now c.loop-number.number-index 0 (omega arith)) in
-    dirty-below c.args.view.now (slice_index c.deref-number-items.result.now c.loop-number.number-index) c.args.view.now.twins ((c.in_ok-dirty.ensures.exact _).0 listed)
+    record {
+      number = dirty-below c.args.view.now (slice_index c.deref-number-items.result.now c.loop-number.number-index) c.args.view.now.twins ((c.in_ok-dirty.ensures.exact _).0 listed);
+      below = c.loop-number.invariant.below c.loop-number.number-index (omega arith) (omega arith);
+    }
