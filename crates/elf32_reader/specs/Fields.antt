@@ -1,4 +1,4 @@
-use Rattle.std.specs.Prelude.{ℕ, ◌+◌, ◌*◌, ◌<◌, ◌≤◌, List, drop, length}
+use Rattle.std.specs.Prelude.{◌≡◌, ℕ, ◌+◌, ◌*◌, ◌<◌, ◌≤◌, List, drop, length}
 use Rattle.byteorder.specs.Endian.{little_number}
 use Rattle.elf32_reader.specs.declared.file_header.FileHeader.{FileHeader}
 use Rattle.elf32_reader.specs.declared.program_header.ProgramHeader.{ProgramHeader}
@@ -48,3 +48,8 @@ abbrev pub HasTable : List ℕ → Type 0
 HasTable file =
     let header = file_header file in
     (row : ℕ) → row < header.e_phnum → header.e_phoff + program_header_size * row + program_header_size ≤ length file
+
+-- It is the file's header, and the file has each program header that it tells of.
+pub record HasHeader (file : List ℕ) (read : FileHeader) : Type 0 where
+  pub header : read ≡ file_header file
+  pub inside : HasTable file

@@ -1,7 +1,7 @@
 //! The ELF header (System V ABI, ELF-32): its fields, and what it must have.
 ghost use Rattle.std.specs.Prelude.{◌≡◌, ◌≤◌, ◌+◌, ◌*◌, ◌<◌, length, OnOk, IfOk};
 ghost use Rattle.elf32_reader.specs.Format.{header_size, program_header_size, segment_limit};
-ghost use Rattle.elf32_reader.specs.Fields.{file_header, program_header, HasTable};
+ghost use Rattle.elf32_reader.specs.Fields.{file_header, program_header, HasTable, HasHeader};
 ghost use Rattle.elf32_reader.specs.Refusals.{Tests, size_refusals, ident_refusals, header_refusals, file_refusals};
 
 use crate::fault::ElfFault;
@@ -138,9 +138,8 @@ impl FileHeader {
     #[tactic(auto, using(crate::proofs::Rows::testing), unfolding(crate::specs::Refusals::file_refusals))]
     pub(crate) fn read(file: &[u8]) -> Result<FileHeader, ElfFault>
         ensures tests { Tests result (file_refusals file.now) }
-        ensures header { IfOk result (λ header. header ≡ file_header file.now) }
+        ensures header { IfOk result (λ header. HasHeader file.now header) }
         ensures few { OnOk result ((file_header file.now).e_phnum ≤ segment_limit) }
-        ensures inside { OnOk result (HasTable file.now) }
     {
         test_size(file)?;
         let header = FileHeader::of(file);
@@ -151,9 +150,8 @@ impl FileHeader {
 
     /// The program header with a number, from 0.
     pub(crate) fn program_header(&self, file: &[u8], row: usize) -> ProgramHeader
-        requires header { self.now ≡ file_header file.now }
+        requires file { HasHeader file.now self.now }
         requires row { row < self.now.e_phnum }
-        requires inside { HasTable file.now }
         ensures { result ≡ program_header file.now row }
     {
         ProgramHeader::at(file, self.e_phoff as usize + PROGRAM_HEADER_SIZE * row)

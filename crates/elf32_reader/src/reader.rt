@@ -1,7 +1,7 @@
 //! Reads a file: tests every header first, then copies the bytes of the segments.
 ghost use Rattle.std.specs.Prelude.{◌≡◌, ◌≢◌, ◌≤◌, Some, None, IfOk, IfErr};
 ghost use Rattle.elf32_reader.specs.Format.{segment_limit};
-ghost use Rattle.elf32_reader.specs.Fields.{file_header, HasTable};
+ghost use Rattle.elf32_reader.specs.Fields.{file_header, HasHeader};
 ghost use Rattle.elf32_reader.specs.Segments.{segments_of, image_of};
 ghost use Rattle.elf32_reader.specs.Summaries.{summary_of};
 ghost use Rattle.elf32_reader.specs.Refusals.{first_applying, first_refusal, table_refusals, IsFaultOf, Tests};
@@ -35,9 +35,8 @@ pub fn read(alloc: Global, file: &[u8]) -> Result<Image, ElfFault>
 
 /// Tests each program header, and gives the summary of the segments.
 fn survey(file: &[u8], header: &FileHeader) -> Result<Summary, ElfFault>
-    requires header { header.now ≡ file_header file.now }
+    requires file { HasHeader file.now header.now }
     requires few { header.now.e_phnum ≤ segment_limit }
-    requires inside { HasTable file.now }
     ensures tests { Tests result (table_refusals file.now (file_header file.now).e_phnum) }
     ensures summary { IfOk result (λ summary. summary ≡ summary_of (file_header file.now).e_entry (segments_of file.now)) }
 {
@@ -54,8 +53,7 @@ fn survey(file: &[u8], header: &FileHeader) -> Result<Summary, ElfFault>
 
 /// The segments of a file whose program headers aren't refused.
 fn load(alloc: Global, file: &[u8], header: &FileHeader) -> Result<Vec<Segment>, AllocError>
-    requires header { header.now ≡ file_header file.now }
-    requires inside { HasTable file.now }
+    requires file { HasHeader file.now header.now }
     requires tested { first_applying (table_refusals file.now (file_header file.now).e_phnum) ≡ None }
     ensures { IfOk result (λ segments. segments.items ≡ segments_of file.now) }
 {

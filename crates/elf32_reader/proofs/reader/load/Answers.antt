@@ -14,14 +14,14 @@ loop-row-init c = c.new-segments.ensures.items
 
 pub load-requires-clause-inside : goal.load-requires-clause-inside
 load-requires-clause-inside c =
-    let below : c.loop-row.row < (file_header c.args.file.now).e_phnum = omega (arith, ap (λ (h : FileHeader). h.e_phnum) c.requires.header) in
+    let below : c.loop-row.row < (file_header c.args.file.now).e_phnum = omega (arith, ap (λ (h : FileHeader). h.e_phnum) c.requires.file.header) in
     let row = none_of_row c.args.file.now c.loop-row.row _ below c.requires.tested in
     let describes : is_segment (program_header c.args.file.now c.loop-row.row) ≡ true = rw (← c.program_header-program_header.ensures) (sym c.if-is_segment.ensures) in
     rw c.program_header-program_header.ensures (row_accepted c.args.file.now c.loop-row.row describes row).within
 
 pub load-requires-clause-loadable : goal.load-requires-clause-loadable
 load-requires-clause-loadable c =
-    let below : c.loop-row.row < (file_header c.args.file.now).e_phnum = omega (arith, ap (λ (h : FileHeader). h.e_phnum) c.requires.header) in
+    let below : c.loop-row.row < (file_header c.args.file.now).e_phnum = omega (arith, ap (λ (h : FileHeader). h.e_phnum) c.requires.file.header) in
     let row = none_of_row c.args.file.now c.loop-row.row _ below c.requires.tested in
     let describes : is_segment (program_header c.args.file.now c.loop-row.row) ≡ true = rw (← c.program_header-program_header.ensures) (sym c.if-is_segment.ensures) in
     rw c.program_header-program_header.ensures (row_accepted c.args.file.now c.loop-row.row describes row).loadable

@@ -20,26 +20,26 @@ returns-in_err-summary-clause-refused c =
 pub returns-in_err-test-clause-refused : goal.returns-in_err-test-clause-refused
 returns-in_err-test-clause-refused c =
     let refused = err_from_is_err_and c.from_residual-in_err-test.result c.from_residual-in_err-test.ensures.1 in
-    let entry = ap (λ (h : FileHeader). h.e_entry) c.in_ok-header.ensures.header in
+    let entry = ap (λ (h : FileHeader). h.e_entry) c.in_ok-header.ensures.header.header in
     let image = c.in_err-test.ensures (image_of c.args.file.now) entry c.in_ok-summary.ensures.summary in
     rw (refused.1, refused.2) (inl (refusal_of_image c.args.file.now _ c.in_ok-header.ensures.tests c.in_ok-summary.ensures.tests image))
 
 pub new-requires : goal.new-requires
 new-requires c =
-    let entry = ap (λ (h : FileHeader). h.e_entry) c.in_ok-header.ensures.header in
+    let entry = ap (λ (h : FileHeader). h.e_entry) c.in_ok-header.ensures.header.header in
     let image = c.in_ok-test.ensures (image_of c.args.file.now) entry c.in_ok-summary.ensures.summary in
-    let same = image_of-parts c.args.file.now c.in_ok-header.header c.in-Ok.segments.items c.in_ok-header.ensures.header c.in-Ok.ensures in
+    let same = image_of-parts c.args.file.now c.in_ok-header.header c.in-Ok.segments.items c.in_ok-header.ensures.header.header c.in-Ok.ensures in
     subst IsSound (sym same) (image_sound c.args.file.now c.in_ok-summary.ensures.tests image)
 
 pub returns-in-Ok-clause-ok : goal.returns-in-Ok-clause-ok
 returns-in-Ok-clause-ok c =
-    let entry = ap (λ (h : FileHeader). h.e_entry) c.in_ok-header.ensures.header in
+    let entry = ap (λ (h : FileHeader). h.e_entry) c.in_ok-header.ensures.header.header in
     let image = c.in_ok-test.ensures (image_of c.args.file.now) entry c.in_ok-summary.ensures.summary in
-    let same = image_of-parts c.args.file.now c.in_ok-header.header c.in-Ok.segments.items c.in_ok-header.ensures.header c.in-Ok.ensures in
+    let same = image_of-parts c.args.file.now c.in_ok-header.header c.in-Ok.segments.items c.in_ok-header.ensures.header.header c.in-Ok.ensures in
     (refusal_of_image c.args.file.now None c.in_ok-header.ensures.tests c.in_ok-summary.ensures.tests image, c.new.ensures ∙ same)
 
 pub returns-in-Err-clause-refused : goal.returns-in-Err-clause-refused
 returns-in-Err-clause-refused c =
-    let entry = ap (λ (h : FileHeader). h.e_entry) c.in_ok-header.ensures.header in
+    let entry = ap (λ (h : FileHeader). h.e_entry) c.in_ok-header.ensures.header.header in
     let image = c.in_ok-test.ensures (image_of c.args.file.now) entry c.in_ok-summary.ensures.summary in
     inr (refusal_of_image c.args.file.now None c.in_ok-header.ensures.tests c.in_ok-summary.ensures.tests image, refl)

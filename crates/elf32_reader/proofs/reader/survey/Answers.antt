@@ -23,7 +23,7 @@ pub returns-in_err-test-clause-tests : goal.returns-in_err-test-clause-tests
 returns-in_err-test-clause-tests c =
     let refused = err_from_is_err_and c.from_residual.result c.from_residual.ensures.1 in
     let row = row_verdict c.args.file.now c.loop-row.row _ c.loop-row.summary _ _ c.loop-row.invariant.summary c.program_header-program_header.ensures c.in_err-test.ensures in
-    let below : c.loop-row.row < (file_header c.args.file.now).e_phnum = omega (arith, ap (λ (h : FileHeader). h.e_phnum) c.requires.header) in
+    let below : c.loop-row.row < (file_header c.args.file.now).e_phnum = omega (arith, ap (λ (h : FileHeader). h.e_phnum) c.requires.file.header) in
     rw (refused.1, refused.2) (table_stops c.args.file.now c.loop-row.row _ _ below c.loop-row.invariant.tested row)
 
 pub with-summary-requires-clause-below : goal.with-summary-requires-clause-below
@@ -40,7 +40,7 @@ loop-row-preserved c =
           let loadable = (accepted c.args.file.now c.loop-row.summary.last_page c.program_header-program_header.result describes c.in_ok-test.ensures).loadable in
           let small = page_count_small (segment_of c.args.file.now c.program_header-program_header.result) loadable in
           let segment = segment_of c.args.file.now c.program_header-program_header.result in
-          let added = w.summary-is ∙ (w.with-summary.ensures c.args.file.now ∙ ap (λ (h : FileHeader). with_segment h.e_entry c.loop-row.summary segment) c.requires.header) in
+          let added = w.summary-is ∙ (w.with-summary.ensures c.args.file.now ∙ ap (λ (h : FileHeader). with_segment h.e_entry c.loop-row.summary segment) c.requires.file.header) in
           record {
             tested = tested;
             summary = summary_of-segment c.args.file.now c.loop-row.row _ c.loop-row.summary _ _ c.loop-row.invariant.summary c.program_header-program_header.ensures describes added;
