@@ -51,7 +51,8 @@ impl Draws {
     pub fn new(alloc: Global, jobs: u32, seats: u32) -> Result<(Draws, Vec<DrawSeat>), AllocError>
         requires { (jobs ≤ most_jobs) × (0 < seats) × (seats ≤ most_seats) }
         ensures size { IfOk result (λ made. made.0.size ≡ record { jobs = jobs; seats = seats }) }
-        ensures seats { IfOk result (λ made. made.1.items ≡ map (λ number. record { row = made.0; number = number; log = new_log 1 }) (range_with_len 0 seats)) }
+        ensures seats { IfOk result (λ made. made.1.items
+            ≡ map (λ number. record { row = made.0; number = number; log = new_log 1 }) (range_with_len 0 seats)) }
     {
         let size = Size { jobs, seats };
         let (table, mut rest) = Table::of_words(alloc, &[0, u64::from(jobs)], &size)?;
@@ -104,7 +105,8 @@ impl Draws {
     pub fn least(&self, seat: &mut DrawSeat) -> Option<u32>
         requires { seat.old.row ≡ self.now }
         ensures log { seat.new ≡ record seat.old { log = saw seat.old.log result } }
-        ensures least { IfSome result (λ least. (number : ℕ) → 0 < times number seat.old.log.noted + times number seat.old.log.seen → least ≤ number) }
+        ensures least { IfSome result (λ least. (number : ℕ)
+            → 0 < times number seat.old.log.noted + times number seat.old.log.seen → least ≤ number) }
         ensures none { IfNone result ((seat.old.log.noted ≡ []) × (seat.old.log.seen ≡ [])) }
     {
         let found = self.table.shared.load::<Looking>(&mut seat.seat, LEAST);

@@ -73,7 +73,8 @@ impl DrawSeat {
 
     /// The seat on the row, for the last time.
     pub(crate) fn into_seat(self) -> Seat<(), View>
-        ensures { (result.table_id ≡ self.row.table) × (result.me.0.size ≡ self.row.size) × (result.me.0.log ≡ self.log) × (result.me.0.log.seats ≡ 1) × (result.me.1 ≡ []) }
+        ensures { (result.table_id ≡ self.row.table) × (result.me.0.size ≡ self.row.size)
+            × (result.me.0.log ≡ self.log) × (result.me.0.log.seats ≡ 1) × (result.me.1 ≡ []) }
     {
         let DrawSeat {
             seat,
