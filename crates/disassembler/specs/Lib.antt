@@ -1,3 +1,4 @@
+pub mod Appended
 pub mod Instructions
 pub mod Listings
 pub mod Operands

@@ -1,6 +1,7 @@
 //! The text of an instruction word, and the law that distinct words at one address have distinct texts.
-ghost use Rattle.std.specs.Prelude.{◌≡◌, ℕ, ◌^◌, ◌<◌, ◌++◌, IfOk, OnOk};
+ghost use Rattle.std.specs.Prelude.{◌≡◌, ℕ, ◌^◌, ◌<◌, IfOk};
 ghost use Rattle.std.specs.String.{string_bytes};
+ghost use Rattle.disassembler.specs.Appended.{Appends};
 ghost use Rattle.disassembler.specs.Texts.{text_from, text_of};
 
 use crate::instruction::write_instruction;
@@ -20,7 +21,7 @@ pub fn text(alloc: Global, address: u32, word: u32) -> Result<String, AllocError
 /// Appends the text of a word at an address.
 #[tactic(auto, unfolding(crate::specs::Texts::text_of))]
 pub(crate) fn write_text(text: &mut String, address: u32, word: u32) -> Result<(), AllocError>
-    ensures { OnOk result (string_bytes text.new ≡ string_bytes text.old ++ text_of address word) }
+    ensures { Appends result text.old (text_of address word) text.new }
 {
     match decode(word) {
         Some(instr) => write_instruction(text, address, instr),

@@ -1,6 +1,6 @@
 //! The text of an instruction: its name and its operands.
-ghost use Rattle.std.specs.Prelude.{◌≡◌, [], ◌∷◌, ◌++◌, OnOk};
-ghost use Rattle.std.specs.String.{string_bytes};
+ghost use Rattle.std.specs.Prelude.{[], ◌∷◌};
+ghost use Rattle.disassembler.specs.Appended.{Appends};
 ghost use Rattle.disassembler.specs.Instructions.{instruction_text};
 
 use crate::line::write_line;
@@ -19,7 +19,7 @@ pub(crate) fn write_instruction(
     address: u32,
     instr: Instr,
 ) -> Result<(), AllocError>
-    ensures { OnOk result (string_bytes text.new ≡ string_bytes text.old ++ instruction_text address instr) }
+    ensures { Appends result text.old (instruction_text address instr) text.new }
 {
     match instr {
         Instr::Lui { .. } | Instr::Auipc { .. } | Instr::Jal { .. } | Instr::Jalr { .. } =>

@@ -1,7 +1,7 @@
 //! The lines of instructions, by their operands.
 
-ghost use Rattle.std.specs.Prelude.{◌≡◌, [], ◌∷◌, ◌++◌, OnOk};
-ghost use Rattle.std.specs.String.{string_bytes};
+ghost use Rattle.std.specs.Prelude.{[], ◌∷◌};
+ghost use Rattle.disassembler.specs.Appended.{Appends};
 ghost use Rattle.disassembler.specs.Operands.{operands_after, line_of};
 ghost use Rattle.disassembler.specs.Instructions.{target};
 
@@ -16,7 +16,7 @@ pub(crate) fn write_upper(
     rd: Register,
     immediate: UpperImmediate,
 ) -> Result<(), AllocError>
-    ensures { OnOk result (string_bytes text.new ≡ string_bytes text.old ++ line_of name.now (Operand.Register rd ∷ Operand.Upper immediate ∷ [])) }
+    ensures { Appends result text.old (line_of name.now (Operand.Register rd ∷ Operand.Upper immediate ∷ [])) text.new }
 {
     write_line(
         text,
@@ -33,7 +33,7 @@ pub(crate) fn write_indirect(
     offset: Immediate,
     base: Register,
 ) -> Result<(), AllocError>
-    ensures { OnOk result (string_bytes text.new ≡ string_bytes text.old ++ line_of name.now (Operand.Register register ∷ Operand.Indirect offset base ∷ [])) }
+    ensures { Appends result text.old (line_of name.now (Operand.Register register ∷ Operand.Indirect offset base ∷ [])) text.new }
 {
     write_line(
         text,
@@ -51,7 +51,8 @@ pub(crate) fn write_branch(
     rs2: Register,
     offset: BranchOffset,
 ) -> Result<(), AllocError>
-    ensures { OnOk result (string_bytes text.new ≡ string_bytes text.old ++ line_of name.now (Operand.Register rs1 ∷ Operand.Register rs2 ∷ target address offset ∷ [])) }
+    ensures { Appends result text.old
+        (line_of name.now (Operand.Register rs1 ∷ Operand.Register rs2 ∷ target address offset ∷ [])) text.new }
 {
     let target = address.wrapping_add(offset.word());
     write_line(
@@ -73,7 +74,8 @@ pub(crate) fn write_immediate(
     rs1: Register,
     immediate: Immediate,
 ) -> Result<(), AllocError>
-    ensures { OnOk result (string_bytes text.new ≡ string_bytes text.old ++ line_of name.now (Operand.Register rd ∷ Operand.Register rs1 ∷ Operand.Signed immediate ∷ [])) }
+    ensures { Appends result text.old
+        (line_of name.now (Operand.Register rd ∷ Operand.Register rs1 ∷ Operand.Signed immediate ∷ [])) text.new }
 {
     write_line(
         text,
@@ -94,7 +96,8 @@ pub(crate) fn write_shift(
     rs1: Register,
     amount: ShiftAmount,
 ) -> Result<(), AllocError>
-    ensures { OnOk result (string_bytes text.new ≡ string_bytes text.old ++ line_of name.now (Operand.Register rd ∷ Operand.Register rs1 ∷ Operand.Unsigned amount ∷ [])) }
+    ensures { Appends result text.old
+        (line_of name.now (Operand.Register rd ∷ Operand.Register rs1 ∷ Operand.Unsigned amount ∷ [])) text.new }
 {
     write_line(
         text,
@@ -115,7 +118,7 @@ pub(crate) fn write_registers(
     rs1: Register,
     rs2: Register,
 ) -> Result<(), AllocError>
-    ensures { OnOk result (string_bytes text.new ≡ string_bytes text.old ++ line_of name.now (Operand.Register rd ∷ Operand.Register rs1 ∷ Operand.Register rs2 ∷ [])) }
+    ensures { Appends result text.old (line_of name.now (Operand.Register rd ∷ Operand.Register rs1 ∷ Operand.Register rs2 ∷ [])) text.new }
 {
     write_line(
         text,
@@ -134,7 +137,7 @@ pub(crate) fn write_line(
     name: &str,
     operands: &[Operand],
 ) -> Result<(), AllocError>
-    ensures { OnOk result (string_bytes text.new ≡ string_bytes text.old ++ line_of name.now operands.now) }
+    ensures { Appends result text.old (line_of name.now operands.now) text.new }
 {
     text.push_str(name)?;
     let mut before = ' ';

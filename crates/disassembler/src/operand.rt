@@ -1,6 +1,6 @@
 //! The operands of an instruction and the text of each.
-ghost use Rattle.std.specs.Prelude.{◌≡◌, ◌++◌, OnOk, decimal};
-ghost use Rattle.std.specs.String.{string_bytes};
+ghost use Rattle.std.specs.Prelude.{decimal};
+ghost use Rattle.disassembler.specs.Appended.{Appends};
 ghost use Rattle.disassembler.specs.Operands.{operand_text, register_text, signed_text};
 
 use decoder::{Immediate, UpperImmediate};
@@ -28,7 +28,7 @@ pub(crate) enum Operand {
 /// Appends an operand.
 #[tactic(auto, unfolding(crate::specs::Operands::operand_text))]
 pub(crate) fn write_operand(text: &mut String, operand: Operand) -> Result<(), AllocError>
-    ensures { OnOk result (string_bytes text.new ≡ string_bytes text.old ++ operand_text operand) }
+    ensures { Appends result text.old (operand_text operand) text.new }
 {
     match operand {
         Operand::Register(register) => write_register(text, register),
@@ -52,14 +52,14 @@ pub(crate) fn write_operand(text: &mut String, operand: Operand) -> Result<(), A
 }
 
 fn write_register(text: &mut String, register: decoder::Register) -> Result<(), AllocError>
-    ensures { OnOk result (string_bytes text.new ≡ string_bytes text.old ++ register_text register) }
+    ensures { Appends result text.old (register_text register) text.new }
 {
     text.push_str("x")?;
     text.push_str(Buffer::new().format(register.number()))
 }
 
 fn write_signed(text: &mut String, immediate: Immediate) -> Result<(), AllocError>
-    ensures { OnOk result (string_bytes text.new ≡ string_bytes text.old ++ signed_text immediate) }
+    ensures { Appends result text.old (signed_text immediate) text.new }
 {
     let mut buffer = Buffer::new();
     text.push_str(buffer.format(immediate.word().cast_signed()))

@@ -1,6 +1,7 @@
 //! The listing of an image: a line for each word of its executable segments.
-ghost use Rattle.std.specs.Prelude.{◌≡◌, ◌+◌, ◌≤◌, ◌++◌, length, IfOk, OnOk};
+ghost use Rattle.std.specs.Prelude.{◌≡◌, ◌+◌, ◌≤◌, length, IfOk};
 ghost use Rattle.std.specs.String.{string_bytes};
+ghost use Rattle.disassembler.specs.Appended.{Appends};
 ghost use Rattle.disassembler.specs.Listings.{word_from, word_line, has_word, segment_listing, listing_of};
 
 use crate::disassembly::write_text;
@@ -25,7 +26,7 @@ pub fn listing(alloc: Global, image: &Image) -> Result<String, AllocError>
 
 /// Appends the lines of a segment's words.
 fn write_segment(text: &mut String, segment: &Segment) -> Result<(), AllocError>
-    ensures { OnOk result (string_bytes text.new ≡ string_bytes text.old ++ segment_listing segment.now) }
+    ensures { Appends result text.old (segment_listing segment.now) text.new }
 {
     let start = segment.vaddr();
     let bytes = segment.bytes();
@@ -48,7 +49,7 @@ fn begins_word(segment: &Segment, address: u32) -> bool
 
 /// Appends a word's line.
 fn write_word(text: &mut String, address: u32, word: u32) -> Result<(), AllocError>
-    ensures { OnOk result (string_bytes text.new ≡ string_bytes text.old ++ word_line address word) }
+    ensures { Appends result text.old (word_line address word) text.new }
 {
     write_hexadecimal(text, 8, address)?;
     text.push_str(": ")?;

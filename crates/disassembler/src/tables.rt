@@ -1,9 +1,9 @@
 //! The text of each instruction, a table for each group of instructions.
 #![tactic(auto, unfolding(crate::specs::Instructions::instruction_text))]
 
-ghost use Rattle.std.specs.Prelude.{◌≡◌, ℕ, ◌++◌, OnOk};
-ghost use Rattle.std.specs.String.{string_bytes};
+ghost use Rattle.std.specs.Prelude.{ℕ};
 ghost use Rattle.decoder.specs.Groups.{IsUpperOrJump, IsBranch, IsLoad, IsStore, IsImmediateOperation, IsOperation, IsMultiplication};
+ghost use Rattle.disassembler.specs.Appended.{Appends};
 ghost use Rattle.disassembler.specs.Instructions.{instruction_text};
 
 use crate::line::{
@@ -21,7 +21,7 @@ pub(crate) fn write_upper_or_jump_text(
     instr: Instr,
 ) -> Result<(), AllocError>
     requires { IsUpperOrJump instr }
-    ensures { OnOk result (string_bytes text.new ≡ string_bytes text.old ++ instruction_text address instr) }
+    ensures { Appends result text.old (instruction_text address instr) text.new }
 {
     match instr {
         Instr::Lui { rd, immediate } => write_upper(text, "lui", rd, immediate),
@@ -46,7 +46,7 @@ pub(crate) fn write_branch_text(
     instr: Instr,
 ) -> Result<(), AllocError>
     requires { IsBranch instr }
-    ensures { OnOk result (string_bytes text.new ≡ string_bytes text.old ++ instruction_text address instr) }
+    ensures { Appends result text.old (instruction_text address instr) text.new }
 {
     match instr {
         Instr::Beq { rs1, rs2, offset } => write_branch(text, "beq", address, rs1, rs2, offset),
@@ -62,7 +62,7 @@ pub(crate) fn write_branch_text(
 /// Appends the text of a load.
 pub(crate) fn write_load_text(text: &mut String, instr: Instr) -> Result<(), AllocError>
     requires { IsLoad instr }
-    ensures { (address : ℕ) → OnOk result (string_bytes text.new ≡ string_bytes text.old ++ instruction_text address instr) }
+    ensures { (address : ℕ) → Appends result text.old (instruction_text address instr) text.new }
 {
     match instr {
         Instr::Lb { rd, rs1, offset } => write_indirect(text, "lb", rd, offset, rs1),
@@ -77,7 +77,7 @@ pub(crate) fn write_load_text(text: &mut String, instr: Instr) -> Result<(), All
 /// Appends the text of a store.
 pub(crate) fn write_store_text(text: &mut String, instr: Instr) -> Result<(), AllocError>
     requires { IsStore instr }
-    ensures { (address : ℕ) → OnOk result (string_bytes text.new ≡ string_bytes text.old ++ instruction_text address instr) }
+    ensures { (address : ℕ) → Appends result text.old (instruction_text address instr) text.new }
 {
     match instr {
         Instr::Sb { rs1, rs2, offset } => write_indirect(text, "sb", rs2, offset, rs1),
@@ -93,7 +93,7 @@ pub(crate) fn write_immediate_operation_text(
     instr: Instr,
 ) -> Result<(), AllocError>
     requires { IsImmediateOperation instr }
-    ensures { (address : ℕ) → OnOk result (string_bytes text.new ≡ string_bytes text.old ++ instruction_text address instr) }
+    ensures { (address : ℕ) → Appends result text.old (instruction_text address instr) text.new }
 {
     match instr {
         Instr::Addi { rd, rs1, immediate } => write_immediate(text, "addi", rd, rs1, immediate),
@@ -112,7 +112,7 @@ pub(crate) fn write_immediate_operation_text(
 /// Appends the text of an operation on two registers.
 pub(crate) fn write_operation_text(text: &mut String, instr: Instr) -> Result<(), AllocError>
     requires { IsOperation instr }
-    ensures { (address : ℕ) → OnOk result (string_bytes text.new ≡ string_bytes text.old ++ instruction_text address instr) }
+    ensures { (address : ℕ) → Appends result text.old (instruction_text address instr) text.new }
 {
     match instr {
         Instr::Add { rd, rs1, rs2 } => write_registers(text, "add", rd, rs1, rs2),
@@ -132,7 +132,7 @@ pub(crate) fn write_operation_text(text: &mut String, instr: Instr) -> Result<()
 /// Appends the text of a multiplication or a division.
 pub(crate) fn write_multiplication_text(text: &mut String, instr: Instr) -> Result<(), AllocError>
     requires { IsMultiplication instr }
-    ensures { (address : ℕ) → OnOk result (string_bytes text.new ≡ string_bytes text.old ++ instruction_text address instr) }
+    ensures { (address : ℕ) → Appends result text.old (instruction_text address instr) text.new }
 {
     match instr {
         Instr::Mul { rd, rs1, rs2 } => write_registers(text, "mul", rd, rs1, rs2),
