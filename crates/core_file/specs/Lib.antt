@@ -4,3 +4,4 @@ pub mod Loads
 pub mod Notes
 pub mod Runs
 pub mod Shown
+pub mod Written

@@ -45,7 +45,8 @@ pub(crate) fn head_of(alloc: Global, notes: &[u8], runs: &Runs) -> Result<Vec<u8
     requires counted { runs.now.pages ≡ pages_in runs.now.list.items }
     ensures head { IfOk result (λ head. (pages : PageMap) → head.items ≡ head_of notes.now (loads_of pages runs.now.list.items)) }
     ensures fits { IfOk result (λ head. (pages : PageMap) → Fits notes.now (loads_of pages runs.now.list.items)) }
-    ensures too_large { IfErr result (λ fault. fault ≡ CoreFault.TooLarge → (pages : PageMap) → ¬ Fits notes.now (loads_of pages runs.now.list.items)) }
+    ensures too_large { IfErr result (λ fault. fault ≡ CoreFault.TooLarge
+        → (pages : PageMap) → ¬ Fits notes.now (loads_of pages runs.now.list.items)) }
 {
     let Some(start) = notes_start(notes, runs) else {
         return Err(CoreFault::TooLarge);

@@ -4,6 +4,7 @@ ghost use Rattle.std.specs.Io.KnownBytes.{Appends};
 ghost use Rattle.paged_memory.specs.Snapshot.{cells_of, pages_of};
 ghost use Rattle.core_file.specs.Core.{IsCoreOf, IsTooLarge, bytes_of};
 ghost use Rattle.core_file.specs.Runs.{IsPlaced, bytes_from, loads_of};
+ghost use Rattle.core_file.specs.Written.{Writes};
 
 use crate::core_fault::CoreFault;
 use crate::core_thread::CoreThread;
@@ -41,8 +42,7 @@ pub fn write_core<W: Write>(
 /// Writes the bytes of runs' pages.
 fn write_runs<W: Write>(memory: &Snapshot, runs: &[Run], writer: &mut W) -> Result<(), CoreFault>
     requires { All IsPlaced runs.now }
-    ensures written { OnOk result (Appends (W.contents writer.old) (W.contents writer.new) (bytes_of (loads_of (pages_of memory.now) runs.now))) }
-    ensures failed { IfErr result (λ fault. fault ≡ CoreFault.WriteFailed) }
+    ensures { Writes result (W.contents writer.old) (bytes_of (loads_of (pages_of memory.now) runs.now)) (W.contents writer.new) }
 {
     for run in runs {
         write_run(memory, run, writer)?;
@@ -53,8 +53,7 @@ fn write_runs<W: Write>(memory: &Snapshot, runs: &[Run], writer: &mut W) -> Resu
 /// Writes the bytes of a run's pages.
 fn write_run<W: Write>(memory: &Snapshot, run: &Run, writer: &mut W) -> Result<(), CoreFault>
     requires { IsPlaced run.now }
-    ensures written { OnOk result (Appends (W.contents writer.old) (W.contents writer.new) (bytes_from (pages_of memory.now) run.now.first run.now.count)) }
-    ensures failed { IfErr result (λ fault. fault ≡ CoreFault.WriteFailed) }
+    ensures { Writes result (W.contents writer.old) (bytes_from (pages_of memory.now) run.now.first run.now.count) (W.contents writer.new) }
 {
     for place in 0..run.count {
         match memory.page(run.first + place) {
@@ -67,8 +66,7 @@ fn write_run<W: Write>(memory: &Snapshot, run: &Run, writer: &mut W) -> Result<(
 
 /// Writes bytes.
 fn write_bytes<W: Write>(bytes: &[u8], writer: &mut W) -> Result<(), CoreFault>
-    ensures written { OnOk result (Appends (W.contents writer.old) (W.contents writer.new) bytes.now) }
-    ensures failed { IfErr result (λ fault. fault ≡ CoreFault.WriteFailed) }
+    ensures { Writes result (W.contents writer.old) bytes.now (W.contents writer.new) }
 {
     match writer.write_all(bytes) {
         Ok(()) => Ok(()),
