@@ -1,5 +1,6 @@
 pub mod Arithmetic
 pub mod Cause
+pub mod Executes
 pub mod Flows
 pub mod HartState
 pub mod Nears

@@ -1,10 +1,7 @@
 //! Jumps and branches, as methods of a hart.
-ghost use Rattle.std.specs.Prelude.{◌≡◌, ℕ};
-ghost use Rattle.guest_memory.specs.Memory.{Memory};
-ghost use Rattle.hart.specs.HartState.{with_pc};
 ghost use Rattle.hart.specs.Next.{puts, jumps, branches};
 ghost use Rattle.hart.specs.Places.{pc_of};
-ghost use Rattle.hart.specs.Flows.{Flows, IsOutOfMemory};
+ghost use Rattle.hart.specs.Flows.{Computes, ComputesAt};
 
 use crate::arithmetic::sum;
 use crate::cause::Cause;
@@ -17,8 +14,7 @@ impl Hart {
     /// Sets a register, and goes on.
     #[inline(always)]
     pub(crate) fn put(&mut self, rd: Register, value: u32) -> Flow
-        ensures flows { (pc : ℕ) (memory : Memory) → Flows result (puts (with_pc self.old pc) memory rd value) pc self.old memory self.new memory }
-        ensures no_growth { IsOutOfMemory result → ⊥ }
+        ensures { Computes (λ hart memory. puts hart memory rd value) result self.old self.new }
     {
         self.set_reg(usize::from(rd.number()), value);
         Flow::Next
@@ -28,8 +24,7 @@ impl Hart {
     #[tactic(auto, unfolding(crate::specs::Next::jumps))]
     #[inline(always)]
     pub(crate) fn jump(&mut self, place: Place, rd: Register, target: u32) -> Flow
-        ensures flows { (memory : Memory) → Flows result (jumps (with_pc self.old (pc_of place)) memory rd target) (pc_of place) self.old memory self.new memory }
-        ensures no_growth { IsOutOfMemory result → ⊥ }
+        ensures { ComputesAt (λ hart memory. jumps hart memory rd target) (pc_of place) result self.old self.new }
     {
         if target % 4 != 0 {
             return trapped(Cause::TargetMisaligned, target);
@@ -42,8 +37,7 @@ impl Hart {
     #[tactic(auto, unfolding(crate::specs::Next::branches, crate::specs::Arithmetic::sum))]
     #[inline(always)]
     pub(crate) fn branch(&mut self, place: Place, taken: bool, offset: BranchOffset) -> Flow
-        ensures flows { (memory : Memory) → Flows result (branches (with_pc self.old (pc_of place)) memory taken offset) (pc_of place) self.old memory self.new memory }
-        ensures no_growth { IsOutOfMemory result → ⊥ }
+        ensures { ComputesAt (λ hart memory. branches hart memory taken offset) (pc_of place) result self.old self.new }
     {
         if !taken {
             return Flow::Next;

@@ -7,9 +7,9 @@ ghost use Rattle.guest_memory.specs.Stores.{Stores, IsOutOfMemory as IsRefused};
 ghost use Rattle.guest_memory.specs.declared.fault.AccessFault.{AccessFault as Fault};
 ghost use Rattle.hart.specs.Arithmetic.{sign_extended};
 ghost use Rattle.hart.specs.Next.{loads, stores, viewed};
-ghost use Rattle.decoded_code.specs.Closed.{Kept};
+ghost use Rattle.hart.specs.Executes.{StoresAt};
 ghost use Rattle.hart.specs.HartState.{with_pc};
-ghost use Rattle.hart.specs.Flows.{Flows, IsOutOfMemory};
+ghost use Rattle.hart.specs.Flows.{Flows, IsOutOfMemory, Computes};
 
 use crate::arithmetic::{extended_byte, extended_half};
 use crate::cause::Cause;
@@ -28,8 +28,7 @@ impl Hart {
         address: u32,
         answer: Result<u32, AccessFault>,
     ) -> Flow
-        ensures flows { (pc : ℕ) (memory : Memory) → Flows result (loads (with_pc self.old pc) memory rd address answer) pc self.old memory self.new memory }
-        ensures no_growth { IsOutOfMemory result → ⊥ }
+        ensures { Computes (λ hart memory. loads hart memory rd address answer) result self.old self.new }
     {
         match answer {
             Ok(value) => self.put(rd, value),
@@ -94,11 +93,8 @@ pub fn half<M: GuestMemory>(memory: &M, address: u32) -> Result<u32, AccessFault
 #[tactic(auto, using(crate::proofs::Keeping::stores_keep))]
 #[inline(always)]
 pub fn store_byte<M: GuestMemory>(hart: &Hart, memory: &mut M, address: u32, value: u32) -> Flow
-    ensures flows { (pc : ℕ) → Flows result (stores (with_pc hart.now pc) address (stored 1 (M.cells memory.old) address (value % 2 ^ 8))) pc hart.now (M.cells memory.old) hart.now (M.cells memory.new) }
-    ensures grows { IsOutOfMemory result → M.grows memory.old address }
-    ensures settles { (other : ℕ) → M.grows memory.new other → M.grows memory.old other }
-    ensures base { M.base memory.new ≡ M.base memory.old }
-    ensures kept { Kept (M.cells memory.old) (M.cells memory.new) }
+    ensures { StoresAt M.cells M.grows M.base address (stored 1 (M.cells memory.old) address (value % 2 ^ 8)) result
+        hart.now memory.old memory.new }
 {
     let answer = memory.store8(address, (value % 256) as u8);
     hart.store(address, answer)
@@ -108,11 +104,8 @@ pub fn store_byte<M: GuestMemory>(hart: &Hart, memory: &mut M, address: u32, val
 #[tactic(auto, using(crate::proofs::Keeping::stores_keep))]
 #[inline(always)]
 pub fn store_half<M: GuestMemory>(hart: &Hart, memory: &mut M, address: u32, value: u32) -> Flow
-    ensures flows { (pc : ℕ) → Flows result (stores (with_pc hart.now pc) address (stored 2 (M.cells memory.old) address (value % 2 ^ 16))) pc hart.now (M.cells memory.old) hart.now (M.cells memory.new) }
-    ensures grows { IsOutOfMemory result → M.grows memory.old address }
-    ensures settles { (other : ℕ) → M.grows memory.new other → M.grows memory.old other }
-    ensures base { M.base memory.new ≡ M.base memory.old }
-    ensures kept { Kept (M.cells memory.old) (M.cells memory.new) }
+    ensures { StoresAt M.cells M.grows M.base address (stored 2 (M.cells memory.old) address (value % 2 ^ 16)) result
+        hart.now memory.old memory.new }
 {
     let answer = memory.store16(address, (value % 65_536) as u16);
     hart.store(address, answer)
@@ -122,11 +115,8 @@ pub fn store_half<M: GuestMemory>(hart: &Hart, memory: &mut M, address: u32, val
 #[tactic(auto, using(crate::proofs::Keeping::stores_keep))]
 #[inline(always)]
 pub fn store_word<M: GuestMemory>(hart: &Hart, memory: &mut M, address: u32, value: u32) -> Flow
-    ensures flows { (pc : ℕ) → Flows result (stores (with_pc hart.now pc) address (stored 4 (M.cells memory.old) address value)) pc hart.now (M.cells memory.old) hart.now (M.cells memory.new) }
-    ensures grows { IsOutOfMemory result → M.grows memory.old address }
-    ensures settles { (other : ℕ) → M.grows memory.new other → M.grows memory.old other }
-    ensures base { M.base memory.new ≡ M.base memory.old }
-    ensures kept { Kept (M.cells memory.old) (M.cells memory.new) }
+    ensures { StoresAt M.cells M.grows M.base address (stored 4 (M.cells memory.old) address value) result
+        hart.now memory.old memory.new }
 {
     let answer = memory.store32(address, value);
     hart.store(address, answer)
