@@ -1,6 +1,6 @@
 -- Which word encodes which instruction: a row of field equations for each of the 48 instructions, as the
 -- RISC-V ISA, document version 20191213, lists them in chapter 24.
-use Rattle.std.specs.Prelude.{◌≡◌, ℕ}
+use Rattle.std.specs.Prelude.{◌≡◌, ℕ, Option, IfSome}
 use Rattle.decoder.specs.Forms.{RForm, IForm, SForm, BForm, UForm, JForm, FenceForm}
 use Rattle.decoder.specs.declared.instr.Instr.{Instr}
 use Rattle.decoder.specs.declared.instr.Instr.TheVariants.{Lui, Auipc, Jal, Jalr, Beq, Bne, Blt, Bge, Bltu, Bgeu, Lb, Lh, Lw, Lbu, Lhu, Sb, Sh, Sw, Addi, Slti, Sltiu, Xori, Ori, Andi, Slli, Srli, Srai, Add, Sub, Sll, Slt, Sltu, Xor, Srl, Sra, Or, And, Mul, Mulh, Mulhsu, Mulhu, Div, Divu, Rem, Remu, Fence, Ecall, Ebreak}
@@ -56,3 +56,8 @@ Encodes w (Remu rd rs1 rs2) = RForm w 0b0000001 rs2 rs1 0b111 rd 0b0110011
 Encodes w (Fence fm pred succ rs1 rd) = FenceForm w fm pred succ rs1 0b000 rd 0b0001111
 Encodes w Ecall = w ≡ 0x00000073
 Encodes w Ebreak = w ≡ 0x00100073
+
+-- What a word was decoded to is what is wanted of it. If that is an instruction, the word encodes it.
+pub record Decodes (word : ℕ) (wanted result : Option Instr) : Type 0 where
+  pub sound : IfSome result (Encodes word)
+  pub computed : result ≡ wanted

@@ -3,8 +3,8 @@
 
 ghost use Rattle.std.specs.Prelude.{◌≡◌, ℕ, IfSome};
 ghost use Rattle.decoder.specs.Word.{bits};
-ghost use Rattle.decoder.specs.Forms.{i_immediate, s_immediate, b_immediate};
-ghost use Rattle.decoder.specs.Encoding.{Encodes};
+ghost use Rattle.decoder.specs.Forms.{i_immediate, s_immediate, b_immediate, HasCodes};
+ghost use Rattle.decoder.specs.Encoding.{Encodes, Decodes};
 ghost use Rattle.decoder.specs.Decoding.{decoded, decoded_at, with_rd, with_rs2, jumps, branches, loads, stores, immediate_operations, shifts, base_operations, alternate_operations, multiplications, operations, decoded_immediate_operation, decoded_fence, decoded_system};
 ghost use Rattle.decoder.specs.declared.instr.Instr.{Instr};
 
@@ -29,8 +29,7 @@ pub fn decode(word: u32) -> Option<Instr>
 #[inline(always)]
 fn decode_at(opcode: u32, word: u32) -> Option<Instr>
     requires { bits word 0 7 ≡ opcode }
-    ensures sound { IfSome result (Encodes word) }
-    ensures computed { result ≡ decoded_at opcode word }
+    ensures { Decodes word (decoded_at opcode word) result }
 {
     match opcode {
         opcode::LUI => Some(Instr::Lui {
@@ -61,8 +60,7 @@ fn decode_at(opcode: u32, word: u32) -> Option<Instr>
 #[inline(always)]
 fn decode_jalr(word: u32) -> Option<Instr>
     requires { bits word 0 7 ≡ 0b1100111 }
-    ensures sound { IfSome result (Encodes word) }
-    ensures computed { result ≡ with_rd jumps word (i_immediate word) }
+    ensures { Decodes word (with_rd jumps word (i_immediate word)) result }
 {
     let (rd, rs1, offset) = (rd_of(word), rs1_of(word), i_immediate_of(word));
     match funct3_of(word) {
@@ -75,8 +73,7 @@ fn decode_jalr(word: u32) -> Option<Instr>
 #[inline(always)]
 fn decode_branch(word: u32) -> Option<Instr>
     requires { bits word 0 7 ≡ 0b1100011 }
-    ensures sound { IfSome result (Encodes word) }
-    ensures computed { result ≡ with_rs2 branches word (b_immediate word) }
+    ensures { Decodes word (with_rs2 branches word (b_immediate word)) result }
 {
     let (rs1, rs2, offset) = (rs1_of(word), rs2_of(word), b_immediate_of(word));
     match funct3_of(word) {
@@ -94,8 +91,7 @@ fn decode_branch(word: u32) -> Option<Instr>
 #[inline(always)]
 fn decode_load(word: u32) -> Option<Instr>
     requires { bits word 0 7 ≡ 0b0000011 }
-    ensures sound { IfSome result (Encodes word) }
-    ensures computed { result ≡ with_rd loads word (i_immediate word) }
+    ensures { Decodes word (with_rd loads word (i_immediate word)) result }
 {
     let (rd, rs1, offset) = (rd_of(word), rs1_of(word), i_immediate_of(word));
     match funct3_of(word) {
@@ -112,8 +108,7 @@ fn decode_load(word: u32) -> Option<Instr>
 #[inline(always)]
 fn decode_store(word: u32) -> Option<Instr>
     requires { bits word 0 7 ≡ 0b0100011 }
-    ensures sound { IfSome result (Encodes word) }
-    ensures computed { result ≡ with_rs2 stores word (s_immediate word) }
+    ensures { Decodes word (with_rs2 stores word (s_immediate word)) result }
 {
     let (rs1, rs2, offset) = (rs1_of(word), rs2_of(word), s_immediate_of(word));
     match funct3_of(word) {
@@ -128,8 +123,7 @@ fn decode_store(word: u32) -> Option<Instr>
 #[inline(always)]
 fn decode_immediate_operation(word: u32) -> Option<Instr>
     requires { bits word 0 7 ≡ 0b0010011 }
-    ensures sound { IfSome result (Encodes word) }
-    ensures computed { result ≡ decoded_immediate_operation word }
+    ensures { Decodes word (decoded_immediate_operation word) result }
 {
     let (rd, rs1, immediate) = (rd_of(word), rs1_of(word), i_immediate_of(word));
     match funct3_of(word) {
@@ -147,8 +141,7 @@ fn decode_immediate_operation(word: u32) -> Option<Instr>
 #[inline(always)]
 fn decode_shift(word: u32) -> Option<Instr>
     requires { bits word 0 7 ≡ 0b0010011 }
-    ensures sound { IfSome result (Encodes word) }
-    ensures computed { result ≡ with_rd (shifts (bits word 25 7)) word (bits word 20 5) }
+    ensures { Decodes word (with_rd (shifts (bits word 25 7)) word (bits word 20 5)) result }
 {
     let (rd, rs1, amount) = (rd_of(word), rs1_of(word), amount_of(word));
     match (funct7_of(word), funct3_of(word)) {
@@ -163,8 +156,7 @@ fn decode_shift(word: u32) -> Option<Instr>
 #[inline(always)]
 fn decode_operation(word: u32) -> Option<Instr>
     requires { bits word 0 7 ≡ 0b0110011 }
-    ensures sound { IfSome result (Encodes word) }
-    ensures computed { result ≡ with_rd (operations (bits word 25 7)) word (bits word 20 5) }
+    ensures { Decodes word (with_rd (operations (bits word 25 7)) word (bits word 20 5)) result }
 {
     match funct7_of(word) {
         0b000_0000 => decode_base_operation(word),
@@ -177,10 +169,8 @@ fn decode_operation(word: u32) -> Option<Instr>
 /// The operations on registers where funct7 is 0000000.
 #[inline(always)]
 fn decode_base_operation(word: u32) -> Option<Instr>
-    requires opcode { bits word 0 7 ≡ 0b0110011 }
-    requires funct7 { bits word 25 7 ≡ 0b0000000 }
-    ensures sound { IfSome result (Encodes word) }
-    ensures computed { result ≡ with_rd base_operations word (bits word 20 5) }
+    requires { HasCodes word 0b0000000 0b0110011 }
+    ensures { Decodes word (with_rd base_operations word (bits word 20 5)) result }
 {
     let (rd, rs1, rs2) = (rd_of(word), rs1_of(word), rs2_of(word));
     match funct3_of(word) {
@@ -199,10 +189,8 @@ fn decode_base_operation(word: u32) -> Option<Instr>
 /// The operations on registers where funct7 is 0100000.
 #[inline(always)]
 fn decode_alternate_operation(word: u32) -> Option<Instr>
-    requires opcode { bits word 0 7 ≡ 0b0110011 }
-    requires funct7 { bits word 25 7 ≡ 0b0100000 }
-    ensures sound { IfSome result (Encodes word) }
-    ensures computed { result ≡ with_rd alternate_operations word (bits word 20 5) }
+    requires { HasCodes word 0b0100000 0b0110011 }
+    ensures { Decodes word (with_rd alternate_operations word (bits word 20 5)) result }
 {
     let (rd, rs1, rs2) = (rd_of(word), rs1_of(word), rs2_of(word));
     match funct3_of(word) {
@@ -215,10 +203,8 @@ fn decode_alternate_operation(word: u32) -> Option<Instr>
 /// The operations on registers where funct7 is 0000001: the extension M.
 #[inline(always)]
 fn decode_multiplication(word: u32) -> Option<Instr>
-    requires opcode { bits word 0 7 ≡ 0b0110011 }
-    requires funct7 { bits word 25 7 ≡ 0b0000001 }
-    ensures sound { IfSome result (Encodes word) }
-    ensures computed { result ≡ with_rd multiplications word (bits word 20 5) }
+    requires { HasCodes word 0b0000001 0b0110011 }
+    ensures { Decodes word (with_rd multiplications word (bits word 20 5)) result }
 {
     let (rd, rs1, rs2) = (rd_of(word), rs1_of(word), rs2_of(word));
     match funct3_of(word) {
@@ -238,8 +224,7 @@ fn decode_multiplication(word: u32) -> Option<Instr>
 #[inline(always)]
 fn decode_fence(word: u32) -> Option<Instr>
     requires { bits word 0 7 ≡ 0b0001111 }
-    ensures sound { IfSome result (Encodes word) }
-    ensures computed { result ≡ decoded_fence word }
+    ensures { Decodes word (decoded_fence word) result }
 {
     let (fm, pred, succ) = (fm_of(word), pred_of(word), succ_of(word));
     let (rs1, rd) = (rs1_of(word), rd_of(word));
@@ -258,8 +243,7 @@ fn decode_fence(word: u32) -> Option<Instr>
 /// ECALL and EBREAK, each a single word.
 #[inline(always)]
 fn decode_system(word: u32) -> Option<Instr>
-    ensures sound { IfSome result (Encodes word) }
-    ensures computed { result ≡ decoded_system word }
+    ensures { Decodes word (decoded_system word) result }
 {
     match word {
         0x0000_0073 => Some(Instr::Ecall),

@@ -1,7 +1,7 @@
 //! From an instruction to its word.
 
 ghost use Rattle.std.specs.Prelude.{◌≡◌, ℕ, ◌^◌, ◌<◌};
-ghost use Rattle.decoder.specs.Forms.{RForm, IForm, SForm, BForm, UForm, JForm, FenceForm};
+ghost use Rattle.decoder.specs.Forms.{RForm, IForm, SForm, BForm, UForm, JForm, FenceForm, AreFunctionCodes, IsOnlyWord};
 ghost use Rattle.decoder.specs.Encoding.{Encodes};
 ghost use Rattle.decoder.specs.Encoded.{encoded, r_word, i_word, s_word, b_word, u_word, j_word, fence_word};
 
@@ -78,14 +78,11 @@ pub fn encode(instr: &Instr) -> u32
 
 /// The fields, each in its place.
 fn placed(funct7: u32, rs2: u32, rs1: Register, funct3: u32, rd: u32, opcode: u32) -> u32
-    requires funct7 { funct7 < 2 ^ 7 }
+    requires functions { AreFunctionCodes funct7 funct3 }
     requires rs2 { rs2 < 2 ^ 5 }
-    requires funct3 { funct3 < 2 ^ 3 }
     requires rd { rd < 2 ^ 5 }
     requires opcode { opcode < 2 ^ 7 }
-    ensures value { RForm result funct7 rs2 rs1 funct3 rd opcode }
-    ensures only { (w : ℕ) → w < 2 ^ 32 → RForm w funct7 rs2 rs1 funct3 rd opcode → w ≡ result }
-    ensures computed { result ≡ r_word funct7 rs2 rs1 funct3 rd opcode }
+    ensures { IsOnlyWord (λ w. RForm w funct7 rs2 rs1 funct3 rd opcode) (r_word funct7 rs2 rs1 funct3 rd opcode) result }
 {
     let high = funct7 * (1 << 25) + rs2 * (1 << 20) + rs1.number() as u32 * (1 << 15);
     high + funct3 * (1 << 12) + rd * (1 << 7) + opcode
@@ -93,11 +90,8 @@ fn placed(funct7: u32, rs2: u32, rs1: Register, funct3: u32, rd: u32, opcode: u3
 
 /// An operation on registers.
 fn r_form(funct7: u32, rs2: Register, rs1: Register, funct3: u32, rd: Register) -> u32
-    requires funct7 { funct7 < 2 ^ 7 }
-    requires funct3 { funct3 < 2 ^ 3 }
-    ensures value { RForm result funct7 rs2 rs1 funct3 rd 0b0110011 }
-    ensures only { (w : ℕ) → w < 2 ^ 32 → RForm w funct7 rs2 rs1 funct3 rd 0b0110011 → w ≡ result }
-    ensures computed { result ≡ r_word funct7 rs2 rs1 funct3 rd 0b0110011 }
+    requires { AreFunctionCodes funct7 funct3 }
+    ensures { IsOnlyWord (λ w. RForm w funct7 rs2 rs1 funct3 rd 0b0110011) (r_word funct7 rs2 rs1 funct3 rd 0b0110011) result }
 {
     placed(
         funct7,
@@ -111,11 +105,8 @@ fn r_form(funct7: u32, rs2: Register, rs1: Register, funct3: u32, rd: Register) 
 
 /// A shift by an immediate.
 fn shift_form(funct7: u32, amount: ShiftAmount, rs1: Register, funct3: u32, rd: Register) -> u32
-    requires funct7 { funct7 < 2 ^ 7 }
-    requires funct3 { funct3 < 2 ^ 3 }
-    ensures value { RForm result funct7 amount rs1 funct3 rd 0b0010011 }
-    ensures only { (w : ℕ) → w < 2 ^ 32 → RForm w funct7 amount rs1 funct3 rd 0b0010011 → w ≡ result }
-    ensures computed { result ≡ r_word funct7 amount rs1 funct3 rd 0b0010011 }
+    requires { AreFunctionCodes funct7 funct3 }
+    ensures { IsOnlyWord (λ w. RForm w funct7 amount rs1 funct3 rd 0b0010011) (r_word funct7 amount rs1 funct3 rd 0b0010011) result }
 {
     placed(
         funct7,
@@ -131,9 +122,7 @@ fn shift_form(funct7: u32, amount: ShiftAmount, rs1: Register, funct3: u32, rd: 
 fn i_form(immediate: Immediate, rs1: Register, funct3: u32, rd: Register, opcode: u32) -> u32
     requires funct3 { funct3 < 2 ^ 3 }
     requires opcode { opcode < 2 ^ 7 }
-    ensures value { IForm result immediate rs1 funct3 rd opcode }
-    ensures only { (w : ℕ) → w < 2 ^ 32 → IForm w immediate rs1 funct3 rd opcode → w ≡ result }
-    ensures computed { result ≡ i_word immediate rs1 funct3 rd opcode }
+    ensures { IsOnlyWord (λ w. IForm w immediate rs1 funct3 rd opcode) (i_word immediate rs1 funct3 rd opcode) result }
 {
     let immediate = immediate.word();
     placed(
@@ -149,9 +138,7 @@ fn i_form(immediate: Immediate, rs1: Register, funct3: u32, rd: Register, opcode
 /// The S form, of stores.
 fn s_form(offset: Immediate, rs2: Register, rs1: Register, funct3: u32) -> u32
     requires { funct3 < 2 ^ 3 }
-    ensures value { SForm result offset rs2 rs1 funct3 0b0100011 }
-    ensures only { (w : ℕ) → w < 2 ^ 32 → SForm w offset rs2 rs1 funct3 0b0100011 → w ≡ result }
-    ensures computed { result ≡ s_word offset rs2 rs1 funct3 0b0100011 }
+    ensures { IsOnlyWord (λ w. SForm w offset rs2 rs1 funct3 0b0100011) (s_word offset rs2 rs1 funct3 0b0100011) result }
 {
     let offset = offset.word();
     placed(
@@ -167,9 +154,7 @@ fn s_form(offset: Immediate, rs2: Register, rs1: Register, funct3: u32) -> u32
 /// The B form, of branches.
 fn b_form(offset: BranchOffset, rs2: Register, rs1: Register, funct3: u32) -> u32
     requires { funct3 < 2 ^ 3 }
-    ensures value { BForm result offset rs2 rs1 funct3 0b1100011 }
-    ensures only { (w : ℕ) → w < 2 ^ 32 → BForm w offset rs2 rs1 funct3 0b1100011 → w ≡ result }
-    ensures computed { result ≡ b_word offset rs2 rs1 funct3 0b1100011 }
+    ensures { IsOnlyWord (λ w. BForm w offset rs2 rs1 funct3 0b1100011) (b_word offset rs2 rs1 funct3 0b1100011) result }
 {
     let offset = offset.word();
     let high = (offset >> 31) * 64 + (offset >> 5) % 64;
@@ -180,18 +165,14 @@ fn b_form(offset: BranchOffset, rs2: Register, rs1: Register, funct3: u32) -> u3
 /// The U form.
 fn u_form(immediate: UpperImmediate, rd: Register, opcode: u32) -> u32
     requires { opcode < 2 ^ 7 }
-    ensures value { UForm result immediate rd opcode }
-    ensures only { (w : ℕ) → w < 2 ^ 32 → UForm w immediate rd opcode → w ≡ result }
-    ensures computed { result ≡ u_word immediate rd opcode }
+    ensures { IsOnlyWord (λ w. UForm w immediate rd opcode) (u_word immediate rd opcode) result }
 {
     immediate.word() + rd.number() as u32 * (1 << 7) + opcode
 }
 
 /// The J form, of JAL.
 fn j_form(offset: JumpOffset, rd: Register) -> u32
-    ensures value { JForm result offset rd 0b1101111 }
-    ensures only { (w : ℕ) → w < 2 ^ 32 → JForm w offset rd 0b1101111 → w ≡ result }
-    ensures computed { result ≡ j_word offset rd 0b1101111 }
+    ensures { IsOnlyWord (λ w. JForm w offset rd 0b1101111) (j_word offset rd 0b1101111) result }
 {
     let offset = offset.word();
     let high = (offset >> 31) * (1 << 31) + (offset >> 1) % 1024 * (1 << 21);
@@ -207,9 +188,7 @@ fn fence_form(
     rs1: Register,
     rd: Register,
 ) -> u32
-    ensures value { FenceForm result fm pred succ rs1 0b000 rd 0b0001111 }
-    ensures only { (w : ℕ) → w < 2 ^ 32 → FenceForm w fm pred succ rs1 0b000 rd 0b0001111 → w ≡ result }
-    ensures computed { result ≡ fence_word fm pred succ rs1 0b000 rd 0b0001111 }
+    ensures { IsOnlyWord (λ w. FenceForm w fm pred succ rs1 0b000 rd 0b0001111) (fence_word fm pred succ rs1 0b000 rd 0b0001111) result }
 {
     let order = fm.number() as u32 * (1 << 8)
         + pred.number() as u32 * (1 << 4)
