@@ -1,4 +1,4 @@
-use Rattle.std.specs.Prelude.{◌≡◌, ◌≢◌, ℕ, ◌+◌, ◌-◌, ◌*◌, ◌/◌, ◌%◌, ◌≤◌, ◌==◌, if◌then◌else◌, List, length, slice_index, sum_by}
+use Rattle.std.specs.Prelude.{◌≡◌, ◌≢◌, ℕ, ◌+◌, ◌-◌, ◌*◌, ◌/◌, ◌%◌, ◌≤◌, ◌==◌, if◌then◌else◌, Option, MatchOption, List, length, slice_index, sum_by}
 
 -- which leaf a page number's group has, counted from 1, and 0 where it has none
 abbrev pub leaf_of : List ℕ → ℕ → ℕ
@@ -8,6 +8,10 @@ leaf_of groups number = slice_index groups (number / 1024)
 unfoldable pub place_in : List ℕ → List ℕ → ℕ → ℕ
 place_in groups leaves number =
     if leaf_of groups number == 0 then 0 else slice_index leaves ((leaf_of groups number - 1) * 1024 + number % 1024)
+
+-- what is answered for a place that is counted from 1: the place, and none for 0
+abbrev pub AnswersPlace : Option ℕ → ℕ → Type 0
+AnswersPlace place counted = MatchOption place (counted ≡ 0) (λ place. counted ≡ place + 1)
 
 -- a page number's group has a leaf
 abbrev pub has_leaf : List ℕ → ℕ → Type 0

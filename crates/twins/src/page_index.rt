@@ -19,7 +19,8 @@ pub(crate) struct PageIndex {
 }
 
 impl PageIndex {
-    ghost use Rattle.std.specs.Prelude.{◌≡◌, ◌≢◌, ℕ, List, [], ◌∷◌, ◌++◌, ◌+◌, ◌^◌, ◌<◌, None, OnOk, MatchOption, length};
+    ghost use Rattle.std.specs.Prelude.{◌≡◌, ◌≢◌, ℕ, List, [], ◌∷◌, ◌++◌, ◌+◌, ◌^◌, ◌<◌, None, OnOk, length};
+    ghost use Rattle.twins.specs.Places.{AnswersPlace};
     ghost use Rattle.twins.specs.PrivatePages.{place_with, HasRoom};
 
     /// An index of no page.
@@ -33,7 +34,7 @@ impl PageIndex {
     #[inline(always)]
     pub(crate) fn place(&self, pages: &[PrivatePage], number: u32) -> Option<usize>
         requires { number < 2 ^ 20 }
-        ensures { MatchOption result (place_with self.now.table (numbers_of pages.now) number ≡ 0) (λ place. place_with self.now.table (numbers_of pages.now) number ≡ place + 1) }
+        ensures { AnswersPlace result (place_with self.now.table (numbers_of pages.now) number) }
     {
         match &self.table {
             None => place_among(pages, number),
@@ -51,7 +52,8 @@ impl PageIndex {
         requires number { number < 2 ^ 20 }
         requires listed { AreListed (place_with self.old.table (numbers_of pages.now)) (numbers_of pages.now) }
         requires none { place_with self.old.table (numbers_of pages.now) number ≡ 0 }
-        ensures same { (other : ℕ) → place_with self.new.table (numbers_of pages.now) other ≡ place_with self.old.table (numbers_of pages.now) other }
+        ensures same { (other : ℕ) →
+            place_with self.new.table (numbers_of pages.now) other ≡ place_with self.old.table (numbers_of pages.now) other }
         ensures room { OnOk result (HasRoom self.new.table number) }
     {
         if self.table.is_none() && pages.len() >= FEW {
@@ -68,8 +70,10 @@ impl PageIndex {
         requires number { number < 2 ^ 20 }
         requires place { place < 2 ^ 20 }
         requires room { HasRoom self.old.table number }
-        ensures set { (numbers : List ℕ) → length numbers ≡ place → place_with self.old.table numbers number ≡ 0 → place_with self.new.table (numbers ++ number ∷ []) number ≡ place + 1 }
-        ensures others { (numbers : List ℕ) (other : ℕ) → other ≢ number → place_with self.new.table (numbers ++ number ∷ []) other ≡ place_with self.old.table numbers other }
+        ensures set { (numbers : List ℕ) → length numbers ≡ place → place_with self.old.table numbers number ≡ 0 →
+            place_with self.new.table (numbers ++ number ∷ []) number ≡ place + 1 }
+        ensures others { (numbers : List ℕ) (other : ℕ) → other ≢ number →
+            place_with self.new.table (numbers ++ number ∷ []) other ≡ place_with self.old.table numbers other }
     {
         if let Some(table) = &mut self.table {
             table.set(number, place);

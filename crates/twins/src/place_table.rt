@@ -22,8 +22,8 @@ pub(crate) struct PlaceTable {
 
 #[tactic(auto, using(crate::proofs::Places::places))]
 impl PlaceTable {
-    ghost use Rattle.std.specs.Prelude.{◌≡◌, ◌≢◌, ◌+◌, ◌^◌, ◌<◌, ℕ, MatchOption, OnOk};
-    ghost use Rattle.twins.specs.Places.{has_leaf};
+    ghost use Rattle.std.specs.Prelude.{◌≡◌, ◌≢◌, ◌+◌, ◌^◌, ◌<◌, ℕ, OnOk};
+    ghost use Rattle.twins.specs.Places.{has_leaf, AnswersPlace};
     ghost use Rattle.twins.specs.PlaceTable.{place_of};
 
     /// No number has a place.
@@ -40,7 +40,7 @@ impl PlaceTable {
     #[inline(always)]
     pub(crate) fn place(&self, number: u32) -> Option<usize>
         requires { number < 2 ^ 20 }
-        ensures { MatchOption result (place_of self.now number ≡ 0) (λ place. place_of self.now number ≡ place + 1) }
+        ensures { AnswersPlace result (place_of self.now number) }
     {
         let leaf = usize::from(self.groups[number as usize / LEAF]);
         if leaf == 0 {
