@@ -1,4 +1,4 @@
-use Rattle.std.specs.Prelude.{◌≡◌, ℕ, ◌%◌, ◌==◌, if◌then◌else◌, Option, Some, None, MatchOption, Bool, List, length, slice_index, option_map}
+use Rattle.std.specs.Prelude.{◌≡◌, ℕ, ◌%◌, ◌==◌, if◌then◌else◌, Option, Some, None, MatchOption, Result, OnOk, OnErr, Bool, List, length, slice_index, option_map}
 use Rattle.std.specs.Option.{option_and_then}
 use Rattle.guest_memory.specs.Memory.{Memory}
 use Rattle.guest_memory.specs.Layout.{page_of, page_size}
@@ -18,6 +18,11 @@ memory_of_pages pages address =
 -- the pages with what one number has replaced by what is made of it
 unfoldable pub with_page : ℕ → (Option PageValue → Option PageValue) → PageMap → PageMap
 with_page number made pages other = if number == other then made (pages other) else pages other
+
+-- the page of one number was replaced by what is made of it or, where that failed, the pages are as they were
+pub record ChangesPage {E : Type 0} (old : PageMap) (number : ℕ) (made : Option PageValue → Option PageValue) (new : PageMap) (result : Result (Unit {0}) E) : Type 0 where
+  pub changed : OnOk result (new ≡ with_page number made old)
+  pub kept : OnErr result (new ≡ old)
 
 -- a page with the bytes from an offset on replaced by a part
 abbrev pub with_part_in : ℕ → List ℕ → PageValue → PageValue

@@ -145,7 +145,8 @@ pub fn fetch<M: PageMemory>(memory: &M, address: u32) -> Option<u32>
 /// Stores a number at an address, as `GuestMemory` says of its width.
 #[inline(always)]
 pub fn store<M: PageStore>(memory: &mut M, address: u32, number: Number) -> Result<(), StoreFault>
-    ensures stores { Stores result (memory_of_pages (M.pages memory.old)) (stored (width_of number) (memory_of_pages (M.pages memory.old)) address (value_of number)) (memory_of_pages (M.pages memory.new)) }
+    ensures stores { Stores result (memory_of_pages (M.pages memory.old))
+        (stored (width_of number) (memory_of_pages (M.pages memory.old)) address (value_of number)) (memory_of_pages (M.pages memory.new)) }
     ensures grows { IsOutOfMemory result → M.takes memory.old address }
     ensures settles { (other : ℕ) → M.takes memory.new other → M.takes memory.old other }
 {

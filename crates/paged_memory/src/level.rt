@@ -1,8 +1,8 @@
 //! The levels of a page tree, and what a change does to one.
-ghost use Rattle.std.specs.Prelude.{◌≡◌, ◌<◌, ℕ, Bool, Option, if◌then◌else◌, option_map, OnOk, OnErr};
+ghost use Rattle.std.specs.Prelude.{◌≡◌, ◌<◌, ℕ, Bool, Option, option_map, OnOk, OnErr};
 ghost use Rattle.std.specs.Arc.{arc_value};
 ghost use Rattle.paged_memory.specs.Page.{PageValue};
-ghost use Rattle.paged_memory.specs.PageTable.{pages_of_entry};
+ghost use Rattle.paged_memory.specs.PageTable.{pages_of_entry, changed_where};
 
 use crate::page::Page;
 use std::alloc::{AllocError, Global};
@@ -46,7 +46,8 @@ pub(crate) trait Level: Drop {
         number: u32,
         change: C,
     ) -> Result<(), AllocError>
-        ensures changed { OnOk result ((other : ℕ) → pages_of_entry pages entry.new other ≡ (if agree number other then C.makes change (pages_of_entry pages entry.old other) else pages_of_entry pages entry.old other)) }
+        ensures changed { OnOk result ((other : ℕ) →
+            pages_of_entry pages entry.new other ≡ changed_where (agree number) (C.makes change) (pages_of_entry pages entry.old) other) }
         ensures kept { OnErr result ((other : ℕ) → pages_of_entry pages entry.new other ≡ pages_of_entry pages entry.old other) };
 }
 

@@ -1,7 +1,7 @@
 //! A node of a page tree: 32 shared children. A change copies the nodes that others share.
-ghost use Rattle.std.specs.Prelude.{◌≡◌, ◌/◌, ◌==◌, ◌&&◌, ℕ, if◌then◌else◌, None, OnOk, OnErr, length, slice_index_or};
+ghost use Rattle.std.specs.Prelude.{◌≡◌, ◌/◌, ◌==◌, ◌&&◌, ℕ, None, OnOk, OnErr, length, slice_index_or};
 ghost use Rattle.std.specs.Arc.{arc_value};
-ghost use Rattle.paged_memory.specs.PageTable.{pages_of_entry, pages_of_node};
+ghost use Rattle.paged_memory.specs.PageTable.{pages_of_entry, pages_of_node, changed_where, agree_below};
 
 use crate::level::{Change, Level};
 use crate::page::Page;
@@ -32,7 +32,8 @@ impl<T: Level> Node<T> {
     /// Gives an empty node the children of another one. Both share them.
     fn share_children(&mut self, other: &Self) -> Result<(), AllocError>
         requires { (index : ℕ) → slice_index_or self.old.entries index None ≡ None }
-        ensures { OnOk result ((number : ℕ) → pages_of_node T.pages T.digit self.new.entries number ≡ pages_of_node T.pages T.digit other.now.entries number) }
+        ensures { OnOk result ((number : ℕ) →
+            pages_of_node T.pages T.digit self.new.entries number ≡ pages_of_node T.pages T.digit other.now.entries number) }
     {
         for index in 0..ENTRIES {
             if let Some(child) = &other.entries[index] {
@@ -50,7 +51,9 @@ impl<T: Level> Node<T> {
         number: u32,
         change: C,
     ) -> Result<(), AllocError>
-        ensures changed { OnOk result ((other : ℕ) → pages_of_node T.pages T.digit (arc_value shared.new).entries other ≡ (if (T.digit number == T.digit other) && T.agree number other then C.makes change (pages_of_node T.pages T.digit (arc_value shared.old).entries other) else pages_of_node T.pages T.digit (arc_value shared.old).entries other)) }
+        ensures changed { OnOk result ((other : ℕ) → pages_of_node T.pages T.digit (arc_value shared.new).entries other ≡
+            changed_where (agree_below T.digit T.agree number) (C.makes change)
+            (pages_of_node T.pages T.digit (arc_value shared.old).entries) other) }
         ensures kept { OnErr result (shared.new ≡ shared.old) }
     {
         let mut node = Node::empty();
@@ -69,7 +72,8 @@ impl<T: Level> Node<T> {
         change: C,
     ) -> Result<(), AllocError>
         requires { entry.old ≡ None }
-        ensures changed { OnOk result ((other : ℕ) → pages_of_entry (λ node. pages_of_node T.pages T.digit node.entries) entry.new other ≡ (if (T.digit number == T.digit other) && T.agree number other then C.makes change None else None)) }
+        ensures changed { OnOk result ((other : ℕ) → pages_of_entry (λ node. pages_of_node T.pages T.digit node.entries) entry.new other ≡
+            changed_where (agree_below T.digit T.agree number) (C.makes change) (λ _. None) other) }
         ensures kept { OnErr result (entry.new ≡ entry.old) }
     {
         let mut node = Node::empty();
@@ -85,8 +89,10 @@ impl<T: Level> Node<T> {
         number: u32,
         change: C,
     ) -> Result<(), AllocError>
-        ensures changed { OnOk result ((other : ℕ) → pages_of_node T.pages T.digit self.new.entries other ≡ (if (T.digit number == T.digit other) && T.agree number other then C.makes change (pages_of_node T.pages T.digit self.old.entries other) else pages_of_node T.pages T.digit self.old.entries other)) }
-        ensures kept { OnErr result ((other : ℕ) → pages_of_node T.pages T.digit self.new.entries other ≡ pages_of_node T.pages T.digit self.old.entries other) }
+        ensures changed { OnOk result ((other : ℕ) → pages_of_node T.pages T.digit self.new.entries other ≡
+            changed_where (agree_below T.digit T.agree number) (C.makes change) (pages_of_node T.pages T.digit self.old.entries) other) }
+        ensures kept { OnErr result ((other : ℕ) →
+            pages_of_node T.pages T.digit self.new.entries other ≡ pages_of_node T.pages T.digit self.old.entries other) }
     {
         T::change(&mut self.entries[T::index(number)], alloc, number, change)
     }

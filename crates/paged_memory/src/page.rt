@@ -119,7 +119,9 @@ impl Page {
     fn fill(&mut self, offset: usize, bytes: &[u8])
         requires { offset < page_size }
         ensures perm { self.new.perm ≡ self.old.perm }
-        ensures bytes { (index : ℕ) → index < page_size → slice_index self.new.bytes index ≡ (if is_among offset (length bytes.now) index then slice_index bytes.now (index - offset) else slice_index self.old.bytes index) }
+        ensures bytes { (index : ℕ) → index < page_size → slice_index self.new.bytes index ≡
+            (if is_among offset (length bytes.now) index then slice_index bytes.now (index - offset)
+            else slice_index self.old.bytes index) }
     {
         let count = bytes.len().min(PAGE_SIZE as usize - offset);
         self.bytes[offset..offset + count].copy_from_slice(&bytes[..count]);
@@ -129,7 +131,8 @@ impl Page {
     pub(crate) fn of_segment(segment: &Segment, number: u32) -> Self
         requires { (first_page segment.now ≤ number) × (number ≤ last_page segment.now) }
         ensures perm { result.perm ≡ segment.now.perm }
-        ensures bytes { (offset : ℕ) → offset < page_size → slice_index result.bytes offset ≡ (cell_at (page_size * number + offset) segment.now).byte }
+        ensures bytes { (offset : ℕ) → offset < page_size →
+            slice_index result.bytes offset ≡ (cell_at (page_size * number + offset) segment.now).byte }
     {
         let start = segment.vaddr();
         let page_start = number * PAGE_SIZE;

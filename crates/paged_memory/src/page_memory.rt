@@ -38,7 +38,8 @@ pub trait PageStore: PageMemory {
     fn write(&mut self, address: u32, number: Number) -> Result<(), AllocError>
         requires mapped { IsSome (Self.pages self.old (page_of address)) }
         requires inside { address % page_size + width_of number ≤ page_size }
-        ensures written { OnOk result (Self.pages self.new ≡ with_number_at (width_of number) address (value_of number) (Self.pages self.old)) }
+        ensures written { OnOk result (Self.pages self.new ≡
+            with_number_at (width_of number) address (value_of number) (Self.pages self.old)) }
         ensures kept { OnErr result (Self.pages self.new ≡ Self.pages self.old) }
         ensures takes { IsErr result → takes self.old address }
         ensures settles { (other : ℕ) → takes self.new other → takes self.old other };

@@ -1,5 +1,5 @@
 //! A tree of shared pages, four levels deep. Clones share it whole.
-ghost use Rattle.std.specs.Prelude.{◌≡◌, ◌^◌, ◌<◌, None, IfOk, OnOk, OnErr, option_map};
+ghost use Rattle.std.specs.Prelude.{◌≡◌, ◌^◌, ◌<◌, None, IfOk, option_map};
 ghost use Rattle.std.specs.Arc.{arc_value};
 
 use crate::level::{Change, Level};
@@ -18,7 +18,7 @@ pub(crate) struct PageTree {
 
 #[tactic(auto, unfolding(crate::specs::PageTree::pages_of))]
 impl PageTree {
-    ghost use Rattle.paged_memory.specs.PageMap.{with_page, memory_of_pages};
+    ghost use Rattle.paged_memory.specs.PageMap.{memory_of_pages, ChangesPage};
     ghost use Rattle.paged_memory.specs.PageTree.{pages_of};
 
     /// No page mapped.
@@ -62,8 +62,7 @@ impl PageTree {
     /// Changes the page of a number.
     pub(crate) fn change<C: Change>(&mut self, number: u32, change: C) -> Result<(), AllocError>
         requires { number < 2 ^ 20 }
-        ensures changed { OnOk result (pages_of self.new ≡ with_page number (C.makes change) (pages_of self.old)) }
-        ensures kept { OnErr result (pages_of self.new ≡ pages_of self.old) }
+        ensures { ChangesPage (pages_of self.old) number (C.makes change) (pages_of self.new) result }
     {
         Node::change(&mut self.root, self.alloc, number, change)
     }

@@ -10,9 +10,10 @@ on-err : {A E : Type 0} (answer : Result A E) {P Q : Type 0} → (P → Q) → O
 on-err (Ok done) then held = tt
 on-err (Err error) then held = then held
 
-pub returns-clause-changed : goal.returns-clause-changed
-returns-clause-changed g c =
-    on-ok c.change.result (pages_of-changed c.args.self.now (record { root = c.change.new.entry; alloc = c.args.self.now.alloc }) c.args.number (g.C.Change.makes c.args.change) c.requires) c.change.ensures.changed
-
-pub returns-clause-kept : goal.returns-clause-kept
-returns-clause-kept g c = on-err c.change.result (pages_of-kept c.args.self.now (record { root = c.change.new.entry; alloc = c.args.self.now.alloc })) c.change.ensures.kept
+pub returns : goal.returns
+returns g c = record {
+  changed = on-ok c.change.result
+      (pages_of-changed c.args.self.now (record { root = c.change.new.entry; alloc = c.args.self.now.alloc }) c.args.number (g.C.Change.makes c.args.change) c.requires)
+      c.change.ensures.changed;
+  kept = on-err c.change.result (pages_of-kept c.args.self.now (record { root = c.change.new.entry; alloc = c.args.self.now.alloc })) c.change.ensures.kept;
+}
