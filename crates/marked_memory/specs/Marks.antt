@@ -1,6 +1,7 @@
 -- A memory with marks: a marked access is one that it doesn't permit.
-use Rattle.std.specs.Prelude.{ℕ, zero, suc, ◌+◌, ◌/◌, ◌%◌, Bool, true, false, not, ◌&&◌, ◌||◌, ◌==◌, if◌then◌else◌, nat_le, nat_lt, List, Some, option_map}
+use Rattle.std.specs.Prelude.{◌≡◌, ℕ, zero, suc, ◌+◌, ◌*◌, ◌/◌, ◌%◌, ◌^◌, ◌≤◌, Bool, true, false, not, ◌&&◌, ◌||◌, ◌==◌, if◌then◌else◌, nat_le, nat_lt, List, length, Some, option_map}
 use Rattle.std.specs.List.{list_any}
+use Rattle.decoded_code.specs.declared.code_slice.CodeSlice.{CodeSlice}
 use Rattle.decoder.specs.declared.instr.Instr.{Instr}
 use Rattle.decoder.specs.declared.instr.Instr.TheVariants.{Ebreak}
 use Rattle.guest_memory.specs.Memory.{Memory}
@@ -73,3 +74,8 @@ kept places below address =
 -- an entry of decoded code, EBREAK if it is marked
 abbrev pub unless_marked : Places → ℕ → Instr → Instr
 unless_marked places address entry = if any_marked (is_fetch_marked places) 4 address then Ebreak else entry
+
+-- decoded code begins at the address of a word, and ends within the memory
+pub record IsInMemory (code : CodeSlice) : Type 0 where
+  pub aligned : code.start % 4 ≡ 0
+  pub fits : code.start + 4 * length code.entries.now ≤ 2 ^ 32

@@ -34,7 +34,8 @@ pub fn run_to_mark(
     most: u64,
 ) -> Result<Ran, AllocError>
     requires { HasCode code.start code.entries.now (cells_of view) }
-    ensures runs { IfOk result (λ ran. RunsUnmarked (places_of marks.entry) hart.old (cells_of view) ran.count hart.new (cells_of ran.view)) }
+    ensures runs { IfOk result (λ ran.
+        RunsUnmarked (places_of marks.entry) hart.old (cells_of view) ran.count hart.new (cells_of ran.view)) }
     ensures base { IfOk result (λ ran. snapshots.cells_of (base_of ran.view) ≡ snapshots.cells_of (base_of view)) }
     ensures within { IfOk result (λ ran. ran.count ≤ most) }
 {
