@@ -41,6 +41,10 @@ pub record Knows (progress : Progress) (done : List TimedTurn) : Type 0 where
   pub in_use : length progress.threads.items ≡ in_use done
   pub threads : (thread : ℕ) → state_at progress.threads.items thread ≡ thread_state done thread
 
+-- a text has what is told of the turns that are known appended
+abbrev pub AppendsOf : Progress → (List TimedTurn → List ℕ) → List ℕ → List ℕ → Type 0
+AppendsOf progress told old new = (done : List TimedTurn) → Knows progress done → new ≡ old ++ told done
+
 -- what the writer hasn't taken yet
 abbrev pub unsent : {W : Type 0} → Outlet W → List ℕ
 unsent outlet = drop outlet.sent (string_bytes outlet.text)
@@ -67,3 +71,7 @@ pub record IsTimeline {W : Type 0} (contents : W → Option (List ℕ)) (recorde
 -- A recorder that ran out of memory or couldn't write records nothing any more, and its end fails.
 abbrev pub Records : {W : Type 0} → (W → Option (List ℕ)) → TimelineRecorder W → List Turn → List Change → Type 0
 Records contents recorder turns changes = recorder.failure ≡ None → IsTimeline contents recorder turns changes
+
+-- what a recorder has recorded stays recorded
+abbrev pub KeepsRecords : {W : Type 0} → (W → Option (List ℕ)) → TimelineRecorder W → TimelineRecorder W → Type 0
+KeepsRecords contents old new = (turns : List Turn) (changes : List Change) → Records contents old turns changes → Records contents new turns changes

@@ -1,10 +1,10 @@
 //! What is known of a run after some of its turns.
-ghost use Rattle.std.specs.Prelude.{◌≡◌, ◌++◌, List, [], ◌∷◌, IfOk, OnOk, if◌then◌else◌};
+ghost use Rattle.std.specs.Prelude.{◌≡◌, List, [], ◌∷◌, IfOk, OnOk, if◌then◌else◌};
 ghost use Rattle.std.specs.String.{string_bytes};
 ghost use Rattle.trace_events.specs.Ending.{ending};
 ghost use Rattle.trace_events.specs.Events as event;
 ghost use Rattle.trace_events.specs.Events.{counter_events, events, phase_events};
-ghost use Rattle.trace_events.specs.Recording.{Knows, phase_at};
+ghost use Rattle.trace_events.specs.Recording.{AppendsOf, Knows, phase_at};
 ghost use Rattle.trace_events.specs.Times.{begin, keeps_by, newest, number_by, time_by, timed_turn};
 ghost use Rattle.trace_events.specs.declared.timed_turn.TimedTurn.{TimedTurn as TimedRecord};
 
@@ -75,7 +75,7 @@ impl Progress {
 
     /// Appends the events of the next turn.
     pub(crate) fn write(&self, text: &mut String, timed: &TimedTurn) -> Result<(), TurnFault>
-        ensures { OnOk result ((done : List TimedRecord) → Knows self.now done → string_bytes text.new ≡ string_bytes text.old ++ events done timed.now) }
+        ensures { OnOk result (AppendsOf self.now (λ done. events done timed.now) (string_bytes text.old) (string_bytes text.new)) }
     {
         self.write_phase_before(text, timed)?;
         let state = thread_at(&self.threads, timed.turn.thread);
@@ -99,7 +99,7 @@ impl Progress {
 
     /// Appends what follows the events of the last turn.
     pub(crate) fn write_ending(&self, text: &mut String) -> Result<(), AllocError>
-        ensures { OnOk result ((done : List TimedRecord) → Knows self.now done → string_bytes text.new ≡ string_bytes text.old ++ ending done) }
+        ensures { OnOk result (AppendsOf self.now ending (string_bytes text.old) (string_bytes text.new)) }
     {
         self.write_phase(text)?;
         write_unended(text, &self.threads, time_of(self.last))?;
@@ -111,7 +111,7 @@ impl Progress {
 
     /// Appends the counters of the last turn's phase, if the next turn begins another.
     fn write_phase_before(&self, text: &mut String, timed: &TimedTurn) -> Result<(), AllocError>
-        ensures { OnOk result ((done : List TimedRecord) → Knows self.now done → string_bytes text.new ≡ string_bytes text.old ++ phase_events done timed.now) }
+        ensures { OnOk result (AppendsOf self.now (λ done. phase_events done timed.now) (string_bytes text.old) (string_bytes text.new)) }
     {
         if self.is_in_phase(timed.turn.phase) {
             return Ok(());
@@ -121,7 +121,8 @@ impl Progress {
 
     /// Appends the counters of the last turn's phase.
     fn write_phase(&self, text: &mut String) -> Result<(), AllocError>
-        ensures { OnOk result ((done : List TimedRecord) → Knows self.now done → string_bytes text.new ≡ string_bytes text.old ++ counter_events done (newest done)) }
+        ensures { OnOk result (AppendsOf self.now (λ done. counter_events done (newest done))
+            (string_bytes text.old) (string_bytes text.new)) }
     {
         match self.last {
             Some(last) => {
@@ -159,7 +160,8 @@ impl Progress {
 
     /// What is counted of the phase of the next turn once that is done.
     fn phase_with(&self, timed: &TimedTurn) -> Result<Phase, TurnFault>
-        ensures { IfOk result (λ phase. (done : List TimedRecord) → Knows self.now done → phase ≡ phase_at (timed.now ∷ done) timed.now.turn.phase) }
+        ensures { IfOk result (λ phase. (done : List TimedRecord) → Knows self.now done →
+            phase ≡ phase_at (timed.now ∷ done) timed.now.turn.phase) }
     {
         let before = self.phase_so_far(timed.turn.phase);
         Ok(Phase {

@@ -25,7 +25,8 @@ fn set_thread(
     thread: u32,
     state: ThreadState,
 ) -> Result<(), AllocError>
-    ensures set { OnOk result ((other : ℕ) → state_at threads.new.items other ≡ (if other == thread then state else state_at threads.old.items other)) }
+    ensures set { OnOk result ((other : ℕ) →
+        state_at threads.new.items other ≡ (if other == thread then state else state_at threads.old.items other)) }
     ensures grown { OnOk result (length threads.new.items ≡ max (length threads.old.items) (thread + 1)) }
 {
     let place = thread as usize;
@@ -42,7 +43,8 @@ pub(crate) fn note_turn(
     freed: &[u32],
     timed: TimedTurn,
 ) -> Result<(), TurnFault>
-    ensures noted { OnOk result ((other : ℕ) → state_at threads.new.items other ≡ state_after freed.now timed other (state_at threads.old.items other)) }
+    ensures noted { OnOk result ((other : ℕ) →
+        state_at threads.new.items other ≡ state_after freed.now timed other (state_at threads.old.items other)) }
     ensures grown { OnOk result (length threads.new.items ≡ max (above (length threads.old.items) freed.now) (timed.turn.thread + 1)) }
 {
     note_due(threads, freed, timed)?;
@@ -68,7 +70,8 @@ fn note_due(
     freed: &[u32],
     cause: TimedTurn,
 ) -> Result<(), AllocError>
-    ensures noted { OnOk result ((other : ℕ) → state_at threads.new.items other ≡ state_due (is_among other freed.now) cause (state_at threads.old.items other)) }
+    ensures noted { OnOk result ((other : ℕ) →
+        state_at threads.new.items other ≡ state_due (is_among other freed.now) cause (state_at threads.old.items other)) }
     ensures grown { OnOk result (length threads.new.items ≡ above (length threads.old.items) freed.now) }
 {
     for thread in freed {

@@ -36,7 +36,7 @@ impl<W: Write> TimelineRecorder<W> {
     ghost use Rattle.token.specs.Change.{Change};
     ghost use Rattle.token.specs.declared.turn.Turn.{Turn as TurnRecord};
     ghost use Rattle.tracer.specs.Recording.{Holds};
-    ghost use Rattle.trace_events.specs.Recording.{Records};
+    ghost use Rattle.trace_events.specs.Recording.{KeepsRecords, Records};
     ghost use Rattle.trace_events.specs.Timeline.{timeline_text};
 
     /// A recorder that has recorded no turn, and writes to this writer, which holds nothing yet.
@@ -62,7 +62,8 @@ impl<W: Write> TimelineRecorder<W> {
     ///
     /// Out of memory, a write that failed, or what made an earlier call fail.
     pub fn finish(&mut self) -> Result<(), TurnFault>
-        ensures { OnOk result ((turns : List TurnRecord) (changes : List Change) → Records W.contents self.old turns changes → Holds W.contents self.new.outlet.writer (timeline_text turns changes)) }
+        ensures { OnOk result ((turns : List TurnRecord) (changes : List Change) → Records W.contents self.old turns changes →
+            Holds W.contents self.new.outlet.writer (timeline_text turns changes)) }
     {
         self.make()?;
         self.line.clear();
@@ -88,7 +89,7 @@ impl<W: Write> TimelineRecorder<W> {
 
     /// Makes the events of the last turn.
     fn make(&mut self) -> Result<(), TurnFault>
-        ensures kept { (turns : List TurnRecord) (changes : List Change) → Records W.contents self.old turns changes → Records W.contents self.new turns changes }
+        ensures kept { KeepsRecords W.contents self.old self.new }
         ensures made { OnOk result (self.new.last ≡ None) }
         ensures whole { OnOk result (self.new.failure ≡ None) }
     {
@@ -111,7 +112,7 @@ impl<W: Write> TimelineRecorder<W> {
 
     /// Writes out what is buffered where that is much.
     fn send(&mut self) -> Result<(), TurnFault>
-        ensures kept { (turns : List TurnRecord) (changes : List Change) → Records W.contents self.old turns changes → Records W.contents self.new turns changes }
+        ensures kept { KeepsRecords W.contents self.old self.new }
         ensures last { self.new.last ≡ self.old.last }
         ensures failure { OnOk result (self.new.failure ≡ self.old.failure) }
     {
