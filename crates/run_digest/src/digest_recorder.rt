@@ -53,7 +53,8 @@ impl DigestRecorder {
         output: &[u8],
         memory: &Snapshot,
     ) -> Result<String, AllocError>
-        ensures { IfOk result (λ text. (turns : List TurnRecord) → Digests self turns → string_bytes text ≡ digest_text outcome output.now (cells_of memory.now) (trace_text_of turns)) }
+        ensures { IfOk result (λ text. (turns : List TurnRecord) → Digests self turns →
+            string_bytes text ≡ digest_text outcome output.now (cells_of memory.now) (trace_text_of turns)) }
     {
         let mut recorder = self;
         recorder.make_line()?;

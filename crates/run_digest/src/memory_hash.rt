@@ -39,7 +39,8 @@ fn add_page(
 ) -> Result<(), AllocError>
     requires { number < 2 ^ 20 }
     ensures size { length page.now.bytes ≡ 4096 }
-    ensures added { OnOk result ((message : List ℕ) → Holds256 hasher.old message → Holds256 hasher.new (message ++ page_message number page.now)) }
+    ensures added { OnOk result ((message : List ℕ) →
+        Holds256 hasher.old message → Holds256 hasher.new (message ++ page_message number page.now)) }
 {
     let permission = permission_byte(page.perm());
     address.clear();
