@@ -1,6 +1,7 @@
 -- The texts of a run, one after the other.
-use Rattle.std.proofs.Common.{◌≡◌, ℕ, Option, Some, None, Result, Ok, Err, List, OnOk, IfOk, IsOk, IfSome, IfErr, IsSome, is_some, ap, inr, refl, subst, sym, ◌∙◌, [], ◌++◌, append-nil}
+use Rattle.std.proofs.Common.{◌≡◌, ℕ, Option, Some, None, Result, Ok, Err, List, OnOk, IfOk, IsOk, IfSome, IfErr, IsSome, is_some, ap, inr, refl, subst, sym, ◌∙◌, [], ◌∷◌, ◌++◌, append-nil}
 use Rattle.std.proofs.KnownBytes.{Appends-trans}
+use Rattle.std.specs.Borrow.{Bor}
 use Rattle.std.specs.Io.KnownBytes.{Appends}
 use Rattle.std.specs.String.{string_bytes}
 use Rattle.output_files.specs.Content.{Content, Has}
@@ -26,7 +27,7 @@ use Rattle.core_file.specs.Core.{IsCoreOf}
 use Rattle.core_file.specs.Shown.{core_threads}
 use Rattle.core_file.specs.declared.core_thread.CoreThread.{CoreThread}
 use Rattle.command_requests.specs.Destination.{IsApart, IsFiled, KeepsButFileOf, KeepsButPartFor, Prints}
-use Rattle.command_outputs.specs.Records.{AreLastWritten, AreMadeWritten, AreRestWritten, AreTimedWritten, AreUnwritten, AreUnwrittenLast, AreUnwrittenMade, AreUnwrittenRest, AreUnwrittenTimed, AreWritten, IsCoreAt, IsPut, IsReportOf, IsUnwrittenTo, KeepsButLast, KeepsButMade, KeepsButRest, KeepsButTimed, KeepsUnlessPrinted, Left, left_by}
+use Rattle.command_outputs.specs.Records.{AreLastWritten, AreMadeWritten, AreRestWritten, AreTimedWritten, AreUnwritten, AreUnwrittenLast, AreUnwrittenMade, AreUnwrittenRest, AreUnwrittenTimed, AreWritten, IsCoreAt, IsPut, IsReportOf, IsUnwrittenTo, Elsewhere, KeepsButFilesOf, KeepsUnlessPrinted, Left, last_destinations, left_by, made_destinations, rest_destinations, timed_destinations}
 use Rattle.command_requests.specs.declared.destination.Destination.{Destination}
 use Rattle.command_requests.specs.declared.destination.Destination.TheVariants.{StandardOutput, File}
 use Rattle.command_requests.specs.declared.failure.Failure.{Failure}
@@ -70,81 +71,38 @@ timeline_published {T} {O} contents result destination one recorder told writer 
     (whole turns changes (subst (λ (all : Option (TimelineRecorder O)). IfSome all (λ recorder. HasTimeline contents recorder turns changes)) is_told has))))
     put
 
--- a text for another destination leaves a file as it is
-pub still_filed : (destination other : Option Destination) (text : List ℕ) (old new : Content) → KeepsButFileOf other old new
-    → IsFiled destination text old → IsApart destination other → IsFiled destination text new
-still_filed None other text old new kept filed apart = tt
-still_filed (Some StandardOutput) other text old new kept filed apart = tt
-still_filed (Some (File path)) other text old new kept filed apart =
-    subst (λ (known : Option (List ℕ)). IfSome known (λ all. all ≡ text)) (sym (kept path.now apart.0 apart.1)) filed
+-- none of these destinations is the first one's file or its part
+abbrev AreApart : Option Destination → List (Option Destination) → Type 0
+AreApart destination [] = Unit {0}
+AreApart destination (first ∷ others) = IsApart destination first × AreApart destination others
 
--- and so do the last ones
-still_before_last : (destination : Option Destination) (records : Records) (text : List ℕ) (old new : Content) → KeepsButLast records old new
-    → IsFiled destination text old → IsApart destination records.core → IsApart destination records.digest → IsFiled destination text new
-still_before_last None records text old new kept filed core digest = tt
-still_before_last (Some StandardOutput) records text old new kept filed core digest = tt
-still_before_last (Some (File path)) records text old new kept filed core digest =
-    subst (λ (known : Option (List ℕ)). IfSome known (λ all. all ≡ text)) (sym (kept path.now core.0 core.1 digest.0 digest.1)) filed
+-- what is so unless a path is for one of these destinations is so of a file that is apart from them
+elsewhere : (file : Bor (List ℕ)) (others : List (Option Destination)) (Is : Type 0) → Elsewhere others file.now Is → AreApart (Some (File file)) others → Is
+elsewhere file [] Is is apart = is
+elsewhere file (first ∷ others) Is is apart = elsewhere file others Is (is apart.0.0 apart.0.1) apart.1
 
--- and those after the report
-still_before_rest : (destination : Option Destination) (records : Records) (text : List ℕ) (old new : Content) → KeepsButRest records old new
-    → IsFiled destination text old → IsApart destination records.races → IsApart destination records.core → IsApart destination records.digest → IsFiled destination text new
-still_before_rest None records text old new kept filed races core digest = tt
-still_before_rest (Some StandardOutput) records text old new kept filed races core digest = tt
-still_before_rest (Some (File path)) records text old new kept filed races core digest =
-    subst (λ (known : Option (List ℕ)). IfSome known (λ all. all ≡ text)) (sym (kept path.now races.0 races.1 core.0 core.1 digest.0 digest.1)) filed
+-- texts for other destinations leave a file as it is
+still_filed : (destination : Option Destination) (others : List (Option Destination)) (text : List ℕ) (old new : Content) → KeepsButFilesOf others old new
+    → IsFiled destination text old → AreApart destination others → IsFiled destination text new
+still_filed None others text old new kept filed apart = tt
+still_filed (Some StandardOutput) others text old new kept filed apart = tt
+still_filed (Some (File path)) others text old new kept filed apart =
+    subst (λ (known : Option (List ℕ)). IfSome known (λ all. all ≡ text)) (sym (elsewhere path others (new path.now ≡ old path.now) (kept path.now) apart)) filed
 
--- and those that are made at the end
-still_there : (destination : Option Destination) (records : Records) (text : List ℕ) (old new : Content) → KeepsButMade records old new
-    → IsFiled destination text old → IsApart destination records.report → IsApart destination records.races → IsApart destination records.core → IsApart destination records.digest
-    → IsFiled destination text new
-still_there None records text old new kept filed report races core digest = tt
-still_there (Some StandardOutput) records text old new kept filed report races core digest = tt
-still_there (Some (File path)) records text old new kept filed report races core digest =
-    subst (λ (known : Option (List ℕ)). IfSome known (λ all. all ≡ text)) (sym (kept path.now report.0 report.1 races.0 races.1 core.0 core.1 digest.0 digest.1)) filed
+-- what follows elsewhere
+follows_elsewhere : (destinations : List (Option Destination)) (path : List ℕ) (P Q : Type 0) → (P → Q) → Elsewhere destinations path P → Elsewhere destinations path Q
+follows_elsewhere [] path P Q follows is = follows is
+follows_elsewhere (first ∷ others) path P Q follows is = λ file part. follows_elsewhere others path P Q follows (is file part)
 
--- and those after the trace
-still_before_timed : (destination : Option Destination) (records : Records) (text : List ℕ) (old new : Content) → KeepsButTimed records old new
-    → IsFiled destination text old → IsApart destination records.timeline → IsApart destination records.report → IsApart destination records.races
-    → IsApart destination records.core → IsApart destination records.digest → IsFiled destination text new
-still_before_timed None records text old new kept filed timeline report races core digest = tt
-still_before_timed (Some StandardOutput) records text old new kept filed timeline report races core digest = tt
-still_before_timed (Some (File path)) records text old new kept filed timeline report races core digest =
-    subst (λ (known : Option (List ℕ)). IfSome known (λ all. all ≡ text))
-    (sym (kept path.now timeline.0 timeline.1 report.0 report.1 races.0 races.1 core.0 core.1 digest.0 digest.1)) filed
+-- a text for one destination and then those for others leave all other files as they are
+pub but_files : (first : Option Destination) (others : List (Option Destination)) (old now new : Content) → KeepsButFileOf first old now → KeepsButFilesOf others now new
+    → KeepsButFilesOf (first ∷ others) old new
+but_files first others old now new kept kept_by_others =
+    λ path file part. follows_elsewhere others path (new path ≡ now path) (new path ≡ old path) (λ same. same ∙ kept path file part) (kept_by_others path)
 
--- the last texts leave all other files as they are
-pub but_last : (records : Records) (old now new : Content) → KeepsButFileOf records.core old now → KeepsButFileOf records.digest now new → KeepsButLast records old new
-but_last records old now new first second = λ path core core_part digest digest_part. second path digest digest_part ∙ first path core core_part
-
-pub but_last_and_part : (records : Records) (old now new : Content) → KeepsButFileOf records.core old now → KeepsButPartFor records.digest now new → KeepsButLast records old new
-but_last_and_part records old now new first second = λ path core core_part digest digest_part. second path digest_part ∙ first path core core_part
-
--- and so do the races and they
-pub but_rest : (records : Records) (old now new : Content) → KeepsButFileOf records.races old now → KeepsButLast records now new → KeepsButRest records old new
-but_rest records old now new first others = λ path races races_part core core_part digest digest_part. others path core core_part digest digest_part ∙ first path races races_part
-
-pub but_rest_and_parts : (records : Records) (old now then new : Content) → KeepsButFileOf records.races old now → KeepsButPartFor records.core now then
-    → KeepsButPartFor records.digest then new → KeepsButRest records old new
-but_rest_and_parts records old now then new first second third =
-    λ path races races_part core core_part digest digest_part. third path digest_part ∙ second path core_part ∙ first path races races_part
-
--- and so do all that are made at the end
-pub but_made : (records : Records) (old now new : Content) → KeepsButFileOf records.report old now → KeepsButRest records now new → KeepsButMade records old new
-but_made records old now new first others =
-    λ path report report_part races races_part core core_part digest digest_part. others path races races_part core core_part digest digest_part ∙ first path report report_part
-
-pub but_made_and_parts : (records : Records) (old now then later new : Content) → KeepsButFileOf records.report old now → KeepsButPartFor records.races now then
-    → KeepsButPartFor records.core then later → KeepsButPartFor records.digest later new → KeepsButMade records old new
-but_made_and_parts records old now then later new first second third fourth =
-    λ path report report_part races races_part core core_part digest digest_part.
-    fourth path digest_part ∙ third path core_part ∙ second path races_part ∙ first path report report_part
-
--- and so do the timeline and they
-pub but_timed : (records : Records) (old now new : Content) → KeepsButFileOf records.timeline old now → KeepsButMade records now new → KeepsButTimed records old new
-but_timed records old now new first others =
-    λ path timeline timeline_part report report_part races races_part core core_part digest digest_part.
-    others path report report_part races races_part core core_part digest digest_part ∙ first path timeline timeline_part
+-- what leaves all files but a part as they are leaves all but the file and its part
+pub but_part : (destination : Option Destination) (old new : Content) → KeepsButPartFor destination old new → KeepsButFileOf destination old new
+but_part destination old new kept = λ path file part. kept path part
 
 -- what makes the text of the report of these changes, by a recorder of their sharing
 abbrev pub MakesReport : Option SharingRecorder → List ℕ → Type 0
@@ -202,7 +160,7 @@ last_left tells records end now new old mid last (Err failure) put kept failed k
     λ turns changes. inr (record {
       core = put.0;
       is_core = put.1;
-      filed = λ apart. still_filed records.core records.digest put.0 now new kept put.2.filed apart;
+      filed = λ apart. still_filed records.core (records.digest ∷ []) put.0 now new kept put.2.filed (apart, tt);
       between = mid;
       printed_before = put.2.printed_after;
       digest = record { why = failed; kept = kept_out };
@@ -224,13 +182,13 @@ module _ {X E : Type 0} (bytes : X → List ℕ) (tells : Type 0) (records : Rec
         put.1,
         λ is. digest_is records.digest digest (bytes other) turns end same makes digests is,
         record {
-          filed = (λ apart. still_filed records.core records.digest put.0 now new kept put.2.filed apart.0, (λ apart. put_digest.filed, tt));
+          filed = (λ apart. still_filed records.core (records.digest ∷ []) put.0 now new kept put.2.filed apart, (λ apart. put_digest.filed, tt));
           printed_after = λ can. Appends-trans old mid last _ _ (put.2.printed_after can.0) (ends_here mid last _ (put_digest.printed_after can.1.0));
         },
       )
 
 module _ {X E : Type 0} (bytes : X → List ℕ) (tells : Type 0) (records : Records) (digest : Option DigestRecorder)
-    (end : Ended) (now new : Content) (old mid last : Option (List ℕ)) (kept : KeepsButLast records now new) where
+    (end : Ended) (now new : Content) (old mid last : Option (List ℕ)) (kept : KeepsButFilesOf (last_destinations records) now new) where
   -- the races and the last texts are where they are to be
   pub rest_out : {T : Type 0} (first : Result X E) (result : Result T Failure)
       → IsOk first → IfOk first (λ text. bytes text ≡ string_bytes end.races) → IfOk first (λ text. IsPut tells records.races (bytes text) now old mid)
@@ -246,7 +204,7 @@ module _ {X E : Type 0} (bytes : X → List ℕ) (tells : Type 0) (records : Rec
         others.1,
         others.2,
         record {
-          filed = (λ apart. still_before_last records.races records (bytes text) now new kept put.filed apart.0 apart.1.0, others.3.filed);
+          filed = (λ apart. still_filed records.races (last_destinations records) (bytes text) now new kept put.filed apart, others.3.filed);
           printed_after = λ can. Appends-trans old mid last _ _ (put.printed_after can.0) (others.3.printed_after can.1);
         },
       )
@@ -260,14 +218,14 @@ module _ {X E : Type 0} (bytes : X → List ℕ) (tells : Type 0) (records : Rec
   rest_left (Err refused) (Err failure) made is put left = cc
   rest_left (Ok text) (Err failure) made is put left =
       λ turns changes. inr (record {
-        filed = λ core digest. subst (λ (races : List ℕ). IsFiled records.races races new) is (still_before_last records.races records (bytes text) now new kept put.filed core digest);
+        filed = λ core digest. subst (λ (races : List ℕ). IsFiled records.races races new) is (still_filed records.races (last_destinations records) (bytes text) now new kept put.filed (core, (digest, tt)));
         between = mid;
         printed_before = subst (λ (races : List ℕ). Prints tells records.races races old mid) is put.printed_after;
         others = left turns changes;
       })
 
 module _ {X E : Type 0} (bytes : X → List ℕ) (tells : Type 0) (records : Records) (sharing : Option SharingRecorder) (digest : Option DigestRecorder)
-    (end : Ended) (now new : Content) (old mid last : Option (List ℕ)) (kept : KeepsButRest records now new) where
+    (end : Ended) (now new : Content) (old mid last : Option (List ℕ)) (kept : KeepsButFilesOf (rest_destinations records) now new) where
   -- the texts that are made at the end are where they are to be
   pub made_out : {T : Type 0} (first : Result X E) (result : Result T Failure) → is_some sharing ≡ is_some records.report
       → IsOk first → IfOk first (λ text. MakesReport sharing (bytes text)) → IfOk first (λ text. IsPut tells records.report (bytes text) now old mid)
@@ -298,7 +256,7 @@ module _ {X E : Type 0} (bytes : X → List ℕ) (tells : Type 0) (records : Rec
           digest = others.3;
         },
         record {
-          filed = (λ apart. still_before_rest records.report records (bytes text) now new kept put.filed apart.0 apart.1.0 apart.1.1.0, others.4.filed);
+          filed = (λ apart. still_filed records.report (rest_destinations records) (bytes text) now new kept put.filed apart, others.4.filed);
           printed_after = λ can. Appends-trans old mid last _ _ (put.printed_after can.0) (others.4.printed_after can.1);
         },
       )
@@ -315,7 +273,7 @@ module _ {X E : Type 0} (bytes : X → List ℕ) (tells : Type 0) (records : Rec
       λ turns changes shares order. inr (record {
         report = bytes text;
         is_report = λ is. report_is records.report sharing (bytes text) changes same makes shares order is;
-        filed = λ races core digest. still_before_rest records.report records (bytes text) now new kept put.filed races core digest;
+        filed = λ races core digest. still_filed records.report (rest_destinations records) (bytes text) now new kept put.filed (races, (core, (digest, tt)));
         between = mid;
         printed_before = put.printed_after;
         others = left turns changes;
@@ -323,7 +281,7 @@ module _ {X E : Type 0} (bytes : X → List ℕ) (tells : Type 0) (records : Rec
 
 -- the timeline and the texts that are made at the end are where they are to be
 pub timed_out : (tells : Type 0) (records : Records) (left : Left) (now new : Content) (old mid last : Option (List ℕ))
-    → IsPut tells records.timeline (timeline_text left.turns left.changes) now old mid → KeepsButMade records now new → AreMadeWritten tells records left new mid last
+    → IsPut tells records.timeline (timeline_text left.turns left.changes) now old mid → KeepsButFilesOf (made_destinations records) now new → AreMadeWritten tells records left new mid last
     → AreTimedWritten tells records left new old last
 timed_out tells records left now new old mid last put kept made =
     let texts = made.0 in
@@ -335,7 +293,7 @@ timed_out tells records left now new old mid last put kept made =
         filed = (
           λ apart.
               subst (λ (text : List ℕ). IsFiled records.timeline text new) (sym made.2)
-              (still_there records.timeline records _ now new kept put.filed apart.0 apart.1.0 apart.1.1.0 apart.1.1.1.0),
+              (still_filed records.timeline (made_destinations records) _ now new kept put.filed apart),
           out.filed,
         );
         printed_after = λ can.
@@ -345,10 +303,10 @@ timed_out tells records left now new old mid last put kept made =
 
 -- the timeline is where it is to be, and not each text that is made at the end
 pub timed_left : (tells : Type 0) (records : Records) (left : Left) (failure : Failure) (now new : Content) (out mid out' : Option (List ℕ))
-    → IsPut tells records.timeline (timeline_text left.turns left.changes) now out mid → KeepsButMade records now new
+    → IsPut tells records.timeline (timeline_text left.turns left.changes) now out mid → KeepsButFilesOf (made_destinations records) now new
     → AreUnwrittenMade tells records left new mid out' failure → AreUnwrittenTimed tells records left new out out' failure
 timed_left tells records left failure now new out mid out' put kept missing = inr (record {
-  filed = λ report races core digest. still_there records.timeline records _ now new kept put.filed report races core digest;
+  filed = λ report races core digest. still_filed records.timeline (made_destinations records) _ now new kept put.filed (report, (races, (core, (digest, tt))));
   between = mid;
   printed_before = put.printed_after;
   others = missing;
@@ -356,7 +314,7 @@ timed_left tells records left failure now new out mid out' put kept missing = in
 
 -- all texts are where they are to be
 pub all_out : (tells : Type 0) (records : Records) (left : Left) (now new : Content) (old mid last : Option (List ℕ))
-    → IsPut tells records.trace (trace_text_of left.turns) now old mid → KeepsButTimed records now new → AreTimedWritten tells records left new mid last
+    → IsPut tells records.trace (trace_text_of left.turns) now old mid → KeepsButFilesOf (timed_destinations records) now new → AreTimedWritten tells records left new mid last
     → AreWritten tells records left new old last
 all_out tells records left now new old mid last put kept made =
     let texts = made.0 in
@@ -367,7 +325,7 @@ all_out tells records left now new old mid last put kept made =
         filed = (
           λ apart.
               subst (λ (text : List ℕ). IsFiled records.trace text new) (sym made.1)
-              (still_before_timed records.trace records _ now new kept put.filed apart.0 apart.1.0 apart.1.1.0 apart.1.1.1.0 apart.1.1.1.1.0),
+              (still_filed records.trace (timed_destinations records) _ now new kept put.filed apart),
           out.filed,
         );
         printed_after = λ can.
@@ -377,10 +335,10 @@ all_out tells records left now new old mid last put kept made =
 
 -- the trace is where it is to be, and not each other text
 pub trace_out : (tells : Type 0) (records : Records) (left : Left) (failure : Failure) (old now new : Content) (out mid out' : Option (List ℕ))
-    → IsPut tells records.trace (trace_text_of left.turns) now out mid → KeepsButTimed records now new
+    → IsPut tells records.trace (trace_text_of left.turns) now out mid → KeepsButFilesOf (timed_destinations records) now new
     → AreUnwrittenTimed tells records left new mid out' failure → AreUnwritten tells records left old new out out' failure
 trace_out tells records left failure old now new out mid out' put kept missing = inr (record {
-  filed = λ timeline report races core digest. still_before_timed records.trace records _ now new kept put.filed timeline report races core digest;
+  filed = λ timeline report races core digest. still_filed records.trace (timed_destinations records) _ now new kept put.filed (timeline, (report, (races, (core, (digest, tt)))));
   between = mid;
   printed_before = put.printed_after;
   others = missing;

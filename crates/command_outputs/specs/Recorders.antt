@@ -1,12 +1,18 @@
 -- What the recorders of a run's texts have recorded.
-use Rattle.std.specs.Prelude.{◌≡◌, ◌⊎◌, ℕ, Option, List, IfSome, is_some, true}
+use Rattle.std.specs.Prelude.{◌≡◌, ◌≤◌, ◌⊎◌, ℕ, Option, List, [], IfSome, is_some, length, true}
+use Rattle.abi.specs.Limits as limit
 use Rattle.run_digest.specs.Recording.{Digests}
+use Rattle.run_digest.specs.declared.digest_recorder.DigestRecorder.{DigestRecorder}
 use Rattle.sharing_report.specs.Recording.{Shares}
+use Rattle.sharing_report.specs.declared.sharing_recorder.SharingRecorder.{SharingRecorder}
 use Rattle.token.specs.Change.{Change}
 use Rattle.token.specs.declared.turn.Turn.{Turn}
 use Rattle.trace_events.specs.Recording.{Records as HasTimeline}
 use Rattle.tracer.specs.Recording.{Traces}
+use Rattle.command_requests.specs.Destination.{Carries}
 use Rattle.command_requests.specs.declared.records.Records.{Records}
+use Rattle.command_outputs.specs.declared.ended.Ended.{Ended}
+use Rattle.command_outputs.specs.declared.made_outputs.MadeOutputs.{MadeOutputs}
 use Rattle.command_outputs.specs.declared.text_recorders.TextRecorders.{TextRecorders}
 
 -- each of them that is there has recorded these turns and these changes
@@ -33,3 +39,19 @@ pub record AreFor {O : Type 0} (records : Records) (recorders : TextRecorders O)
   pub timeline : is_some recorders.timeline ≡ is_some records.timeline
   pub report : is_some recorders.sharing ≡ is_some records.report
   pub digest : is_some recorders.digest ≡ is_some records.digest
+
+-- What the core file and the digest are made from is there, and so is an empty output for each of them that is wanted.
+pub record AreReadyLast {O : Type 0} (contents : O → Option (List ℕ)) (records : Records) (recorder : Option DigestRecorder) (core_output digest_output : Option O)
+    (end : Ended) : Type 0 where
+  pub digest : is_some recorder ≡ is_some records.digest
+  pub core_begun : Carries contents records.core core_output []
+  pub digest_begun : Carries contents records.digest digest_output []
+  pub few : length end.threads.items ≤ limit.threads
+
+-- and so it is with the report and the races
+pub record AreReadyMade {O : Type 0} (contents : O → Option (List ℕ)) (records : Records) (sharing : Option SharingRecorder) (digest : Option DigestRecorder)
+    (made : MadeOutputs O) (end : Ended) : Type 0 where
+  pub report : is_some sharing ≡ is_some records.report
+  pub report_begun : Carries contents records.report made.report []
+  pub races_begun : Carries contents records.races made.races []
+  pub last : AreReadyLast contents records digest made.core made.digest end

@@ -1,5 +1,5 @@
 -- What becomes of the texts that a run leaves beside its outcome.
-use Rattle.std.specs.Prelude.{◌≡◌, ◌≢◌, ◌⊎◌, ℕ, Option, Some, List, [], ◌∷◌, ◌++◌, IfErr, IsNone, IsSome, Result}
+use Rattle.std.specs.Prelude.{◌≡◌, ◌≢◌, ◌⊎◌, ℕ, Option, Some, List, [], ◌∷◌, ◌++◌, IfErr, IsNone, IsSome, OnOk, Result}
 use Rattle.std.specs.Io.KnownBytes.{Appends}
 use Rattle.std.specs.String.{string_bytes}
 use Rattle.output_files.specs.Content.{Content}
@@ -61,29 +61,35 @@ KeepsButParts records old new =
     (path : List ℕ) → ¬ IsPartFor records.trace path → ¬ IsPartFor records.timeline path → ¬ IsPartFor records.report path → ¬ IsPartFor records.races path
     → ¬ IsPartFor records.core path → ¬ IsPartFor records.digest path → new path ≡ old path
 
--- the files at all paths but those for the core file and the digest are as they were
-abbrev pub KeepsButLast : Records → Content → Content → Type 0
-KeepsButLast records old new =
-    (path : List ℕ) → ¬ IsFileOf records.core path → ¬ IsPartFor records.core path → ¬ IsFileOf records.digest path → ¬ IsPartFor records.digest path → new path ≡ old path
+-- a fact that holds unless a path is that of the file for one of these destinations, or of its part
+abbrev pub Elsewhere : List (Option Destination) → List ℕ → Type 0 → Type 0
+Elsewhere [] path Is = Is
+Elsewhere (first ∷ others) path Is = ¬ IsFileOf first path → ¬ IsPartFor first path → Elsewhere others path Is
 
--- and but that for the races
-abbrev pub KeepsButRest : Records → Content → Content → Type 0
-KeepsButRest records old new =
-    (path : List ℕ) → ¬ IsFileOf records.races path → ¬ IsPartFor records.races path → ¬ IsFileOf records.core path → ¬ IsPartFor records.core path
-    → ¬ IsFileOf records.digest path → ¬ IsPartFor records.digest path → new path ≡ old path
+-- the files at all paths but those for these destinations and their parts are as they were
+abbrev pub KeepsButFilesOf : List (Option Destination) → Content → Content → Type 0
+KeepsButFilesOf destinations old new = (path : List ℕ) → Elsewhere destinations path (new path ≡ old path)
 
--- and but that for the report
-abbrev pub KeepsButMade : Records → Content → Content → Type 0
-KeepsButMade records old new =
-    (path : List ℕ) → ¬ IsFileOf records.report path → ¬ IsPartFor records.report path → ¬ IsFileOf records.races path → ¬ IsPartFor records.races path
-    → ¬ IsFileOf records.core path → ¬ IsPartFor records.core path → ¬ IsFileOf records.digest path → ¬ IsPartFor records.digest path → new path ≡ old path
+-- where the last texts of a run are to be, in the order in which they are written
+abbrev pub last_destinations : Records → List (Option Destination)
+last_destinations records = records.core ∷ records.digest ∷ []
 
--- and but that for the timeline
-abbrev pub KeepsButTimed : Records → Content → Content → Type 0
-KeepsButTimed records old new =
-    (path : List ℕ) → ¬ IsFileOf records.timeline path → ¬ IsPartFor records.timeline path → ¬ IsFileOf records.report path → ¬ IsPartFor records.report path
-    → ¬ IsFileOf records.races path → ¬ IsPartFor records.races path → ¬ IsFileOf records.core path → ¬ IsPartFor records.core path → ¬ IsFileOf records.digest path
-    → ¬ IsPartFor records.digest path → new path ≡ old path
+-- the races before them
+abbrev pub rest_destinations : Records → List (Option Destination)
+rest_destinations records = records.races ∷ last_destinations records
+
+-- those that are made at its end, the report first
+abbrev pub made_destinations : Records → List (Option Destination)
+made_destinations records = records.report ∷ rest_destinations records
+
+-- the timeline before them
+abbrev pub timed_destinations : Records → List (Option Destination)
+timed_destinations records = records.timeline ∷ made_destinations records
+
+-- What a call for the texts of a run leaves as it was: the files of which `Keeps` says so, and all files where no text is wanted.
+pub record StaysBut {F : Type 0} (content : F → Content) (Keeps : Content → Content → Type 0) (records : Records) (files files' : F) : Type 0 where
+  pub others : Keeps (content files) (content files')
+  pub unnamed : NamesNone records → files' ≡ files
 
 -- the texts of a run
 pub record Texts : Type 0 where
@@ -222,6 +228,12 @@ pub record LeavesOthers {F T : Type 0} (content : F → Content) (destination : 
   pub unnamed : IsNone destination → files' ≡ files
   pub failed : IfErr result (IsUnwrittenTo destination)
   pub kept : IfErr result (λ failure. KeepsUnlessPrinted destination old new)
+
+-- What a write for a destination does. Where it goes well a text is where it is to be: `Such` says which one. What else there is stays, also where it fails.
+pub record Puts {F T : Type 0} (tells : Type 0) (content : F → Content) (destination : Option Destination) (Such : (List ℕ → Type 0) → Type 0)
+    (result : Result T Failure) (files files' : F) (old new : Option (List ℕ)) : Type 0 where
+  pub put : OnOk result (Such (λ text. IsPut tells destination text (content files') old new))
+  pub left : LeavesOthers content destination result files files' old new
 
 -- A text didn't get to its destination, and printed nothing if it wasn't to be printed.
 pub record Misses (destination : Option Destination) (old new : Option (List ℕ)) (failure : Failure) : Type 0 where

@@ -1,7 +1,7 @@
 //! The outputs of a run's texts, begun before its first turn.
 ghost use Rattle.std.specs.Prelude.{◌≡◌, ◌⊎◌, ℕ, List, [], IfErr, IfOk, IsNone};
 ghost use Rattle.command_requests.specs.Destination.{Carries, IsPartFor, KeepsButPartFor};
-ghost use Rattle.command_outputs.specs.Records.{AreBegun, AreBegunMade, IsUnwritten, IsUnwrittenTo, KeepsButParts, NamesNone};
+ghost use Rattle.command_outputs.specs.Records.{AreBegun, AreBegunMade, IsUnwritten, IsUnwrittenTo, KeepsButParts, NamesNone, StaysBut};
 
 use crate::made_outputs::MadeOutputs;
 use command_requests::{Destination, Failure, Records, Target};
@@ -49,11 +49,12 @@ fn begin_timed<'a, F: Files>(
     records: &Records<'a>,
     files: &mut F,
 ) -> Result<(Option<F::Output>, MadeOutputs<F::Output>), Failure<'a>>
-    ensures begun { IfOk result (λ timed. Carries F.Output.contents records.now.timeline timed.0 [] × AreBegunMade F.Output.contents records.now timed.1) }
-    ensures kept { KeepsButParts records.now (F.content files.old) (F.content files.new) }
-    ensures unnamed { NamesNone records.now → files.new ≡ files.old }
+    ensures begun { IfOk result (λ timed. Carries F.Output.contents records.now.timeline timed.0 []
+        × AreBegunMade F.Output.contents records.now timed.1) }
+    ensures left { StaysBut F.content (KeepsButParts records.now) records.now files.old files.new }
     ensures failed { IfErr result (λ failure. IsUnwrittenTo records.now.timeline failure ⊎ (IsUnwrittenTo records.now.report failure
-        ⊎ (IsUnwrittenTo records.now.races failure ⊎ (IsUnwrittenTo records.now.core failure ⊎ IsUnwrittenTo records.now.digest failure)))) }
+        ⊎ (IsUnwrittenTo records.now.races failure
+        ⊎ (IsUnwrittenTo records.now.core failure ⊎ IsUnwrittenTo records.now.digest failure)))) }
 {
     let timeline = begin_output(alloc, records.timeline, files)?;
     match begin_made(alloc, records, files) {
@@ -72,8 +73,7 @@ fn begin_made<'a, F: Files>(
     files: &mut F,
 ) -> Result<MadeOutputs<F::Output>, Failure<'a>>
     ensures begun { IfOk result (λ made. AreBegunMade F.Output.contents records.now made) }
-    ensures kept { KeepsButParts records.now (F.content files.old) (F.content files.new) }
-    ensures unnamed { NamesNone records.now → files.new ≡ files.old }
+    ensures left { StaysBut F.content (KeepsButParts records.now) records.now files.old files.new }
     ensures failed { IfErr result (λ failure. IsUnwrittenTo records.now.report failure
         ⊎ (IsUnwrittenTo records.now.races failure ⊎ (IsUnwrittenTo records.now.core failure ⊎ IsUnwrittenTo records.now.digest failure))) }
 {
@@ -100,8 +100,7 @@ fn begin_rest<'a, F: Files>(
 ) -> Result<(Option<F::Output>, (Option<F::Output>, Option<F::Output>)), Failure<'a>>
     ensures begun { IfOk result (λ rest. Carries F.Output.contents records.now.races rest.0 []
         × Carries F.Output.contents records.now.core rest.1.0 [] × Carries F.Output.contents records.now.digest rest.1.1 []) }
-    ensures kept { KeepsButParts records.now (F.content files.old) (F.content files.new) }
-    ensures unnamed { NamesNone records.now → files.new ≡ files.old }
+    ensures left { StaysBut F.content (KeepsButParts records.now) records.now files.old files.new }
     ensures failed { IfErr result (λ failure. IsUnwrittenTo records.now.races failure
         ⊎ (IsUnwrittenTo records.now.core failure ⊎ IsUnwrittenTo records.now.digest failure)) }
 {
@@ -121,9 +120,9 @@ fn begin_last<'a, F: Files>(
     records: &Records<'a>,
     files: &mut F,
 ) -> Result<(Option<F::Output>, Option<F::Output>), Failure<'a>>
-    ensures begun { IfOk result (λ last. Carries F.Output.contents records.now.core last.0 [] × Carries F.Output.contents records.now.digest last.1 []) }
-    ensures kept { KeepsButParts records.now (F.content files.old) (F.content files.new) }
-    ensures unnamed { NamesNone records.now → files.new ≡ files.old }
+    ensures begun { IfOk result (λ last. Carries F.Output.contents records.now.core last.0 []
+        × Carries F.Output.contents records.now.digest last.1 []) }
+    ensures left { StaysBut F.content (KeepsButParts records.now) records.now files.old files.new }
     ensures failed { IfErr result (λ failure. IsUnwrittenTo records.now.core failure ⊎ IsUnwrittenTo records.now.digest failure) }
 {
     let core = begin_output(alloc, records.core, files)?;
@@ -153,8 +152,8 @@ pub fn abandon<F: Files>(records: &Records<'_>, outputs: Outputs<F::Output>, fil
 
 /// Takes away what was begun for the texts that are made when a run has ended.
 pub fn abandon_made<F: Files>(records: &Records<'_>, made: MadeOutputs<F::Output>, files: &mut F)
-    ensures kept { (path : List ℕ) → ¬ IsPartFor records.now.report path → ¬ IsPartFor records.now.races path → ¬ IsPartFor records.now.core path
-        → ¬ IsPartFor records.now.digest path
+    ensures kept { (path : List ℕ) → ¬ IsPartFor records.now.report path → ¬ IsPartFor records.now.races path
+        → ¬ IsPartFor records.now.core path → ¬ IsPartFor records.now.digest path
         → F.content files.new path ≡ F.content files.old path }
     ensures unnamed { NamesNone records.now → files.new ≡ files.old }
 {

@@ -14,8 +14,8 @@ ghost use Rattle.trace_events.specs.Timeline.{timeline_text};
 ghost use Rattle.tracer.specs.Recording.{Traces};
 ghost use Rattle.tracer.specs.TraceText.{text_of as trace_text_of};
 ghost use Rattle.command_requests.specs.Destination.{Carries};
-ghost use Rattle.command_outputs.specs.Recorders.{AreFor, AreTold};
-ghost use Rattle.command_outputs.specs.Records.{AreBegunMade, AreLastWritten, AreMadeWritten, AreRestWritten, AreTimedWritten, AreUnwritten, AreUnwrittenLast, AreUnwrittenMade, AreUnwrittenRest, AreUnwrittenTimed, AreWritten, IsCoreAt, IsPut, IsReportOf, IsUnwrittenTo, KeepsButLast, KeepsButMade, KeepsButRest, KeepsButTimed, LeavesOthers, NamesNone, left_by};
+ghost use Rattle.command_outputs.specs.Recorders.{AreFor, AreReadyLast, AreReadyMade, AreTold};
+ghost use Rattle.command_outputs.specs.Records.{AreBegunMade, AreLastWritten, AreMadeWritten, AreRestWritten, AreTimedWritten, AreUnwritten, AreUnwrittenLast, AreUnwrittenMade, AreUnwrittenRest, AreUnwrittenTimed, AreWritten, IsCoreAt, IsPut, IsReportOf, IsUnwrittenTo, KeepsButFilesOf, LeavesOthers, NamesNone, Puts, StaysBut, last_destinations, left_by, made_destinations, rest_destinations, timed_destinations};
 
 use crate::ended::Ended;
 use crate::made_outputs::MadeOutputs;
@@ -85,17 +85,13 @@ fn write_timed<'a, F: Files, W: Write>(
     writer: &mut W,
 ) -> Result<(), Failure<'a>>
     requires timeline { is_some timeline ≡ is_some records.now.timeline }
-    requires report { is_some sharing ≡ is_some records.now.report }
-    requires digest { is_some digest ≡ is_some records.now.digest }
-    requires few { length end.threads.items ≤ limit.threads }
-    requires begun { AreBegunMade F.Output.contents records.now made }
+    requires made { AreReadyMade F.Output.contents records.now sharing digest made end }
     ensures out { OnOk result ((turns : List TurnRecord) (changes : List Change)
         → IfSome timeline (λ timeline. HasTimeline F.Output.contents timeline turns changes)
         → IfSome sharing (λ sharing. Shares sharing changes) → IfSome digest (λ digest. Digests digest turns) → AreInOrder changes
         → AreTimedWritten (Tells F.Output.contents) records.now (left_by turns changes end)
         (F.content files.new) (W.contents writer.old) (W.contents writer.new)) }
-    ensures others { KeepsButTimed records.now (F.content files.old) (F.content files.new) }
-    ensures unnamed { NamesNone records.now → files.new ≡ files.old }
+    ensures left { StaysBut F.content (KeepsButFilesOf (timed_destinations records.now)) records.now files.old files.new }
     ensures failed { IfErr result (λ failure. (turns : List TurnRecord) (changes : List Change)
         → IfSome timeline (λ timeline. HasTimeline F.Output.contents timeline turns changes)
         → IfSome sharing (λ sharing. Shares sharing changes) → AreInOrder changes
@@ -122,16 +118,12 @@ fn write_made<'a, F: Files, W: Write>(
     files: &mut F,
     writer: &mut W,
 ) -> Result<(), Failure<'a>>
-    requires report { is_some sharing ≡ is_some records.now.report }
-    requires digest { is_some digest ≡ is_some records.now.digest }
-    requires few { length end.threads.items ≤ limit.threads }
-    requires begun { AreBegunMade F.Output.contents records.now made }
+    requires { AreReadyMade F.Output.contents records.now sharing digest made end }
     ensures out { OnOk result ((turns : List TurnRecord) (changes : List Change)
         → IfSome sharing (λ sharing. Shares sharing changes) → IfSome digest (λ digest. Digests digest turns) → AreInOrder changes
         → AreMadeWritten (Tells F.Output.contents) records.now (left_by turns changes end)
         (F.content files.new) (W.contents writer.old) (W.contents writer.new)) }
-    ensures others { KeepsButMade records.now (F.content files.old) (F.content files.new) }
-    ensures unnamed { NamesNone records.now → files.new ≡ files.old }
+    ensures left { StaysBut F.content (KeepsButFilesOf (made_destinations records.now)) records.now files.old files.new }
     ensures failed { IfErr result (λ failure. (turns : List TurnRecord) (changes : List Change)
         → IfSome sharing (λ sharing. Shares sharing changes) → AreInOrder changes
         → AreUnwrittenMade (Tells F.Output.contents) records.now (left_by turns changes end)
@@ -177,17 +169,13 @@ fn write_rest<'a, F: Files, W: Write>(
     files: &mut F,
     writer: &mut W,
 ) -> Result<(), Failure<'a>>
-    requires digest { is_some digest ≡ is_some records.now.digest }
     requires races_begun { Carries F.Output.contents records.now.races races_output [] }
-    requires core_begun { Carries F.Output.contents records.now.core core_output [] }
-    requires digest_begun { Carries F.Output.contents records.now.digest digest_output [] }
-    requires few { length end.threads.items ≤ limit.threads }
+    requires last { AreReadyLast F.Output.contents records.now digest core_output digest_output end }
     ensures out { OnOk result ((turns : List TurnRecord) (changes : List Change)
         → IfSome digest (λ digest. Digests digest turns)
         → AreRestWritten (Tells F.Output.contents) records.now (left_by turns changes end)
         (F.content files.new) (W.contents writer.old) (W.contents writer.new)) }
-    ensures others { KeepsButRest records.now (F.content files.old) (F.content files.new) }
-    ensures unnamed { NamesNone records.now → files.new ≡ files.old }
+    ensures left { StaysBut F.content (KeepsButFilesOf (rest_destinations records.now)) records.now files.old files.new }
     ensures failed { IfErr result (λ failure. (turns : List TurnRecord) (changes : List Change)
         → AreUnwrittenRest (Tells F.Output.contents) records.now (left_by turns changes end)
         (F.content files.new) (W.contents writer.old) (W.contents writer.new) failure) }
@@ -223,16 +211,12 @@ fn write_last<'a, F: Files, W: Write>(
     files: &mut F,
     writer: &mut W,
 ) -> Result<(), Failure<'a>>
-    requires digest { is_some digest ≡ is_some records.now.digest }
-    requires core_begun { Carries F.Output.contents records.now.core core_output [] }
-    requires digest_begun { Carries F.Output.contents records.now.digest digest_output [] }
-    requires few { length end.threads.items ≤ limit.threads }
+    requires { AreReadyLast F.Output.contents records.now digest core_output digest_output end }
     ensures out { OnOk result ((turns : List TurnRecord) (changes : List Change)
         → IfSome digest (λ digest. Digests digest turns)
         → AreLastWritten (Tells F.Output.contents) records.now (left_by turns changes end)
         (F.content files.new) (W.contents writer.old) (W.contents writer.new)) }
-    ensures others { KeepsButLast records.now (F.content files.old) (F.content files.new) }
-    ensures unnamed { NamesNone records.now → files.new ≡ files.old }
+    ensures left { StaysBut F.content (KeepsButFilesOf (last_destinations records.now)) records.now files.old files.new }
     ensures failed { IfErr result (λ failure. (turns : List TurnRecord) (changes : List Change)
         → AreUnwrittenLast (Tells F.Output.contents) records.now (left_by turns changes end)
         (F.content files.new) (W.contents writer.old) (W.contents writer.new) failure) }
@@ -260,9 +244,9 @@ fn write_core_file<'a, F: Files, W: Write>(
 ) -> Result<(), Failure<'a>>
     requires begun { Carries F.Output.contents destination output [] }
     requires few { length end.now.threads.items ≤ limit.threads }
-    ensures put { OnOk result ((text : List ℕ) × (IsSome destination.entry → IsCoreAt end.now text)
-        × IsPut (Tells F.Output.contents) destination.entry text (F.content files.new) (W.contents writer.old) (W.contents writer.new)) }
-    ensures left { LeavesOthers F.content destination.entry result files.old files.new (W.contents writer.old) (W.contents writer.new) }
+    ensures { Puts (Tells F.Output.contents) F.content destination.entry
+        (λ Is. (text : List ℕ) × (IsSome destination.entry → IsCoreAt end.now text) × Is text)
+        result files.old files.new (W.contents writer.old) (W.contents writer.new) }
 {
     let Some(destination) = destination else {
         abandon_output(None, output, files);
@@ -337,10 +321,10 @@ fn write_trace<'a, F: Files, W: Write>(
     writer: &mut W,
 ) -> Result<(), Failure<'a>>
     requires { is_some recorder ≡ is_some destination }
-    ensures put { OnOk result ((turns : List TurnRecord) → IfSome recorder (λ recorder. Traces F.Output.contents recorder turns)
-        → IsPut (Tells F.Output.contents) destination.entry (trace_text_of turns)
-        (F.content files.new) (W.contents writer.old) (W.contents writer.new)) }
-    ensures left { LeavesOthers F.content destination.entry result files.old files.new (W.contents writer.old) (W.contents writer.new) }
+    ensures { Puts (Tells F.Output.contents) F.content destination.entry
+        (λ Is. (turns : List TurnRecord) → IfSome recorder (λ recorder. Traces F.Output.contents recorder turns)
+        → Is (trace_text_of turns))
+        result files.old files.new (W.contents writer.old) (W.contents writer.new) }
 {
     let Some(destination) = destination else {
         abandon_output(None, trace_output(recorder), files);
@@ -372,11 +356,10 @@ fn write_timeline<'a, F: Files, W: Write>(
     writer: &mut W,
 ) -> Result<(), Failure<'a>>
     requires { is_some recorder ≡ is_some destination }
-    ensures put { OnOk result ((turns : List TurnRecord) (changes : List Change)
-        → IfSome recorder (λ recorder. HasTimeline F.Output.contents recorder turns changes)
-        → IsPut (Tells F.Output.contents) destination.entry (timeline_text turns changes)
-        (F.content files.new) (W.contents writer.old) (W.contents writer.new)) }
-    ensures left { LeavesOthers F.content destination.entry result files.old files.new (W.contents writer.old) (W.contents writer.new) }
+    ensures { Puts (Tells F.Output.contents) F.content destination.entry
+        (λ Is. (turns : List TurnRecord) (changes : List Change)
+        → IfSome recorder (λ recorder. HasTimeline F.Output.contents recorder turns changes) → Is (timeline_text turns changes))
+        result files.old files.new (W.contents writer.old) (W.contents writer.new) }
 {
     let Some(destination) = destination else {
         abandon_output(None, timeline_output(recorder), files);
@@ -410,9 +393,8 @@ fn write_text<'a, F: Files, W: Write>(
 ) -> Result<(), Failure<'a>>
     requires { Carries F.Output.contents destination output [] }
     ensures made { OnOk result (IsOk text) }
-    ensures put { OnOk result (IfOk text (λ text.
-        IsPut (Tells F.Output.contents) destination.entry (string_bytes text) (F.content files.new) (W.contents writer.old) (W.contents writer.new))) }
-    ensures left { LeavesOthers F.content destination.entry result files.old files.new (W.contents writer.old) (W.contents writer.new) }
+    ensures puts { Puts (Tells F.Output.contents) F.content destination.entry (λ Is. IfOk text (λ text. Is (string_bytes text)))
+        result files.old files.new (W.contents writer.old) (W.contents writer.new) }
 {
     let text = match text {
         Ok(text) => text,
@@ -440,10 +422,8 @@ fn put<'a, F: Files, W: Write>(
     writer: &mut W,
 ) -> Result<(), Failure<'a>>
     requires { Has F.Output.contents output [] }
-    ensures put { OnOk result (IsPut (Tells F.Output.contents) (Some destination.entry) (string_bytes text.now)
-        (F.content files.new) (W.contents writer.old) (W.contents writer.new)) }
-    ensures left { LeavesOthers F.content (Some destination.entry) result files.old files.new
-        (W.contents writer.old) (W.contents writer.new) }
+    ensures { Puts (Tells F.Output.contents) F.content (Some destination.entry) (λ Is. Is (string_bytes text.now))
+        result files.old files.new (W.contents writer.old) (W.contents writer.new) }
 {
     let mut output = output;
     match write_whole(destination, &mut output, text.as_bytes()) {

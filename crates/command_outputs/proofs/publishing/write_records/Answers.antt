@@ -11,7 +11,7 @@ returns-in-Ok-clause-out g c =
     all_out (Tells g.F.Output.Write.contents) c.args.records.now (left_by turns changes c.args.end)
     (g.F.Files.content c.write_trace.new.files) (g.F.Files.content c.write_timed.new.files)
     (g.W.Write.contents c.args.writer.now) (g.W.Write.contents c.write_trace.new.writer) (g.W.Write.contents c.write_timed.new.writer)
-    (c.in-Ok.ensures.put turns told.trace) c.write_timed.ensures.others (out turns changes told.timeline told.sharing told.digest order))
+    (c.in-Ok.ensures.put turns told.trace) c.write_timed.ensures.left.others (out turns changes told.timeline told.sharing told.digest order))
     c.write_timed.ensures.out
 
 pub returns-in-Ok-clause-failed : goal.returns-in-Ok-clause-failed
@@ -21,7 +21,7 @@ returns-in-Ok-clause-failed g c =
     trace_out (Tells g.F.Output.Write.contents) c.args.records.now (left_by turns changes c.args.end) failure
     (g.F.Files.content c.args.files.now) (g.F.Files.content c.write_trace.new.files) (g.F.Files.content c.write_timed.new.files)
     (g.W.Write.contents c.args.writer.now) (g.W.Write.contents c.write_trace.new.writer) (g.W.Write.contents c.write_timed.new.writer)
-    (c.in-Ok.ensures.put turns told.trace) c.write_timed.ensures.others (left turns changes told.timeline told.sharing order))
+    (c.in-Ok.ensures.put turns told.trace) c.write_timed.ensures.left.others (left turns changes told.timeline told.sharing order))
     c.write_timed.ensures.failed
 
 pub returns-in-Err-clause-failed : goal.returns-in-Err-clause-failed
