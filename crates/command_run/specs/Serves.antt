@@ -1,6 +1,6 @@
 -- What the program answers to a request and what it leaves, told by the files' content and the standard streams as far as these are
 -- known.
-use Rattle.std.specs.Prelude.{◌≡◌, ◌⊎◌, ◌+◌, ℕ, Option, Some, Result, Ok, Err, List, ◌++◌, IfSome, IsSome}
+use Rattle.std.specs.Prelude.{◌≡◌, ◌⊎◌, ◌+◌, ℕ, Option, Some, Result, Ok, Err, List, [], ◌++◌, IfSome, IsSome, is_some}
 use Rattle.std.specs.Borrow.{Bor}
 use Rattle.std.specs.Io.KnownBytes.{Appends}
 use Rattle.std.specs.Result.{IsErrAnd}
@@ -76,6 +76,12 @@ IsOpenedFrom config start elf input = IsAccepted elf input config × ((point_of 
 pub record AreOpenedFrom (config : Config) (opened : Opened) (elf input : List ℕ) : Type 0 where
   pub start : IsOpenedFrom config opened.start elf input
   pub symbols : IfSome opened.symbols (λ symbols. symbols ≡ symbols_of elf)
+
+-- A run was opened of which no turn is done, and the names that its races are told by are there exactly where they are wanted.
+pub record IsReady (races : Option Destination) (opened : Opened) : Type 0 where
+  pub wanted : is_some opened.symbols ≡ is_some races
+  pub done : (point_of opened.start).done ≡ 0
+  pub output : (point_of opened.start).state.output ≡ []
 
 -- why no run of the file at a path begins
 abbrev pub IsUnrun : List ℕ → Option (List ℕ) → Option (List ℕ) → Config → Failure → Type 0

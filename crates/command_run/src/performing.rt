@@ -1,12 +1,12 @@
 //! Runs of files, with their texts put where they are to be.
-ghost use Rattle.std.specs.Prelude.{◌≡◌, ◌+◌, ◌-◌, ◌^◌, ◌<◌, [], IfSome, OnOk, is_some, false};
+ghost use Rattle.std.specs.Prelude.{◌≡◌, ◌+◌, ◌-◌, ◌^◌, ◌<◌, IfSome, OnOk, false};
 ghost use Rattle.output_files.specs.Content.{Tells};
 ghost use Rattle.output_files.specs.Taken.{TakesAtMost};
 ghost use Rattle.run_limits.specs.Limits as limit;
-ghost use Rattle.command_outputs.specs.Records.{KeepsButParts, NamesNone};
+ghost use Rattle.command_outputs.specs.Records.{KeepsButParts, NamesNone, StaysBut};
 ghost use Rattle.symbols.specs.Symbol.{SymbolLists};
 ghost use Rattle.token.specs.RunInTurn.{point_of};
-ghost use Rattle.command_run.specs.Serves.{Concludes, RunsInto, host_of, run_of};
+ghost use Rattle.command_run.specs.Serves.{Concludes, IsReady, RunsInto, host_of, run_of};
 
 use crate::observing::race_text;
 use crate::opened::Opened;
@@ -35,7 +35,8 @@ pub fn run_file<'a, H: Threads + Wait + Sync, F: Files, R: Read, W: Write>(
 ) -> Result<RunOutcome, Failure<'a>>
     requires { stdout.old.failures < 2 ^ 64 - 1 }
     ensures input { TakesAtMost (limit.input + 1) (R.remaining stdin.old) (R.remaining stdin.new) }
-    ensures answer { RunsInto (Tells F.Output.contents) (run_of file.entry (F.is_same files.old) (R.remaining stdin.old) config.now records.now)
+    ensures answer { RunsInto (Tells F.Output.contents)
+        (run_of file.entry (F.is_same files.old) (R.remaining stdin.old) config.now records.now)
         (host_of F.content W.contents files.old stdout.old) (host_of F.content W.contents files.new stdout.new) result }
     ensures whole { OnOk result (stdout.new.is_lost ≡ false) }
     ensures unnamed { NamesNone records.now → files.new ≡ files.old }
@@ -57,10 +58,8 @@ fn run_opened_file<'a, H: Threads + Wait + Sync, F: Files, W: Write>(
     files: &mut F,
     stdout: &mut WriteSink<W>,
 ) -> Result<RunOutcome, Failure<'a>>
-    requires done { (point_of opened.start).done ≡ 0 }
-    requires output { (point_of opened.start).state.output ≡ [] }
+    requires ready { IsReady records.now.races opened }
     requires failures { stdout.old.failures < 2 ^ 64 - 1 }
-    requires wanted { is_some opened.symbols ≡ is_some records.now.races }
     ensures answer { (symbols : SymbolLists) → IfSome opened.symbols (λ own. own ≡ symbols)
         → Concludes (Tells F.Output.contents) records.now symbols
         (host_of F.content W.contents files.old stdout.old) (host_of F.content W.contents files.new stdout.new)
@@ -120,8 +119,7 @@ fn abandon_all<F: Files>(
     made: MadeOutputs<F::Output>,
     files: &mut F,
 )
-    ensures kept { KeepsButParts records.now (F.content files.old) (F.content files.new) }
-    ensures unnamed { NamesNone records.now → files.new ≡ files.old }
+    ensures { StaysBut F.content (KeepsButParts records.now) records.now files.old files.new }
 {
     let (trace, timeline) = recorders.into_outputs();
     let outputs = Outputs {

@@ -12,7 +12,7 @@ ghost use Rattle.command_outputs.specs.Recorders.{AreFor, AreSame, AreTold, Writ
 ghost use Rattle.command_run.specs.Failure.{HasTimelineFailed};
 ghost use Rattle.observed_run.specs.Runs.{MayBegin};
 ghost use Rattle.command_run.specs.Observing.{AreFound};
-ghost use Rattle.command_run.specs.Serves.{AreRun, AreOpenedFrom, IsOpenedFrom, IsRefused, IsStopped, IsUnrun};
+ghost use Rattle.command_run.specs.Serves.{AreRun, AreOpenedFrom, IsOpenedFrom, IsReady, IsRefused, IsStopped, IsUnrun};
 
 use crate::observing::{run_by, wanted_symbols};
 use crate::opened::Opened;
@@ -52,10 +52,9 @@ pub(crate) fn open_file<'a, F: Files, R: Read>(
     stdin: &mut R,
 ) -> Result<Opened, Failure<'a>>
     ensures input { TakesAtMost (limit.input + 1) (R.remaining stdin.old) (R.remaining stdin.new) }
-    ensures wanted { IfOk result (λ opened. is_some opened.symbols ≡ is_some races.entry) }
-    ensures opened { IfOk result (λ opened. AreRun (F.content files.now file.now) (R.remaining stdin.old) (AreOpenedFrom config.now opened)) }
-    ensures done { IfOk result (λ opened. (point_of opened.start).done ≡ 0) }
-    ensures output { IfOk result (λ opened. (point_of opened.start).state.output ≡ []) }
+    ensures ready { IfOk result (IsReady races.entry) }
+    ensures opened { IfOk result (λ opened. AreRun (F.content files.now file.now) (R.remaining stdin.old)
+        (AreOpenedFrom config.now opened)) }
     ensures failed { IfErr result (IsUnrun file.now (F.content files.now file.now) (R.remaining stdin.old) config.now) }
 {
     let elf = match files.read(alloc, file, FILE_LIMIT) {
@@ -77,10 +76,8 @@ fn open_all<'a>(
     config: &Config,
     races: Option<Destination<'a>>,
 ) -> Result<Opened, Failure<'a>>
-    ensures wanted { IfOk result (λ opened. is_some opened.symbols ≡ is_some races.entry) }
+    ensures ready { IfOk result (IsReady races.entry) }
     ensures opened { IfOk result (λ opened. AreOpenedFrom config.now opened elf.now input.now) }
-    ensures done { IfOk result (λ opened. (point_of opened.start).done ≡ 0) }
-    ensures output { IfOk result (λ opened. (point_of opened.start).state.output ≡ []) }
     ensures failed { IfErr result (IsRefused elf.now input.now config.now) }
 {
     let start = open_bytes(alloc, elf, input, config)?;
@@ -124,9 +121,11 @@ pub fn run_start<'a, H: Threads + Wait + Sync, O: Write, W: Write>(
     ensures ended { IfOk result.result (λ ended. Ends (AreTold O.contents) (point_of start).setup ended.0 result.recorders) }
     ensures races { IfOk result.result (λ ended. AreFound (is_some records.now.races) (point_of start).setup ended.1.items) }
     ensures same { AreSame recorders result.recorders }
-    ensures sent { IfOk result.result (λ ended. Appends (W.contents stdout.old.writer) (W.contents stdout.new.writer) ended.0.output.items) }
+    ensures sent { IfOk result.result (λ ended.
+        Appends (W.contents stdout.old.writer) (W.contents stdout.new.writer) ended.0.output.items) }
     ensures whole { OnOk result.result (stdout.new.is_lost ≡ false) }
-    ensures stopped { IfErr result.result (λ failure. (files files' : Content) → IsStopped records.now.trace records.now.timeline (point_of start).setup
+    ensures stopped { IfErr result.result (λ failure. (files files' : Content)
+        → IsStopped records.now.trace records.now.timeline (point_of start).setup
         (record { files = files; output = W.contents stdout.old.writer; failures = stdout.old.failures })
         (record { files = files'; output = W.contents stdout.new.writer; failures = stdout.new.failures }) failure) }
 {

@@ -22,7 +22,7 @@ returns-in_err-write_records-in-Ok-race_text-clause-answer g c =
     (record { files = g.F.Files.content c.write_records.new.files; output = g.W.Write.contents c.write_records.new.writer; failures = c.run_start-result.new.stdout.failures })
     (g.F.Files.content c.begin.new.files) (g.W.Write.contents c.run_start-result.new.stdout.writer)
     (rw c.in-Ok.is at c.run_start-result.ensures.ended)
-    (wanted_races c.args.records.now symbols c.args.opened.symbols (point_of c.args.opened.start).setup c.in-Ok.races.items (string_bytes c.in-Ok-race_text.races) c.requires.wanted names
+    (wanted_races c.args.records.now symbols c.args.opened.symbols (point_of c.args.opened.start).setup c.in-Ok.races.items (string_bytes c.in-Ok-race_text.races) c.requires.ready.wanted names
     (rw c.in-Ok.is at c.run_start-result.ensures.races) c.in-Ok-race_text.ensures.races)
     _ _ c.in_ok-trace.ensures.kept (rw c.in-Ok.is at c.run_start-result.ensures.sent)
     c.in_err-write_records-in-Ok-race_text.ensures.failed c.from_residual-in_err-write_records-in-Ok-race_text.ensures.1
@@ -36,7 +36,7 @@ returns-in_ok-write_records-in-Ok-race_text-clause-answer g c =
     (record { files = g.F.Files.content c.write_records.new.files; output = g.W.Write.contents c.write_records.new.writer; failures = c.run_start-result.new.stdout.failures })
     (g.F.Files.content c.begin.new.files) (g.W.Write.contents c.run_start-result.new.stdout.writer)
     (rw c.in-Ok.is at c.run_start-result.ensures.ended)
-    (wanted_races c.args.records.now symbols c.args.opened.symbols (point_of c.args.opened.start).setup c.in-Ok.races.items (string_bytes c.in-Ok-race_text.races) c.requires.wanted names
+    (wanted_races c.args.records.now symbols c.args.opened.symbols (point_of c.args.opened.start).setup c.in-Ok.races.items (string_bytes c.in-Ok-race_text.races) c.requires.ready.wanted names
     (rw c.in-Ok.is at c.run_start-result.ensures.races) c.in-Ok-race_text.ensures.races)
     c.one_history.ensures.determinism c.one_history.ensures.progress (rw c.in-Ok.is at c.run_start-result.ensures.sent)
     c.in_ok-write_records-in-Ok-race_text.ensures.out
@@ -51,7 +51,7 @@ returns-in-Err-race_text-clause-answer g c =
     (record { files = g.F.Files.content c.abandon_all.new.files; output = g.W.Write.contents c.run_start-result.new.stdout.writer; failures = c.run_start-result.new.stdout.failures })
     c.in-Err-race_text.failure (rw c.in-Ok.is at c.run_start-result.ensures.ended) c.in-Err-race_text.ensures.failed (rw c.in-Ok.is at c.run_start-result.ensures.sent)
     (but_parts_twice c.args.records.now (g.F.Files.content c.args.files.now) (g.F.Files.content c.begin.new.files) (g.F.Files.content c.abandon_all.new.files)
-    c.in_ok-trace.ensures.kept c.abandon_all.ensures.kept)
+    c.in_ok-trace.ensures.kept c.abandon_all.ensures.others)
 
 pub returns-in-Err-clause-answer : goal.returns-in-Err-clause-answer
 returns-in-Err-clause-answer g c =
@@ -59,5 +59,5 @@ returns-in-Err-clause-answer g c =
     inl (
       inr ((rw c.in-Err.is at c.run_start-result.ensures.stopped) (g.F.Files.content c.args.files.now) (g.F.Files.content c.abandon_all-in-Err.new.files)),
       but_parts_twice c.args.records.now (g.F.Files.content c.args.files.now) (g.F.Files.content c.begin.new.files) (g.F.Files.content c.abandon_all-in-Err.new.files)
-          c.in_ok-trace.ensures.kept c.abandon_all-in-Err.ensures.kept,
+          c.in_ok-trace.ensures.kept c.abandon_all-in-Err.ensures.others,
     )
