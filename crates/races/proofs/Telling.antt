@@ -3,7 +3,7 @@ use Rattle.std.proofs.Common.{◌≡◌, ℕ, Bool, true, List, [], ◌∷◌, �
 use Rattle.std.specs.Prelude.{◌==◌, if◌then◌else◌}
 use Rattle.std.proofs.Math.Path.{fun_ext}
 use Rattle.std.proofs.lemmas.List.{append-nil}
-use Rattle.races.specs.Recording.{KnowsSteps, Records, depth_of, depths_from, depths_in}
+use Rattle.races.specs.Recording.{Adds, KnowsSteps, Records, RecordsMore, depth_of, depths_from, depths_in}
 use Rattle.races.specs.Steps.{Step, depth_after, outside, steps_from, steps_in, steps_of}
 use Rattle.races.specs.Steps.Step.{Touch}
 use Rattle.races.specs.declared.depths.Depths.{Depths}
@@ -24,7 +24,7 @@ steps_more depth (first ∷ history) event =
 
 -- the depths and the steps with an event more
 pub told_more : (old new : RaceRecorder) (history : List Event) (event : Event) → ((thread : ℕ) → depth_of new.depths thread ≡ depth_after (depth_of old.depths) event thread)
-    → ((steps : List Step) → KnowsSteps old.steps steps → KnowsSteps new.steps (steps ++ steps_of (depth_of old.depths) event)) → Records old history → Records new (history ++ event ∷ [])
+    → Adds old.steps (steps_of (depth_of old.depths) event) new.steps → Records old history → Records new (history ++ event ∷ [])
 told_more old new history event depths steps records =
     let same : depth_of old.depths ≡ depths_in history = fun_ext records.depths in record {
       depths = λ thread.
@@ -34,8 +34,7 @@ told_more old new history event depths steps records =
 
 -- an access more
 pub told_access : (old new : RaceRecorder) (access : Access) → new.depths ≡ old.depths
-    → ((steps : List Step) → KnowsSteps old.steps steps → KnowsSteps new.steps (steps ++ outside (depth_of old.depths) access.site.thread (Touch access))) → (history : List Event) → Records old history
-    → Records new (history ++ Accessed access ∷ [])
+    → Adds old.steps (outside (depth_of old.depths) access.site.thread (Touch access)) new.steps → RecordsMore old (Accessed access) new
 told_access old new access depths steps history records = told_more old new history (Accessed access) (λ thread. ap (λ (one : Depths). depth_of one thread) depths) steps records
 
 -- what is looked at of an access of a thread that is in no library region

@@ -19,6 +19,11 @@ time clock thread = slice_index_or clock.times.items thread 0
 abbrev pub IsJoined : (old new other : ℕ → ℕ) → Type 0
 IsJoined old new other = (thread index : ℕ) → (index < new thread) ↔ ((index < old thread) ⊎ (index < other thread))
 
+-- the clock of a key goes as far as before or as a past, and each other one stays
+abbrev pub JoinsAt : {Key : Type 0} → (old : Key → ℕ → ℕ) → Key → (past : ℕ → ℕ) → (new : Key → ℕ → ℕ) → Type 0
+JoinsAt {Key = Key} old key past new =
+    (other : Key) (thread index : ℕ) → (index < new other thread) ↔ ((index < old other thread) ⊎ ((key ≡ other) × (index < past thread)))
+
 -- of no clock the times are 0
 abbrev pub time_by : Option Clock → (thread : ℕ) → ℕ
 time_by None thread = 0

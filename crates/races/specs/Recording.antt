@@ -1,5 +1,6 @@
 -- What a recorder of races has recorded.
-use Rattle.std.specs.Prelude.{◌≡◌, ℕ, List, [], ◌∷◌, length, slice_index_or}
+use Rattle.std.specs.Prelude.{◌≡◌, ℕ, Result, OnOk, OnErr, true, false, List, [], ◌∷◌, ◌++◌, length, slice_index_or}
+use Rattle.std.specs.declared.alloc.AllocError.{AllocError}
 use Rattle.races.specs.Recent.{KnowsRecent}
 use Rattle.races.specs.Steps.{Step, depth_after, steps_in}
 use Rattle.races.specs.Words.{KnowsWords, Times}
@@ -27,7 +28,26 @@ pub record KnowsSteps (kept : Steps) (steps : List Step) : Type 0 where
   pub words : KnowsWords steps kept.words.pages.pages.items kept.words.races.words
   pub recent : KnowsRecent kept.recent kept.clocks steps
 
+-- some steps more are known than before
+abbrev pub Adds : Steps → List Step → Steps → Type 0
+Adds old more new = (steps : List Step) → KnowsSteps old steps → KnowsSteps new (steps ++ more)
+
 -- A recorder was told a history.
 pub record Records (recorder : RaceRecorder) (history : List Event) : Type 0 where
   pub depths : (thread : ℕ) → depth_of recorder.depths thread ≡ depths_in history thread
   pub steps : KnowsSteps recorder.steps (steps_in history)
+
+-- a recorder has recorded one event more than before
+abbrev pub RecordsMore : RaceRecorder → Event → RaceRecorder → Type 0
+RecordsMore old event new = (history : List Event) → Records old history → Records new (history ++ event ∷ [])
+
+-- A recorder takes some steps, unless memory runs out. The depths stay in any case.
+pub record Takes (old : RaceRecorder) (more : List Step) (new : RaceRecorder) (result : Result (Unit {0}) AllocError) : Type 0 where
+  pub steps : OnOk result (Adds old.steps more new.steps)
+  pub depths : new.depths ≡ old.depths
+
+-- What becomes of a recorder at an event: it was told the event, or it is broken. One that was broken before is told nothing.
+pub record RecordsOrBreaks (old : RaceRecorder) (event : Event) (new : RaceRecorder) (result : Result (Unit {0}) AllocError) : Type 0 where
+  pub recorded : OnOk result (RecordsMore old event new)
+  pub broken : OnErr result (new.is_broken ≡ true)
+  pub stays : OnOk result (old.is_broken ≡ false)

@@ -41,21 +41,33 @@ both_outside depth thread other step = if depth other == 0 then outside depth th
 abbrev pub threads_outside : (ℕ → ℕ) → List ℕ → List Place
 threads_outside depth threads = map Thread (filter (λ thread. depth thread == 0) threads)
 
+-- a thread passes its past on to a place
+abbrev pub passing : (thread : ℕ) → Place → Step
+passing thread place = Order (Thread thread ∷ []) (Thread thread ∷ place ∷ [])
+
+-- a thread takes over a place's past
+abbrev pub taking : (thread : ℕ) → Place → Step
+taking thread place = Order (Thread thread ∷ place ∷ []) (Thread thread ∷ [])
+
+-- what a round of a barrier makes of its threads: each takes over the past of all
+abbrev pub meeting : (ℕ → ℕ) → List ℕ → Step
+meeting depth threads = Order (threads_outside depth threads) (threads_outside depth threads)
+
 -- What is looked at of an event. A thread's event takes over the thread's past and passes its own on to what the thread does later. Besides:
 -- a create passes it on to the thread that it makes; an end, to the joins of it; the release of a mutex, to its later acquisitions;
 -- a signal or broadcast, to who it lets go; a round of a barrier, what each of its threads did to all of them; a hint *release*, to
 -- each later hint *acquire* of its object. In a library region only a create and the hints are looked at.
 abbrev pub steps_of : (ℕ → ℕ) → Event → List Step
 steps_of depth (event.Access access) = outside depth access.site.thread (Touch access)
-steps_of depth (event.Create thread created) = Order (Thread thread ∷ []) (Thread thread ∷ Thread created ∷ []) ∷ []
-steps_of depth (event.End thread) = outside depth thread (Order (Thread thread ∷ []) (Thread thread ∷ Ended thread ∷ []))
-steps_of depth (event.Join thread ended) = outside depth thread (Order (Thread thread ∷ Ended ended ∷ []) (Thread thread ∷ []))
-steps_of depth (event.Unlock thread mutex) = outside depth thread (Order (Thread thread ∷ []) (Thread thread ∷ Mutex mutex ∷ []))
-steps_of depth (event.Lock thread mutex) = outside depth thread (Order (Thread thread ∷ Mutex mutex ∷ []) (Thread thread ∷ []))
-steps_of depth (event.LetGo thread waiter) = both_outside depth thread waiter (Order (Thread thread ∷ []) (Thread thread ∷ Thread waiter ∷ []))
-steps_of depth (event.Round threads) = Order (threads_outside depth threads.items) (threads_outside depth threads.items) ∷ []
-steps_of depth (event.Acquire thread object) = Order (Thread thread ∷ Object object ∷ []) (Thread thread ∷ []) ∷ []
-steps_of depth (event.Release thread object) = Order (Thread thread ∷ []) (Thread thread ∷ Object object ∷ []) ∷ []
+steps_of depth (event.Create thread created) = passing thread (Thread created) ∷ []
+steps_of depth (event.End thread) = outside depth thread (passing thread (Ended thread))
+steps_of depth (event.Join thread ended) = outside depth thread (taking thread (Ended ended))
+steps_of depth (event.Unlock thread mutex) = outside depth thread (passing thread (Mutex mutex))
+steps_of depth (event.Lock thread mutex) = outside depth thread (taking thread (Mutex mutex))
+steps_of depth (event.LetGo thread waiter) = both_outside depth thread waiter (passing thread (Thread waiter))
+steps_of depth (event.Round threads) = meeting depth threads.items ∷ []
+steps_of depth (event.Acquire thread object) = taking thread (Object object) ∷ []
+steps_of depth (event.Release thread object) = passing thread (Object object) ∷ []
 steps_of depth (event.Enter thread) = []
 steps_of depth (event.Leave thread) = []
 steps_of depth (event.Fresh address length) = Renew address length ∷ []

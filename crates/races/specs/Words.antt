@@ -6,12 +6,13 @@ use Rattle.std.specs.BTreeMap.{BTreeMap, get}
 use Rattle.races.specs.Before.{at}
 use Rattle.races.specs.Bytes.{has}
 use Rattle.races.specs.Clocks.{Follows, Reaches, time_at, time_of}
-use Rattle.races.specs.Linked.{IsSameAccess, latest_in}
+use Rattle.races.specs.Linked.{IsAt, IsSameAccess, latest_in}
 use Rattle.races.specs.Races.{AreRacing, IsOf, IsRace, IsSamePair, IsToldBy, Renews}
 use Rattle.races.specs.Steps.{Step, IsSameAuthor}
 use Rattle.races.specs.Steps.Step.{Touch, Renew}
 use Rattle.races.specs.declared.byte_set.ByteSet.{ByteSet}
 use Rattle.races.specs.declared.clocks.Clocks.{Clocks}
+use Rattle.races.specs.declared.entry.Entry.{Entry}
 use Rattle.races.specs.declared.race.Race.{Race}
 use Rattle.races.specs.declared.site.Access.{Access}
 use Rattle.races.specs.declared.site.Site.{Site}
@@ -40,6 +41,19 @@ pub record IsKept (own : Latest) (old new : List Latest) : Type 0 where
       → (own ≡ now) ⊎ ((was : Latest) × Contains old was × IsSameAccess now was × ((place : ℕ) → has now.bytes place ≡ true → has was.bytes place ≡ true))
   pub rest : (was : Latest) (place : ℕ) → Contains old was → has was.bytes place ≡ true
       → (IsSameAuthor own.site was.site × (has own.bytes place ≡ true)) ⊎ ((now : Latest) × Contains new now × IsSameAccess now was × (has now.bytes place ≡ true))
+
+-- what belongs to each number but this one stays
+abbrev pub StaysElsewhere : {A : Type 0} → (old : ℕ → A) → (number : ℕ) → (new : ℕ → A) → Type 0
+StaysElsewhere old number new = (other : ℕ) → (number ≡ other → ⊥) → new other ≡ old other
+
+-- an access is kept of the word with this number, and what is kept of the others stays
+pub record KeepsAt (old : ℕ → List Latest) (number : ℕ) (kept : Latest) (new : ℕ → List Latest) : Type 0 where
+  pub own : IsKept kept (old number) (new number)
+  pub others : StaysElsewhere old number new
+
+-- an access is kept of the word that the entry at an index is of
+abbrev pub KeepsWith : (old : List Entry) → (index : ℕ) → Latest → (new : List Entry) → Type 0
+KeepsWith old index kept new = (entry : Entry) → IsAt old index entry → KeepsAt (latest_in old) entry.place kept (latest_in new)
 
 -- an access of before races with one of now: another thread's, one of both a store, and not before the time of the past
 pub record IsHit (times : ℕ → ℕ) (past : Latest) (access : Access) : Type 0 where

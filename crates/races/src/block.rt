@@ -45,7 +45,8 @@ impl Block {
 
     /// Whether all accesses of other threads are known to be in the past of a thread.
     pub(crate) fn is_past(self, thread: u8, clocks: &Clocks) -> bool
-        ensures { IsTrue result → (past : Latest) → IsKnown self past → past.site.thread ≢ thread → past.step < time_of clocks.now.threads.clocks.items thread past.site.thread }
+        ensures { IsTrue result → (past : Latest) → IsKnown self past → past.site.thread ≢ thread
+            → past.step < time_of clocks.now.threads.clocks.items thread past.site.thread }
     {
         if self.owner != thread || self.is_shared {
             return false;

@@ -33,7 +33,8 @@ impl Clock {
     /// Sets a thread's time to this one if it is later.
     pub(crate) fn raise(&mut self, thread: usize, to: u64) -> Result<(), AllocError>
         requires { thread < 2 ^ 63 }
-        ensures { OnOk result ((other index : ℕ) → (index < time self.new other) ↔ ((index < time self.old other) ⊎ ((thread ≡ other) × (index < to)))) }
+        ensures { OnOk result ((other index : ℕ) →
+            (index < time self.new other) ↔ ((index < time self.old other) ⊎ ((thread ≡ other) × (index < to)))) }
     {
         self.reach(thread)?;
         if self.times[thread] < to {

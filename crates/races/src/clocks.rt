@@ -1,8 +1,8 @@
 //! The clocks of all places.
-ghost use Rattle.std.specs.Prelude.{◌≡◌, ℕ, ◌<◌, ◌⊎◌, ◌↔◌, List, Contains, IfOk, OnOk, IsSome};
+ghost use Rattle.std.specs.Prelude.{◌≡◌, ℕ, ◌<◌, ◌↔◌, Contains, IfOk, OnOk, IsSome};
 ghost use Rattle.std.specs.Ordering.{nat_cmp};
 ghost use Rattle.std.specs.BTreeMap.{get};
-ghost use Rattle.races.specs.Clocks.{time, time_at, time_in, time_kept, time_of, IsJoined, IsAfterOrder};
+ghost use Rattle.races.specs.Clocks.{time, time_at, time_in, time_kept, time_of, IsJoined, IsAfterOrder, JoinsAt};
 ghost use Rattle.races.specs.declared.place.Place.{Place as ClockPlace};
 ghost use Rattle.races.specs.declared.place.Place.TheVariants.{Thread};
 
@@ -66,7 +66,9 @@ impl Clocks {
 
     /// The pasts of some places together, at a step.
     fn past_of(&self, step: u64, acquired: &[Place]) -> Result<Clock, AllocError>
-        ensures { IfOk result (λ clock. (thread index : ℕ) → (index < time clock thread) ↔ ((taken : ClockPlace) × Contains acquired.now taken × (index < time_at self.now step taken thread))) }
+        ensures { IfOk result (λ clock. (thread index : ℕ) →
+            (index < time clock thread)
+            ↔ ((taken : ClockPlace) × Contains acquired.now taken × (index < time_at self.now step taken thread))) }
     {
         let mut past = Clock::new(self.alloc);
         for place in acquired {
@@ -97,7 +99,7 @@ impl Clocks {
 
     /// Adds a past to a place's clock.
     fn join(&mut self, place: Place, past: &Clock) -> Result<(), AllocError>
-        ensures { OnOk result ((other : ClockPlace) (thread index : ℕ) → (index < time_kept self.new other thread) ↔ ((index < time_kept self.old other thread) ⊎ ((place ≡ other) × (index < time past.now thread)))) }
+        ensures { OnOk result (JoinsAt (time_kept self.old) place (time past.now) (time_kept self.new)) }
     {
         let alloc = self.alloc;
         match place {
@@ -121,7 +123,7 @@ fn add_in(clocks: &ClockMap, key: u32, past: &mut Clock) -> Result<(), AllocErro
 
 /// Adds a past to the clock of a key.
 fn join_in(alloc: Global, clocks: &mut ClockMap, key: u32, past: &Clock) -> Result<(), AllocError>
-    ensures { OnOk result ((other thread index : ℕ) → (index < time_in clocks.new other thread) ↔ ((index < time_in clocks.old other thread) ⊎ ((key ≡ other) × (index < time past.now thread)))) }
+    ensures { OnOk result (JoinsAt (time_in clocks.old) key (time past.now) (time_in clocks.new)) }
 {
     add_key(alloc, clocks, key)?;
     match clocks.get_mut(&key) {

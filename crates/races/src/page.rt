@@ -45,7 +45,7 @@ impl Page {
     ghost use Rattle.races.specs.Clocks.{time_of};
     ghost use Rattle.races.specs.Linked.{GivesWay, IsAt, IsErased, IsSpot, latest_in};
     ghost use Rattle.races.specs.Steps.{Step};
-    ghost use Rattle.races.specs.Words.{IsFinding, IsKept, IsRenewed, KnowsLatest, Times, found_at};
+    ghost use Rattle.races.specs.Words.{IsFinding, IsRenewed, KeepsAt, KeepsWith, KnowsLatest, StaysElsewhere, Times, found_at};
     ghost use Rattle.races.specs.declared.entry.Entry.{Entry as Kept};
     ghost use Rattle.races.specs.declared.latest.Latest.{Latest as Past};
 
@@ -70,8 +70,11 @@ impl Page {
         step: u64,
         clocks: &Clocks,
     ) -> Result<(), AllocError>
-        ensures own { OnOk result ((steps : List Step) → KnowsLatest steps access.now.word (latest_in self.now.entries.items place) → Times steps clocks.now → step ≡ length steps → IsFinding steps access.now clocks.now [] (found_at races.old.words access.now.word) → IsFinding steps access.now clocks.now (latest_in self.now.entries.items place) (found_at races.new.words access.now.word)) }
-        ensures others { OnOk result ((other : ℕ) → (access.now.word ≡ other → ⊥) → found_at races.new.words other ≡ found_at races.old.words other) }
+        ensures own { OnOk result ((steps : List Step)
+            → KnowsLatest steps access.now.word (latest_in self.now.entries.items place) → Times steps clocks.now → step ≡ length steps
+            → IsFinding steps access.now clocks.now [] (found_at races.old.words access.now.word)
+            → IsFinding steps access.now clocks.now (latest_in self.now.entries.items place) (found_at races.new.words access.now.word)) }
+        ensures others { OnOk result (StaysElsewhere (found_at races.old.words) access.now.word (found_at races.new.words)) }
     {
         if self.is_past(place, access.site.thread, clocks) {
             return Ok(());
@@ -93,8 +96,7 @@ impl Page {
         own: Latest,
     ) -> Result<(), AllocError>
         requires { place < 4096 }
-        ensures own { OnOk result (IsKept own (latest_in self.old.entries.items place) (latest_in self.new.entries.items place)) }
-        ensures others { OnOk result ((other : ℕ) → (place ≡ other → ⊥) → latest_in self.new.entries.items other ≡ latest_in self.old.entries.items other) }
+        ensures { OnOk result (KeepsAt (latest_in self.old.entries.items) place own (latest_in self.new.entries.items)) }
     {
         self.reach(alloc)?;
         self.take(place, &own);
@@ -111,7 +113,9 @@ impl Page {
     /// Bytes begin a new life. The page's first word has this number.
     pub(crate) fn renew(&mut self, base: u32, fresh: Fresh)
         requires { base + 4096 ≤ 2 ^ 32 }
-        ensures { (place : ℕ) → place < 4096 → IsRenewed fresh.address fresh.length (base + place) (latest_in self.old.entries.items place) (latest_in self.new.entries.items place) }
+        ensures { (place : ℕ) → place < 4096 →
+            IsRenewed fresh.address fresh.length (base + place)
+            (latest_in self.old.entries.items place) (latest_in self.new.entries.items place) }
     {
         if self.entries.is_empty() {
             return;
@@ -125,7 +129,8 @@ impl Page {
 
     /// Whether all accesses of other threads that are kept of the word at a place are known to be in the past of a thread.
     fn is_past(&self, place: usize, thread: u8, clocks: &Clocks) -> bool
-        ensures { IsTrue result → (past : Past) → Contains (latest_in self.now.entries.items place) past → past.site.thread ≢ thread → past.step < time_of clocks.now.threads.clocks.items thread past.site.thread }
+        ensures { IsTrue result → (past : Past) → Contains (latest_in self.now.entries.items place) past → past.site.thread ≢ thread
+            → past.step < time_of clocks.now.threads.clocks.items thread past.site.thread }
     {
         let index = place / BLOCK_WORDS;
         index < self.blocks.len() && self.blocks[index].is_past(thread, clocks)
@@ -176,7 +181,8 @@ impl Page {
 
     /// The index of the entry of a number, if it is of the word at a place, with the same bytes by the same instruction as an access.
     fn alike_at(&self, number: u32, place: usize, own: &Latest) -> Option<usize>
-        ensures { IfSome result (λ index. (entry : Kept) × IsAt self.now.entries.items index entry × (entry.place ≡ place) × GivesWay entry.latest own.now) }
+        ensures { IfSome result (λ index. (entry : Kept)
+            × IsAt self.now.entries.items index entry × (entry.place ≡ place) × GivesWay entry.latest own.now) }
     {
         let index = self.index_of(number, place)?;
         if self.entries[index].latest.is_alike(own.site, own.bytes) {
@@ -251,9 +257,9 @@ impl Page {
 
     /// Puts an access in the place of the one at an index, which gives way to it.
     fn replace(&mut self, index: usize, own: Latest)
-        requires { (entry : Kept) × IsAt self.old.entries.items index entry × GivesWay entry.latest own × MayCome self.old.blocks.items entry.place own }
-        ensures own { (entry : Kept) → IsAt self.old.entries.items index entry → IsKept own (latest_in self.old.entries.items entry.place) (latest_in self.new.entries.items entry.place) }
-        ensures others { (entry : Kept) (other : ℕ) → IsAt self.old.entries.items index entry → (entry.place ≡ other → ⊥) → latest_in self.new.entries.items other ≡ latest_in self.old.entries.items other }
+        requires { (entry : Kept)
+            × IsAt self.old.entries.items index entry × GivesWay entry.latest own × MayCome self.old.blocks.items entry.place own }
+        ensures { KeepsWith self.old.entries.items index own self.new.entries.items }
     {
         let Entry { place, next, .. } = self.entries[index];
         self.entries[index].latest = own;
@@ -267,9 +273,9 @@ impl Page {
 
     /// Keeps an access after the one at an index, the last one of its word.
     fn push_after(&mut self, index: usize, own: Latest) -> Result<(), AllocError>
-        requires { (entry : Kept) × IsAt self.old.entries.items index entry × (entry.next ≡ 0) × MayCome self.old.blocks.items entry.place own }
-        ensures own { OnOk result ((entry : Kept) → IsAt self.old.entries.items index entry → IsKept own (latest_in self.old.entries.items entry.place) (latest_in self.new.entries.items entry.place)) }
-        ensures others { OnOk result ((entry : Kept) (other : ℕ) → IsAt self.old.entries.items index entry → (entry.place ≡ other → ⊥) → latest_in self.new.entries.items other ≡ latest_in self.old.entries.items other) }
+        requires { (entry : Kept)
+            × IsAt self.old.entries.items index entry × (entry.next ≡ 0) × MayCome self.old.blocks.items entry.place own }
+        ensures { OnOk result (KeepsWith self.old.entries.items index own self.new.entries.items) }
     {
         let number = self.next_number()?;
         let place = self.entries[index].place;
@@ -291,8 +297,7 @@ impl Page {
         requires inside { place < vec_len self.old.firsts }
         requires none { slice_index_or self.old.firsts.items place 0 ≡ 0 }
         requires may { MayCome self.old.blocks.items place own }
-        ensures own { OnOk result (IsKept own (latest_in self.old.entries.items place) (latest_in self.new.entries.items place)) }
-        ensures others { OnOk result ((other : ℕ) → (place ≡ other → ⊥) → latest_in self.new.entries.items other ≡ latest_in self.old.entries.items other) }
+        ensures { OnOk result (KeepsAt (latest_in self.old.entries.items) place own (latest_in self.new.entries.items)) }
     {
         let number = self.next_number()?;
         self.entries.push(Entry {
@@ -319,7 +324,7 @@ impl Page {
     /// Bytes of the word at a place begin a new life.
     fn erase(&mut self, place: usize, bytes: ByteSet)
         ensures own { IsErased bytes (latest_in self.old.entries.items place) (latest_in self.new.entries.items place) }
-        ensures others { (other : ℕ) → (place ≡ other → ⊥) → latest_in self.new.entries.items other ≡ latest_in self.old.entries.items other }
+        ensures others { StaysElsewhere (latest_in self.old.entries.items) place (latest_in self.new.entries.items) }
     {
         let mut number = self.first(place);
         while number != 0 {

@@ -1,7 +1,7 @@
 //! What is kept of the words of all pages.
 ghost use Rattle.std.specs.Prelude.{◌≡◌, ℕ, ◌+◌, ◌/◌, ◌%◌, ◌<◌, ◌^◌, [], IfOk, MatchOption, OnOk, vec_len};
 ghost use Rattle.races.specs.Linked.{latest_in};
-ghost use Rattle.races.specs.Words.{IsKept, IsRenewed, latest_at};
+ghost use Rattle.races.specs.Words.{IsRenewed, KeepsAt, latest_at};
 
 use crate::fresh::Fresh;
 use crate::latest::Latest;
@@ -29,7 +29,8 @@ impl Pages {
 
     /// The page of a word, if there is one.
     pub(crate) fn page(&self, word: u32) -> Option<&Page>
-        ensures { MatchOption result (latest_at self.now.pages.items word ≡ []) (λ page. latest_in page.now.entries.items (word % 4096) ≡ latest_at self.now.pages.items word) }
+        ensures { MatchOption result (latest_at self.now.pages.items word ≡ [])
+            (λ page. latest_in page.now.entries.items (word % 4096) ≡ latest_at self.now.pages.items word) }
     {
         match self.pages.get(page_of(word)) {
             Some(Some(page)) => Some(page),
@@ -39,8 +40,7 @@ impl Pages {
 
     /// Keeps an access of a word.
     pub(crate) fn keep(&mut self, word: u32, own: Latest) -> Result<(), AllocError>
-        ensures own { OnOk result (IsKept own (latest_at self.old.pages.items word) (latest_at self.new.pages.items word)) }
-        ensures others { OnOk result ((other : ℕ) → (word ≡ other → ⊥) → latest_at self.new.pages.items other ≡ latest_at self.old.pages.items other) }
+        ensures { OnOk result (KeepsAt (latest_at self.old.pages.items) word own (latest_at self.new.pages.items)) }
     {
         let number = page_of(word);
         self.reach(number)?;
@@ -73,7 +73,8 @@ impl Pages {
 
     /// Bytes begin a new life.
     pub(crate) fn renew(&mut self, fresh: Fresh)
-        ensures { (word : ℕ) → IsRenewed fresh.address fresh.length word (latest_at self.old.pages.items word) (latest_at self.new.pages.items word) }
+        ensures { (word : ℕ) →
+            IsRenewed fresh.address fresh.length word (latest_at self.old.pages.items word) (latest_at self.new.pages.items word) }
     {
         let from = page_of(fresh.first_word());
         let end = end_page(fresh.end_word()).min(self.pages.len());
@@ -88,8 +89,7 @@ impl Pages {
 /// A page of which one word was accessed, the one at a place.
 fn first_page(alloc: Global, place: usize, own: Latest) -> Result<Box<Page>, AllocError>
     requires { place < 4096 }
-    ensures own { IfOk result (λ page. IsKept own [] (latest_in page.value.entries.items place)) }
-    ensures others { IfOk result (λ page. (other : ℕ) → (place ≡ other → ⊥) → latest_in page.value.entries.items other ≡ []) }
+    ensures { IfOk result (λ page. KeepsAt (λ word. []) place own (latest_in page.value.entries.items)) }
 {
     let mut page = Page::new(alloc);
     page.keep(alloc, place, own)?;

@@ -2,7 +2,7 @@
 ghost use Rattle.std.specs.Prelude.{◌≡◌, ℕ, [], ◌++◌, IfOk, None, OnOk, map};
 ghost use Rattle.std.specs.Ordering.{nat_cmp};
 ghost use Rattle.std.specs.BTreeMap.{IsOrdered, get};
-ghost use Rattle.races.specs.Words.{IsNoted, found_at, told_at, told_of};
+ghost use Rattle.races.specs.Words.{IsNoted, StaysElsewhere, found_at, told_at, told_of};
 
 use crate::found::Found;
 use crate::race::Race;
@@ -34,7 +34,7 @@ impl RaceMap {
     #[inline(never)]
     pub(crate) fn note(&mut self, word: u32, race: Found) -> Result<(), AllocError>
         ensures noted { OnOk result (IsNoted (found_at self.old.words word) (found_at self.new.words word) race) }
-        ensures others { OnOk result ((other : ℕ) → (word ≡ other → ⊥) → found_at self.new.words other ≡ found_at self.old.words other) }
+        ensures others { OnOk result (StaysElsewhere (found_at self.old.words) word (found_at self.new.words)) }
     {
         match self.words.get_mut(&word) {
             Some(races) => races.note(race),
@@ -45,7 +45,7 @@ impl RaceMap {
     /// Notes the first race at a word.
     fn begin(&mut self, word: u32, race: Found) -> Result<(), AllocError>
         ensures noted { get nat_cmp self.old.words word ≡ None → OnOk result (IsNoted [] (found_at self.new.words word) race) }
-        ensures others { OnOk result ((other : ℕ) → (word ≡ other → ⊥) → found_at self.new.words other ≡ found_at self.old.words other) }
+        ensures others { OnOk result (StaysElsewhere (found_at self.old.words) word (found_at self.new.words)) }
     {
         let mut races = WordRaces::new(self.alloc);
         races.note(race)?;

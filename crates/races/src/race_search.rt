@@ -1,7 +1,7 @@
 //! The race of an access with one that is kept of its word.
 ghost use Rattle.std.specs.Prelude.{◌≡◌, ℕ, List, [], ◌∷◌, ◌++◌, Contains, OnOk, length};
 ghost use Rattle.races.specs.Steps.{Step};
-ghost use Rattle.races.specs.Words.{IsFinding, KnowsLatest, Times, found_at};
+ghost use Rattle.races.specs.Words.{IsFinding, KnowsLatest, StaysElsewhere, Times, found_at};
 ghost use Rattle.races.specs.declared.latest.Latest.{Latest as Past};
 
 use crate::clocks::Clocks;
@@ -20,8 +20,11 @@ pub(crate) fn find_race(
     step: u64,
     clocks: &Clocks,
 ) -> Result<(), AllocError>
-    ensures own { OnOk result ((steps : List Step) (latest done : List Past) → KnowsLatest steps access.now.word latest → Contains latest past.now → Times steps clocks.now → step ≡ length steps → IsFinding steps access.now clocks.now done (found_at races.old.words access.now.word) → IsFinding steps access.now clocks.now (done ++ past.now ∷ []) (found_at races.new.words access.now.word)) }
-    ensures others { OnOk result ((other : ℕ) → (access.now.word ≡ other → ⊥) → found_at races.new.words other ≡ found_at races.old.words other) }
+    ensures own { OnOk result ((steps : List Step) (latest done : List Past)
+        → KnowsLatest steps access.now.word latest → Contains latest past.now → Times steps clocks.now → step ≡ length steps
+        → IsFinding steps access.now clocks.now done (found_at races.old.words access.now.word)
+        → IsFinding steps access.now clocks.now (done ++ past.now ∷ []) (found_at races.new.words access.now.word)) }
+    ensures others { OnOk result (StaysElsewhere (found_at races.old.words) access.now.word (found_at races.new.words)) }
 {
     if !past.is_hit(access, clocks) {
         return Ok(());

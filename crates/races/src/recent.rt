@@ -78,7 +78,8 @@ impl Recent {
 
     /// Notes an access, the step of this index.
     pub(crate) fn note(&mut self, access: &Access, step: u64)
-        ensures noted { (slot : Told) → Contains self.new.slots.items slot → IsSlotOf self.old.slots.items self.old.since access.now step slot }
+        ensures noted { (slot : Told) → Contains self.new.slots.items slot
+            → IsSlotOf self.old.slots.items self.old.since access.now step slot }
         ensures since { self.new.since ≡ self.old.since }
     {
         self.make_room();

@@ -1,12 +1,11 @@
 //! The recorder of races: it is told a run's events one after another, and says where they race.
-ghost use Rattle.std.specs.Prelude.{◌≡◌, ℕ, List, [], ◌∷◌, ◌++◌, IfOk, IsFalse, IsTrue, OnOk, OnErr, true, false, map};
+ghost use Rattle.std.specs.Prelude.{◌≡◌, List, [], ◌∷◌, ◌++◌, IfOk, IsFalse, IsTrue, OnOk, OnErr, true, false, map};
 ghost use Rattle.races.specs.Races.{AreRaces};
-ghost use Rattle.races.specs.Recording.{KnowsSteps, Records, depth_of};
-ghost use Rattle.races.specs.Steps.{Step, both_outside, outside, steps_in, steps_of, threads_outside};
-ghost use Rattle.races.specs.Steps.Step.{Order, Touch};
+ghost use Rattle.races.specs.Recording.{Records, RecordsMore, RecordsOrBreaks, Takes, depth_of};
+ghost use Rattle.races.specs.Steps.{both_outside, meeting, outside, passing, steps_in, taking, threads_outside};
+ghost use Rattle.races.specs.Steps.Step.{Touch};
 ghost use Rattle.races.specs.declared.event.Event.{Event as RunEvent};
 ghost use Rattle.races.specs.declared.event.Event.TheVariants.{Access as Accessed};
-ghost use Rattle.races.specs.declared.place.Place.{Place as ClockPlace};
 ghost use Rattle.races.specs.declared.place.Place.TheVariants.{Thread};
 
 use crate::depths::Depths;
@@ -58,7 +57,8 @@ impl RaceRecorder {
     /// Out of memory. Then the recorder is broken: each later call fails in the same way. An event past 2^62 of them, and
     /// a library region inside 2^64 others, count as out of memory too.
     pub fn record(&mut self, event: &Event) -> Result<(), AllocError>
-        ensures recorded { OnOk result ((history : List RunEvent) → Records self.old history → Records self.new (history ++ event.now ∷ [])) }
+        ensures recorded { OnOk result
+            ((history : List RunEvent) → Records self.old history → Records self.new (history ++ event.now ∷ [])) }
         ensures broken { OnErr result (self.new.is_broken ≡ true) }
         ensures stays { OnOk result (self.old.is_broken ≡ false) }
     {
@@ -74,7 +74,8 @@ impl RaceRecorder {
     ///
     /// As `record`.
     pub fn record_access(&mut self, access: &Access) -> Result<(), AllocError>
-        ensures recorded { OnOk result ((history : List RunEvent) → Records self.old history → Records self.new (history ++ Accessed access.now ∷ [])) }
+        ensures recorded { OnOk result
+            ((history : List RunEvent) → Records self.old history → Records self.new (history ++ Accessed access.now ∷ [])) }
         ensures broken { OnErr result (self.new.is_broken ≡ true) }
         ensures stays { OnOk result (self.old.is_broken ≡ false) }
     {
@@ -92,7 +93,8 @@ impl RaceRecorder {
     ///
     /// Out of memory, or the recorder is broken.
     pub fn races(&self) -> Result<Vec<Race>, AllocError>
-        ensures races { IfOk result (λ races. (history : List RunEvent) → Records self.now history → AreRaces (steps_in history) races.items) }
+        ensures races { IfOk result (λ races.
+            (history : List RunEvent) → Records self.now history → AreRaces (steps_in history) races.items) }
         ensures whole { OnOk result (self.now.is_broken ≡ false) }
     {
         if self.is_broken {
@@ -106,7 +108,7 @@ impl RaceRecorder {
     /// Whether an access is made again. Then it is recorded, and nothing is kept of it.
     #[inline(always)]
     fn is_repeated(&mut self, access: &Access) -> bool
-        ensures recorded { IsTrue result → (history : List RunEvent) → Records self.old history → Records self.new (history ++ Accessed access.now ∷ []) }
+        ensures recorded { IsTrue result → RecordsMore self.old (Accessed access.now) self.new }
         ensures stays { IsFalse result → (history : List RunEvent) → Records self.old history → Records self.new history }
         ensures whole { IsTrue result → self.old.is_broken ≡ false }
         ensures broken { self.new.is_broken ≡ self.old.is_broken }
@@ -120,9 +122,7 @@ impl RaceRecorder {
     /// Records an access that is not known to be made again.
     #[inline(never)]
     fn record_new(&mut self, access: &Access) -> Result<(), AllocError>
-        ensures recorded { OnOk result ((history : List RunEvent) → Records self.old history → Records self.new (history ++ Accessed access.now ∷ [])) }
-        ensures broken { OnErr result (self.new.is_broken ≡ true) }
-        ensures stays { OnOk result (self.old.is_broken ≡ false) }
+        ensures { RecordsOrBreaks self.old (Accessed access.now) self.new result }
     {
         if self.is_broken {
             return Err(AllocError);
@@ -135,9 +135,7 @@ impl RaceRecorder {
     /// Records an event in the long way.
     #[inline(never)]
     fn record_other(&mut self, event: &Event) -> Result<(), AllocError>
-        ensures recorded { OnOk result ((history : List RunEvent) → Records self.old history → Records self.new (history ++ event.now ∷ [])) }
-        ensures broken { OnErr result (self.new.is_broken ≡ true) }
-        ensures stays { OnOk result (self.old.is_broken ≡ false) }
+        ensures { RecordsOrBreaks self.old event.now self.new result }
     {
         if self.is_broken {
             return Err(AllocError);
@@ -153,7 +151,7 @@ impl RaceRecorder {
 
     /// Tells what is looked at of an event.
     fn tell(&mut self, event: &Event) -> Result<(), AllocError>
-        ensures { OnOk result ((history : List RunEvent) → Records self.old history → Records self.new (history ++ event.now ∷ [])) }
+        ensures { OnOk result (RecordsMore self.old event.now self.new) }
     {
         match event {
             Event::Access(access) => self.access(access),
@@ -177,8 +175,7 @@ impl RaceRecorder {
 
     /// An access.
     fn access(&mut self, access: &Access) -> Result<(), AllocError>
-        ensures steps { OnOk result ((steps : List Step) → KnowsSteps self.old.steps steps → KnowsSteps self.new.steps (steps ++ outside (depth_of self.old.depths) access.now.site.thread (Touch access.now))) }
-        ensures depths { self.new.depths ≡ self.old.depths }
+        ensures { Takes self.old (outside (depth_of self.old.depths) access.now.site.thread (Touch access.now)) self.new result }
     {
         if self.depths.is_outside(access.site.thread) {
             self.steps.touch(access)
@@ -189,8 +186,7 @@ impl RaceRecorder {
 
     /// A thread passes its past on to a place.
     fn pass(&mut self, thread: u8, place: Place) -> Result<(), AllocError>
-        ensures steps { OnOk result ((steps : List Step) → KnowsSteps self.old.steps steps → KnowsSteps self.new.steps (steps ++ Order (Thread thread ∷ []) (Thread thread ∷ place ∷ []) ∷ [])) }
-        ensures depths { self.new.depths ≡ self.old.depths }
+        ensures { Takes self.old (passing thread place ∷ []) self.new result }
     {
         let own = Place::Thread(thread);
         self.steps.order(&[own], &[own, place])
@@ -198,8 +194,7 @@ impl RaceRecorder {
 
     /// A thread takes over a place's past.
     fn take(&mut self, thread: u8, place: Place) -> Result<(), AllocError>
-        ensures steps { OnOk result ((steps : List Step) → KnowsSteps self.old.steps steps → KnowsSteps self.new.steps (steps ++ Order (Thread thread ∷ place ∷ []) (Thread thread ∷ []) ∷ [])) }
-        ensures depths { self.new.depths ≡ self.old.depths }
+        ensures { Takes self.old (taking thread place ∷ []) self.new result }
     {
         let own = Place::Thread(thread);
         self.steps.order(&[own, place], &[own])
@@ -207,8 +202,7 @@ impl RaceRecorder {
 
     /// A thread passes its past on to a place, if it is in no library region.
     fn pass_outside(&mut self, thread: u8, place: Place) -> Result<(), AllocError>
-        ensures steps { OnOk result ((steps : List Step) → KnowsSteps self.old.steps steps → KnowsSteps self.new.steps (steps ++ outside (depth_of self.old.depths) thread (Order (Thread thread ∷ []) (Thread thread ∷ place ∷ [])))) }
-        ensures depths { self.new.depths ≡ self.old.depths }
+        ensures { Takes self.old (outside (depth_of self.old.depths) thread (passing thread place)) self.new result }
     {
         if self.depths.is_outside(thread) {
             self.pass(thread, place)
@@ -219,8 +213,7 @@ impl RaceRecorder {
 
     /// A thread takes over a place's past, if it is in no library region.
     fn take_outside(&mut self, thread: u8, place: Place) -> Result<(), AllocError>
-        ensures steps { OnOk result ((steps : List Step) → KnowsSteps self.old.steps steps → KnowsSteps self.new.steps (steps ++ outside (depth_of self.old.depths) thread (Order (Thread thread ∷ place ∷ []) (Thread thread ∷ [])))) }
-        ensures depths { self.new.depths ≡ self.old.depths }
+        ensures { Takes self.old (outside (depth_of self.old.depths) thread (taking thread place)) self.new result }
     {
         if self.depths.is_outside(thread) {
             self.take(thread, place)
@@ -231,8 +224,7 @@ impl RaceRecorder {
 
     /// A signal or broadcast lets a thread go, if neither is in a library region.
     fn let_go(&mut self, thread: u8, waiter: u8) -> Result<(), AllocError>
-        ensures steps { OnOk result ((steps : List Step) → KnowsSteps self.old.steps steps → KnowsSteps self.new.steps (steps ++ both_outside (depth_of self.old.depths) thread waiter (Order (Thread thread ∷ []) (Thread thread ∷ Thread waiter ∷ [])))) }
-        ensures depths { self.new.depths ≡ self.old.depths }
+        ensures { Takes self.old (both_outside (depth_of self.old.depths) thread waiter (passing thread (Thread waiter))) self.new result }
     {
         if self.depths.is_outside(waiter) {
             self.pass_outside(thread, Place::Thread(waiter))
@@ -243,8 +235,7 @@ impl RaceRecorder {
 
     /// A barrier lets threads go.
     fn meet(&mut self, threads: &[u8]) -> Result<(), AllocError>
-        ensures steps { OnOk result ((steps : List Step) → KnowsSteps self.old.steps steps → KnowsSteps self.new.steps (steps ++ Order (threads_outside (depth_of self.old.depths) threads.now) (threads_outside (depth_of self.old.depths) threads.now) ∷ [])) }
-        ensures depths { self.new.depths ≡ self.old.depths }
+        ensures { Takes self.old (meeting (depth_of self.old.depths) threads.now ∷ []) self.new result }
     {
         let places = places_outside(self.alloc, &self.depths, threads)?;
         self.steps.order(&places, &places)

@@ -20,7 +20,9 @@ pub(crate) enum Spot {
 impl Spot {
     /// The spot once the next entry of the word, with these bytes and at this index, was passed.
     pub(crate) fn past(self, index: usize, bytes: ByteSet) -> Spot
-        ensures { (firsts : List ℕ) (entries : List Entry) (place number : ℕ) (own : Latest) (entry : Entry) → IsSpot firsts entries place number own self → IsAt entries index entry → entry.place ≡ place → entry.latest.bytes ≡ bytes → IsSpot firsts entries place entry.next own result }
+        ensures { (firsts : List ℕ) (entries : List Entry) (place number : ℕ) (own : Latest) (entry : Entry)
+            → IsSpot firsts entries place number own self → IsAt entries index entry → entry.place ≡ place → entry.latest.bytes ≡ bytes
+            → IsSpot firsts entries place entry.next own result }
     {
         match self {
             Spot::At(_) => self,

@@ -1,9 +1,8 @@
 //! The steps of a run: accesses, orders, and bytes that begin a new life.
-ghost use Rattle.std.specs.Prelude.{◌≡◌, ℕ, ◌+◌, ◌-◌, ◌^◌, ◌<◌, List, [], ◌∷◌, ◌++◌, IfOk, IsFalse, IsTrue, OnOk};
+ghost use Rattle.std.specs.Prelude.{◌≡◌, ◌+◌, ◌-◌, ◌^◌, ◌<◌, [], ◌∷◌, IfOk, IsFalse, IsTrue, OnOk};
 ghost use Rattle.std.specs.Ordering.{nat_cmp};
 ghost use Rattle.std.specs.BTreeMap.{IsOrdered};
-ghost use Rattle.races.specs.Recording.{KnowsSteps};
-ghost use Rattle.races.specs.Steps.{Step};
+ghost use Rattle.races.specs.Recording.{Adds, KnowsSteps};
 ghost use Rattle.races.specs.Steps.Step.{Touch, Order, Renew};
 ghost use Rattle.races.specs.Words.{told_of};
 
@@ -48,7 +47,7 @@ impl Steps {
     /// Whether an access is known at one look to be one of the recent ones, made again. Then it is a step more, and nothing is kept of it.
     #[inline(always)]
     pub(crate) fn is_repeated(&mut self, access: &Access) -> bool
-        ensures again { IsTrue result → (steps : List Step) → KnowsSteps self.old steps → KnowsSteps self.new (steps ++ Touch access.now ∷ []) }
+        ensures again { IsTrue result → Adds self.old (Touch access.now ∷ []) self.new }
         ensures stays { IsFalse result → self.new ≡ self.old }
     {
         if self.count >= MOST_STEPS || !self.recent.has_exactly(access) {
@@ -60,7 +59,7 @@ impl Steps {
 
     /// An access.
     pub(crate) fn touch(&mut self, access: &Access) -> Result<(), AllocError>
-        ensures { OnOk result ((steps : List Step) → KnowsSteps self.old steps → KnowsSteps self.new (steps ++ Touch access.now ∷ [])) }
+        ensures { OnOk result (Adds self.old (Touch access.now ∷ []) self.new) }
     {
         let more = self.more()?;
         if self.recent.has(access) {
@@ -75,7 +74,7 @@ impl Steps {
 
     /// An event that takes over the pasts of some places and passes its own on to others.
     pub(crate) fn order(&mut self, acquired: &[Place], released: &[Place]) -> Result<(), AllocError>
-        ensures { OnOk result ((steps : List Step) → KnowsSteps self.old steps → KnowsSteps self.new (steps ++ Order acquired.now released.now ∷ [])) }
+        ensures { OnOk result (Adds self.old (Order acquired.now released.now ∷ []) self.new) }
     {
         let more = self.more()?;
         self.clocks.order(self.count, acquired, released)?;
@@ -86,7 +85,7 @@ impl Steps {
 
     /// The bytes from an address on, so many, begin a new life.
     pub(crate) fn renew(&mut self, address: u32, length: u32) -> Result<(), AllocError>
-        ensures { OnOk result ((steps : List Step) → KnowsSteps self.old steps → KnowsSteps self.new (steps ++ Renew address length ∷ [])) }
+        ensures { OnOk result (Adds self.old (Renew address length ∷ []) self.new) }
     {
         let more = self.more()?;
         self.words.renew(Fresh { address, length });

@@ -15,8 +15,8 @@ pub(crate) struct ThreadClocks {
 }
 
 impl ThreadClocks {
-    ghost use Rattle.std.specs.Prelude.{ℕ, ◌<◌, ◌⊎◌, ◌↔◌, IfOk, OnOk};
-    ghost use Rattle.races.specs.Clocks.{time, time_of, IsJoined};
+    ghost use Rattle.std.specs.Prelude.{ℕ, IfOk, OnOk};
+    ghost use Rattle.races.specs.Clocks.{time, time_of, IsJoined, JoinsAt};
 
     /// No times.
     pub(crate) fn new(alloc: Global) -> Result<Self, AllocError>
@@ -55,7 +55,7 @@ impl ThreadClocks {
 
     /// Adds a past to a thread's clock.
     pub(crate) fn join(&mut self, key: u8, past: &Clock) -> Result<(), AllocError>
-        ensures { OnOk result ((other thread index : ℕ) → (index < time_of self.new.clocks.items other thread) ↔ ((index < time_of self.old.clocks.items other thread) ⊎ ((key ≡ other) × (index < time past.now thread)))) }
+        ensures { OnOk result (JoinsAt (time_of self.old.clocks.items) key (time past.now) (time_of self.new.clocks.items)) }
     {
         self.clocks[usize::from(key)].join(past)
     }

@@ -51,7 +51,8 @@ fn note(found: &mut Vec<Found>, race: Found) -> Result<(), AllocError>
 /// The first race of two instructions.
 fn find_pair(found: &[Found], first: Site, second: Site) -> Option<usize>
     ensures within { IfSome result (λ index. index < length found.now) }
-    ensures pair { IfSome result (λ index. (d : Race) → IsSamePair (slice_index_or found.now index d).first (slice_index_or found.now index d).second first second) }
+    ensures pair { IfSome result (λ index. (d : Race) →
+        IsSamePair (slice_index_or found.now index d).first (slice_index_or found.now index d).second first second) }
 {
     for (index, known) in found.iter().enumerate() {
         if known.is_pair(first, second) {

@@ -4,7 +4,7 @@ ghost use Rattle.std.specs.Ordering.{nat_cmp};
 ghost use Rattle.std.specs.BTreeMap.{IsOrdered};
 ghost use Rattle.races.specs.Steps.{Step};
 ghost use Rattle.races.specs.Steps.Step.{Touch, Renew};
-ghost use Rattle.races.specs.Words.{KnowsFound, KnowsWords, Times, found_at, latest_at, told_of};
+ghost use Rattle.races.specs.Words.{KnowsFound, KnowsWords, StaysElsewhere, Times, found_at, latest_at, told_of};
 
 use crate::clocks::Clocks;
 use crate::fresh::Fresh;
@@ -40,7 +40,9 @@ impl Words {
         step: u64,
         clocks: &Clocks,
     ) -> Result<(), AllocError>
-        ensures { OnOk result ((steps : List Step) → KnowsWords steps self.old.pages.pages.items self.old.races.words → Times steps clocks.now → step ≡ length steps → KnowsWords (steps ++ Touch access.now ∷ []) self.new.pages.pages.items self.new.races.words) }
+        ensures { OnOk result ((steps : List Step)
+            → KnowsWords steps self.old.pages.pages.items self.old.races.words → Times steps clocks.now → step ≡ length steps
+            → KnowsWords (steps ++ Touch access.now ∷ []) self.new.pages.pages.items self.new.races.words) }
     {
         self.find(access, step, clocks)?;
         let own = Latest {
@@ -53,8 +55,10 @@ impl Words {
 
     /// Notes the races of an access, the step of this index.
     fn find(&mut self, access: &Access, step: u64, clocks: &Clocks) -> Result<(), AllocError>
-        ensures own { OnOk result ((steps : List Step) → KnowsWords steps self.old.pages.pages.items self.old.races.words → Times steps clocks.now → step ≡ length steps → KnowsFound (steps ++ Touch access.now ∷ []) access.now.word (found_at self.new.races.words access.now.word)) }
-        ensures others { OnOk result ((other : ℕ) → (access.now.word ≡ other → ⊥) → found_at self.new.races.words other ≡ found_at self.old.races.words other) }
+        ensures own { OnOk result ((steps : List Step)
+            → KnowsWords steps self.old.pages.pages.items self.old.races.words → Times steps clocks.now → step ≡ length steps
+            → KnowsFound (steps ++ Touch access.now ∷ []) access.now.word (found_at self.new.races.words access.now.word)) }
+        ensures others { OnOk result (StaysElsewhere (found_at self.old.races.words) access.now.word (found_at self.new.races.words)) }
         ensures pages { self.new.pages ≡ self.old.pages }
     {
         match self.pages.page(access.word) {
@@ -67,7 +71,8 @@ impl Words {
 
     /// Bytes begin a new life.
     pub(crate) fn renew(&mut self, fresh: Fresh)
-        ensures { (steps : List Step) → KnowsWords steps self.old.pages.pages.items self.old.races.words → KnowsWords (steps ++ Renew fresh.address fresh.length ∷ []) self.new.pages.pages.items self.new.races.words }
+        ensures { (steps : List Step) → KnowsWords steps self.old.pages.pages.items self.old.races.words
+            → KnowsWords (steps ++ Renew fresh.address fresh.length ∷ []) self.new.pages.pages.items self.new.races.words }
     {
         self.pages.renew(fresh);
     }

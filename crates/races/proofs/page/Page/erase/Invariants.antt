@@ -1,5 +1,6 @@
-use Rattle.std.proofs.Common.{◌≡◌, ℕ, length}
+use Rattle.std.proofs.Common.{length}
 use Rattle.races.specs.Linked.{latest_in, left_of}
+use Rattle.races.specs.Words.{StaysElsewhere}
 use Rattle.races.proofs.Linked.{IsErasing, IsOf}
 use Rattle.races.proofs.page.Page.erase.Given as goal
 
@@ -7,7 +8,7 @@ abbrev pub invariant-loop-number : goal.invariant-loop-number
 invariant-loop-number l =
     IsOf l.initial.self.entries.items l.place l.number
     × IsErasing l.bytes l.initial.self.entries.items l.self.entries.items l.place l.number
-    × ((other : ℕ) → (l.place ≡ other → ⊥) → latest_in l.self.entries.items other ≡ latest_in l.initial.self.entries.items other)
+    × StaysElsewhere (latest_in l.initial.self.entries.items) l.place (latest_in l.self.entries.items)
 
 abbrev pub decreases-loop-number : goal.decreases-loop-number
 decreases-loop-number l = left_of (length l.initial.self.entries.items) l.number

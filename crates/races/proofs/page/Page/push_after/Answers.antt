@@ -19,8 +19,8 @@ changed old items index number new was last there pushed value =
     let same : last ≡ was = same_at (old ++ new ∷ []) index last was (at_more.0, sym (value ∙ ap (λ (all : List Entry). get_or all index last) pushed)) at_more in
     ap (λ (all : List Entry). set all index (leading number last)) pushed ∙ ap (λ (one : Entry). set (old ++ new ∷ []) index (leading number one)) same
 
-pub returns-clause-own : goal.returns-clause-own
-returns-clause-own c = λ entry is_at.
+pub returns : goal.returns
+returns c = λ entry is_at.
     let own = c.args.own in
     let index = c.args.index in
     let last : Entry = c.index.result.now in
@@ -28,22 +28,19 @@ returns-clause-own c = λ entry is_at.
     let new : Entry = record { latest = own; place = last.place; next = 0 } in
     let old = c.args.self.now.entries.items in
     let there : IsAt old index last = (is_at.0, sym c.index.ensures) in
-    let stays = latest_set (old ++ new ∷ []) index last now last.place (push_at_kept old new index last there) refl (λ here. refl) in
+    let at_more = push_at_kept old new index last there in
+    let stays = latest_set (old ++ new ∷ []) index last now last.place at_more refl (λ here. refl) in
     let put : IsKept own (latest_in old last.place) (latest_in (set (old ++ new ∷ []) index now) last.place) = kept_same own _ _ _ _ refl (sym stays) (kept_push old new own refl) in
-    subst (λ (one : Entry). IsKept own (latest_in old one.place) (latest_in c.set_hint.new.self.entries.items one.place)) (same_at old index last entry there is_at)
-    (subst (λ (all : List Entry). IsKept own (latest_in old last.place) (latest_in all last.place)) (sym (c.set_hint.ensures ∙ changed old c.push.new.self.items index c.in_ok-number.number new last c.index_mut.result.now there c.in_ok-push.ensures.items c.index_mut.ensures.value)) put)
-
-pub returns-clause-others : goal.returns-clause-others
-returns-clause-others c = λ entry other is_at apart.
-    let index = c.args.index in
-    let last : Entry = c.index.result.now in
-    let now : Entry = leading c.in_ok-number.number last in
-    let new : Entry = record { latest = c.args.own; place = last.place; next = 0 } in
-    let old = c.args.self.now.entries.items in
-    let there : IsAt old index last = (is_at.0, sym c.index.ensures) in
     let place_is = ap (λ (one : Entry). one.place) (same_at old index entry last is_at there) in
-    subst (λ (all : List Entry). latest_in all other ≡ latest_in old other) (sym (c.set_hint.ensures ∙ changed old c.push.new.self.items index c.in_ok-number.number new last c.index_mut.result.now there c.in_ok-push.ensures.items c.index_mut.ensures.value))
-    (latest_set (old ++ new ∷ []) index last now other (push_at_kept old new index last there) refl (λ here. refl) ∙ latest_push old new other (λ same. apart (place_is ∙ same)))
+    let pushed = sym (c.set_hint.ensures ∙ changed old c.push.new.self.items index c.in_ok-number.number new last c.index_mut.result.now there c.in_ok-push.ensures.items c.index_mut.ensures.value) in
+    record {
+      own =
+          subst (λ (one : Entry). IsKept own (latest_in old one.place) (latest_in c.set_hint.new.self.entries.items one.place)) (same_at old index last entry there is_at)
+          (subst (λ (all : List Entry). IsKept own (latest_in old last.place) (latest_in all last.place)) pushed put);
+      others = λ other apart.
+          subst (λ (all : List Entry). latest_in all other ≡ latest_in old other) pushed
+          (latest_set (old ++ new ∷ []) index last now other at_more refl (λ here. refl) ∙ latest_push old new other (λ same. apart (place_is ∙ same)));
+    }
 
 pub invariant_of-self-2 : goal.invariant_of-self-2
 invariant_of-self-2 c =

@@ -5,14 +5,12 @@ use Rattle.races.specs.declared.entry.Entry.{Entry}
 use Rattle.races.proofs.Linked.{kept_push, latest_push}
 use Rattle.races.proofs.page.Page.push_first.Goals as goal
 
-pub returns-clause-own : goal.returns-clause-own
-returns-clause-own c =
+pub returns : goal.returns
+returns c =
     let old = c.args.self.now.entries.items in
     let new : Entry = record { latest = c.args.own; place = c.args.place; next = 0 } in
-    subst (λ (all : List Entry). IsKept c.args.own (latest_in old c.args.place) (latest_in all c.args.place)) (sym (c.set_hint.ensures ∙ c.in_ok-push.ensures.items)) (kept_push old new c.args.own refl)
-
-pub returns-clause-others : goal.returns-clause-others
-returns-clause-others c = λ other apart.
-    let old = c.args.self.now.entries.items in
-    let new : Entry = record { latest = c.args.own; place = c.args.place; next = 0 } in
-    subst (λ (all : List Entry). latest_in all other ≡ latest_in old other) (sym (c.set_hint.ensures ∙ c.in_ok-push.ensures.items)) (latest_push old new other apart)
+    let pushed = sym (c.set_hint.ensures ∙ c.in_ok-push.ensures.items) in
+    record {
+      own = subst (λ (all : List Entry). IsKept c.args.own (latest_in old c.args.place) (latest_in all c.args.place)) pushed (kept_push old new c.args.own refl);
+      others = λ other apart. subst (λ (all : List Entry). latest_in all other ≡ latest_in old other) pushed (latest_push old new other apart);
+    }

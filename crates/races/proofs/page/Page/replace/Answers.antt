@@ -5,22 +5,19 @@ use Rattle.races.specs.declared.entry.Entry.{Entry}
 use Rattle.races.proofs.Linked.{kept_at, latest_set, same_at}
 use Rattle.races.proofs.page.Page.replace.Goals as goal
 
-pub returns-clause-own : goal.returns-clause-own
-returns-clause-own c = λ entry is_at.
+pub returns : goal.returns
+returns c = λ entry is_at.
     let was : Entry = c.index_mut.result.now in
     let now : Entry = record { latest = c.args.own; place = was.place; next = was.next } in
     let entries = c.args.self.now.entries.items in
     let there : IsAt entries c.args.index was = (is_at.0, sym c.index_mut.ensures.value) in
     let wanted = c.requires in
     let gives : GivesWay was.latest c.args.own = subst (λ (one : Entry). GivesWay one.latest c.args.own) (same_at entries c.args.index wanted.0 was wanted.1 there) wanted.2 in
-    subst (λ (one : Entry). IsKept c.args.own (latest_in entries one.place) (latest_in c.set_hint.new.self.entries.items one.place)) (same_at entries c.args.index was entry there is_at)
-    (subst (λ (all : List Entry). IsKept c.args.own (latest_in entries was.place) (latest_in all was.place)) (sym c.set_hint.ensures) (kept_at entries c.args.index was now c.args.own there gives refl refl))
-
-pub returns-clause-others : goal.returns-clause-others
-returns-clause-others c = λ entry other is_at apart.
-    let was : Entry = c.index_mut.result.now in
-    let now : Entry = record { latest = c.args.own; place = was.place; next = was.next } in
-    let entries = c.args.self.now.entries.items in
-    let there : IsAt entries c.args.index was = (is_at.0, sym c.index_mut.ensures.value) in
-    subst (λ (all : List Entry). latest_in all other ≡ latest_in entries other) (sym c.set_hint.ensures)
-    (latest_set entries c.args.index was now other there refl (λ same. absurd (apart (ap (λ (one : Entry). one.place) (same_at entries c.args.index entry was is_at there) ∙ same))))
+    record {
+      own =
+          subst (λ (one : Entry). IsKept c.args.own (latest_in entries one.place) (latest_in c.set_hint.new.self.entries.items one.place)) (same_at entries c.args.index was entry there is_at)
+          (subst (λ (all : List Entry). IsKept c.args.own (latest_in entries was.place) (latest_in all was.place)) (sym c.set_hint.ensures) (kept_at entries c.args.index was now c.args.own there gives refl refl));
+      others = λ other apart.
+          subst (λ (all : List Entry). latest_in all other ≡ latest_in entries other) (sym c.set_hint.ensures)
+          (latest_set entries c.args.index was now other there refl (λ same. absurd (apart (ap (λ (one : Entry). one.place) (same_at entries c.args.index entry was is_at there) ∙ same))));
+    }

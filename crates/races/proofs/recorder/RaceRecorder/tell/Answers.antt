@@ -1,9 +1,8 @@
 use Rattle.std.proofs.Common.{◌≡◌, ◌++◌, ◌∷◌, [], ℕ, List, ap, ◌∙◌, refl, sym, subst}
 use Rattle.std.proofs.lemmas.List.{append-nil}
 use Rattle.std.proofs.lemmas.Result.{on_ok_weaker}
-use Rattle.races.specs.Recording.{KnowsSteps, Records, depth_of}
-use Rattle.races.specs.Steps.{Step, depth_after, steps_of, threads_outside}
-use Rattle.races.specs.Steps.Step.{Order}
+use Rattle.races.specs.Recording.{Adds, KnowsSteps, Records, RecordsMore, depth_of}
+use Rattle.races.specs.Steps.{depth_after, meeting, steps_of}
 use Rattle.races.specs.declared.depths.Depths.{Depths}
 use Rattle.races.specs.declared.event.Event.{Event}
 use Rattle.races.specs.declared.event.Event.TheVariants.{Access, Create, End, Join, Unlock, Lock, LetGo, Round, Acquire, Release, Enter, Leave, Fresh}
@@ -13,7 +12,7 @@ use Rattle.races.proofs.recorder.RaceRecorder.tell.Goals as goal
 
 -- an event that changes no depth
 told : (old new : RaceRecorder) (event is : Event) → event ≡ is → ((depth : ℕ → ℕ) (thread : ℕ) → depth_after depth is thread ≡ depth thread) → new.depths ≡ old.depths
-    → ((steps : List Step) → KnowsSteps old.steps steps → KnowsSteps new.steps (steps ++ steps_of (depth_of old.depths) is)) → (history : List Event) → Records old history → Records new (history ++ event ∷ [])
+    → Adds old.steps (steps_of (depth_of old.depths) is) new.steps → RecordsMore old event new
 told old new event is same stays depths steps history records =
     subst (λ (one : Event). Records new (history ++ one ∷ [])) (sym same)
     (told_more old new history is (λ thread. ap (λ (one : Depths). depth_of one thread) depths ∙ sym (stays (depth_of old.depths) thread)) steps records)
@@ -76,9 +75,7 @@ pub returns-in-Round : goal.returns-in-Round
 returns-in-Round c =
     on_ok_weaker c.meet.result
     (λ steps. told c.args.self.now c.meet.new.self c.args.event.now (Round c.in-Round.threads) c.in-Round.is (λ depth thread. refl) c.meet.ensures.depths
-    (subst (λ (threads : List ℕ). (before : List Step) → KnowsSteps c.args.self.now.steps before
-    → KnowsSteps c.meet.new.self.steps (before ++ Order (threads_outside (depth_of c.args.self.now.depths) threads) (threads_outside (depth_of c.args.self.now.depths) threads) ∷ []))
-    c.deref.ensures.value steps))
+    (subst (λ (threads : List ℕ). Adds c.args.self.now.steps (meeting (depth_of c.args.self.now.depths) threads ∷ []) c.meet.new.self.steps) c.deref.ensures.value steps))
     c.meet.ensures.steps
 
 pub returns-in-Enter : goal.returns-in-Enter
