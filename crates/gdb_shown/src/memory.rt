@@ -38,7 +38,8 @@ fn bytes_in(
     thread: u32,
     window: Window,
 ) -> Result<Vec<u8>, AllocError>
-    ensures { IfOk result (λ bytes. bytes.items ≡ bytes_shown (moment_of timeline.now.present) thread window.start (min window.length 0x2000)) }
+    ensures { IfOk result
+        (λ bytes. bytes.items ≡ bytes_shown (moment_of timeline.now.present) thread window.start (min window.length 0x2000)) }
 {
     let length = window.length.min(MEMORY_LIMIT) as u32;
     match u32::try_from(window.start) {
