@@ -34,6 +34,14 @@ IsKnown (Some state) page bytes = Knows state page bytes
 abbrev pub AreKnown : BTreeMap ℕ PageState → List ByteChange → Type 0
 AreKnown pages bytes = (page : ℕ) → IsKnown (get nat_cmp pages page) page (bytes_of_page page bytes)
 
+-- what is known of the pages stays known
+abbrev pub StayKnown : (old new : BTreeMap ℕ PageState) → Type 0
+StayKnown old new = (bytes : List ByteChange) → AreKnown old bytes → AreKnown new bytes
+
+-- each page that there was stays
+abbrev pub Stay : (old new : BTreeMap ℕ PageState) → Type 0
+Stay old new = (page : ℕ) → IsSome (get nat_cmp old page) → IsSome (get nat_cmp new page)
+
 -- there are the pages of these addresses
 abbrev pub HasPages : BTreeMap ℕ PageState → List ℕ → Type 0
 HasPages pages addresses = All (λ address. IsSome (get nat_cmp pages (address / 4096 * 4096))) addresses

@@ -18,7 +18,8 @@ impl Changer {
     /// A thread changed it. Answers whether it is the second one.
     pub(crate) fn add(&mut self, thread: u8) -> bool
         ensures changer { (threads : List ℕ) → IsChanger self.old threads → IsChanger self.new (threads ++ thread ∷ []) }
-        ensures second { (threads : List ℕ) → IsChanger self.old threads → result ≡ (not (two_of threads) && two_of (threads ++ thread ∷ [])) }
+        ensures second { (threads : List ℕ) → IsChanger self.old threads →
+            result ≡ (not (two_of threads) && two_of (threads ++ thread ∷ [])) }
     {
         match *self {
             Changer::Nobody => {

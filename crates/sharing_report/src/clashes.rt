@@ -42,7 +42,10 @@ impl Clashes {
     /// A thread changed the byte at this place of the page, in a phase no earlier than the last one.
     pub(crate) fn add(&mut self, phase: u64, place: usize, thread: u8)
         requires { place < 4096 }
-        ensures { (page : ℕ) (marks : List (PlaceMark PhaseSpot)) → CountsClashes self.old page marks → All (λ mark. mark.place.phase ≤ phase) marks → length marks < 2 ^ 64 - 1 → CountsClashes self.new page (marks ++ record { place = record { phase = phase; address = page + place }; thread = thread } ∷ []) }
+        ensures { (page : ℕ) (marks : List (PlaceMark PhaseSpot)) →
+            CountsClashes self.old page marks → All (λ mark. mark.place.phase ≤ phase) marks → length marks < 2 ^ 64 - 1 →
+            CountsClashes self.new page
+            (marks ++ record { place = record { phase = phase; address = page + place }; thread = thread } ∷ []) }
     {
         self.begin(phase);
         let mut changer = self.changers[place];
@@ -55,7 +58,8 @@ impl Clashes {
 
     /// The last phase is this one.
     fn begin(&mut self, phase: u64)
-        ensures { (page : ℕ) (marks : List (PlaceMark PhaseSpot)) → CountsClashes self.old page marks → All (λ mark. mark.place.phase ≤ phase) marks → IsPhaseOfPage self.new page phase marks }
+        ensures { (page : ℕ) (marks : List (PlaceMark PhaseSpot)) →
+            CountsClashes self.old page marks → All (λ mark. mark.place.phase ≤ phase) marks → IsPhaseOfPage self.new page phase marks }
     {
         if phase != self.phase {
             self.phase = phase;

@@ -6,5 +6,6 @@ ghost use Rattle.sharing_report.specs.declared.page_row.PageRow.{PageRow};
 
 /// Changes have one sharing: two reports of the same changes are equal.
 pub fn one_report()
-    ensures { (changes : List Change) (rows others : List PageRow) → IsSharing changes rows → IsSharing changes others → rows ≡ others }
+    ensures { (changes : List Change) (rows others : List PageRow) →
+        IsSharing changes rows → IsSharing changes others → rows ≡ others }
 {}

@@ -65,7 +65,9 @@ impl PageState {
 
     /// A turn changed the bytes at these addresses of the page.
     pub(crate) fn note_all(&mut self, turn: u64, phase: u64, thread: u8, addresses: &[u32])
-        ensures { (page : ℕ) (bytes : List ChangedByte) → Knows self.old page bytes → AreUpTo turn phase bytes → AreOfPage page addresses.now → length bytes + length addresses.now < 2 ^ 64 - 1 → Knows self.new page (bytes ++ bytes_by turn phase thread addresses.now) }
+        ensures { (page : ℕ) (bytes : List ChangedByte) → Knows self.old page bytes → AreUpTo turn phase bytes →
+            AreOfPage page addresses.now → length bytes + length addresses.now < 2 ^ 64 - 1 →
+            Knows self.new page (bytes ++ bytes_by turn phase thread addresses.now) }
     {
         for address in addresses {
             self.note(turn, phase, thread, *address);
@@ -74,7 +76,9 @@ impl PageState {
 
     /// A turn changed the byte at an address of the page.
     fn note(&mut self, turn: u64, phase: u64, thread: u8, address: u32)
-        ensures { (page : ℕ) (bytes : List ChangedByte) → Knows self.old page bytes → AreUpTo turn phase bytes → address / 4096 * 4096 ≡ page → length bytes < 2 ^ 64 - 1 → Knows self.new page (bytes ++ record { turn = turn; phase = phase; thread = thread; address = address; page = page } ∷ []) }
+        ensures { (page : ℕ) (bytes : List ChangedByte) → Knows self.old page bytes → AreUpTo turn phase bytes →
+            address / 4096 * 4096 ≡ page → length bytes < 2 ^ 64 - 1 →
+            Knows self.new page (bytes ++ record { turn = turn; phase = phase; thread = thread; address = address; page = page } ∷ []) }
     {
         self.turns.add(turn);
         self.bytes = self.bytes.saturating_add(1);

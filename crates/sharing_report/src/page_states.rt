@@ -1,9 +1,9 @@
 //! The states of all changed pages, brought up to date by a turn.
-ghost use Rattle.std.specs.Prelude.{◌≡◌, ℕ, ◌+◌, ◌-◌, ◌*◌, ◌/◌, ◌^◌, ◌<◌, ◌≤◌, List, ◌++◌, IsSome, OnOk, length, slice_index, take};
+ghost use Rattle.std.specs.Prelude.{◌≡◌, ◌+◌, ◌-◌, ◌*◌, ◌/◌, ◌^◌, ◌<◌, ◌≤◌, List, ◌++◌, IsSome, OnOk, length, slice_index, take};
 ghost use Rattle.std.specs.Ordering.{nat_cmp};
 ghost use Rattle.std.specs.BTreeMap.{get};
 ghost use Rattle.sharing_report.specs.ByteChanges.{bytes_by};
-ghost use Rattle.sharing_report.specs.Pages.{AreKnown, AreOfPage, AreUpTo, HasPages};
+ghost use Rattle.sharing_report.specs.Pages.{AreKnown, AreOfPage, AreUpTo, HasPages, Stay, StayKnown};
 ghost use Rattle.sharing_report.specs.declared.byte_change.ByteChange.{ByteChange as ChangedByte};
 
 use crate::page_state::PageState;
@@ -21,7 +21,7 @@ pub(crate) fn add_pages(
     addresses: &[u32],
 ) -> Result<(), AllocError>
     ensures has { OnOk result (HasPages pages.new addresses.now) }
-    ensures known { (bytes : List ChangedByte) → AreKnown pages.old bytes → AreKnown pages.new bytes }
+    ensures known { StayKnown pages.old pages.new }
 {
     let mut rest = addresses;
     'pages: while !rest.is_empty() {
@@ -36,8 +36,8 @@ pub(crate) fn add_pages(
 /// Adds a page where there isn't yet.
 fn add_page(alloc: Global, pages: &mut PageStates, page: u32) -> Result<(), AllocError>
     ensures has { OnOk result (IsSome (get nat_cmp pages.new page)) }
-    ensures kept { (other : ℕ) → IsSome (get nat_cmp pages.old other) → IsSome (get nat_cmp pages.new other) }
-    ensures known { (bytes : List ChangedByte) → AreKnown pages.old bytes → AreKnown pages.new bytes }
+    ensures kept { Stay pages.old pages.new }
+    ensures known { StayKnown pages.old pages.new }
 {
     if !pages.contains_key(&page) {
         let state = PageState::new(alloc)?;
@@ -54,7 +54,9 @@ pub(crate) fn note_turn(
     thread: u8,
     addresses: &[u32],
 )
-    ensures { (bytes : List ChangedByte) → AreKnown pages.old bytes → HasPages pages.old addresses.now → AreUpTo turn phase bytes → length bytes + length addresses.now < 2 ^ 64 - 1 → AreKnown pages.new (bytes ++ bytes_by turn phase thread addresses.now) }
+    ensures { (bytes : List ChangedByte) → AreKnown pages.old bytes → HasPages pages.old addresses.now →
+        AreUpTo turn phase bytes → length bytes + length addresses.now < 2 ^ 64 - 1 →
+        AreKnown pages.new (bytes ++ bytes_by turn phase thread addresses.now) }
 {
     let mut rest = addresses;
     'pages: while !rest.is_empty() {
@@ -75,8 +77,10 @@ fn note_page(
     addresses: &[u32],
 )
     requires { AreOfPage page addresses.now }
-    ensures kept { (other : ℕ) → IsSome (get nat_cmp pages.old other) → IsSome (get nat_cmp pages.new other) }
-    ensures known { (bytes : List ChangedByte) → AreKnown pages.old bytes → IsSome (get nat_cmp pages.old page) → AreUpTo turn phase bytes → length bytes + length addresses.now < 2 ^ 64 - 1 → AreKnown pages.new (bytes ++ bytes_by turn phase thread addresses.now) }
+    ensures kept { Stay pages.old pages.new }
+    ensures known { (bytes : List ChangedByte) → AreKnown pages.old bytes → IsSome (get nat_cmp pages.old page) →
+        AreUpTo turn phase bytes → length bytes + length addresses.now < 2 ^ 64 - 1 →
+        AreKnown pages.new (bytes ++ bytes_by turn phase thread addresses.now) }
 {
     if let Some(state) = pages.get_mut(&page) {
         state.note_all(turn, phase, thread, addresses);

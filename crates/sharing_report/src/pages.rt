@@ -24,7 +24,8 @@ pub(crate) fn bytes_by_page(
 /// The pages with a changed byte, ascending, each by the address of its first byte.
 pub(crate) fn changed_pages(alloc: Global, bytes: &[ByteChange]) -> Result<Vec<u32>, AllocError>
     ensures ascending { IfOk result (λ pages. IsStrictlyIncreasing pages.items) }
-    ensures exact { IfOk result (λ pages. (page : ℕ) → Contains pages.items page ↔ Contains (map (λ byte. byte.page) bytes.now) page) }
+    ensures exact { IfOk result (λ pages. (page : ℕ) →
+        Contains pages.items page ↔ Contains (map (λ byte. byte.page) bytes.now) page) }
 {
     let mut pages = pages_of(alloc, bytes)?;
     pages.sort_unstable();

@@ -38,7 +38,9 @@ impl SharedPhases {
 
     /// A thread changed the page in a phase no earlier than the last one.
     pub(crate) fn add(&mut self, phase: u64, thread: u8)
-        ensures { (marks : List (PlaceMark ℕ)) → CountsShared self.old marks → All (λ mark. mark.place ≤ phase) marks → length marks < 2 ^ 64 - 1 → CountsShared self.new (marks ++ record { place = phase; thread = thread } ∷ []) }
+        ensures { (marks : List (PlaceMark ℕ)) → CountsShared self.old marks →
+            All (λ mark. mark.place ≤ phase) marks → length marks < 2 ^ 64 - 1 →
+            CountsShared self.new (marks ++ record { place = phase; thread = thread } ∷ []) }
     {
         self.begin(phase);
         if self.changer.add(thread) {
@@ -48,7 +50,8 @@ impl SharedPhases {
 
     /// The last phase is this one.
     fn begin(&mut self, phase: u64)
-        ensures { (marks : List (PlaceMark ℕ)) → CountsShared self.old marks → All (λ mark. mark.place ≤ phase) marks → IsInPhase self.new phase marks }
+        ensures { (marks : List (PlaceMark ℕ)) → CountsShared self.old marks →
+            All (λ mark. mark.place ≤ phase) marks → IsInPhase self.new phase marks }
     {
         if phase != self.phase {
             self.phase = phase;

@@ -59,7 +59,8 @@ impl SharingRecorder {
     ///
     /// Only out of memory.
     pub fn rows(&self) -> Result<Vec<PageRow>, AllocError>
-        ensures { IfOk result (λ rows. (changes : List Change) → Shares self.now changes → AreInOrder changes → IsSharing changes rows.items) }
+        ensures { IfOk result (λ rows. (changes : List Change) →
+            Shares self.now changes → AreInOrder changes → IsSharing changes rows.items) }
     {
         let mut rows = Vec::with_capacity(self.alloc, self.pages.len())?;
         for (page, state) in &self.pages {

@@ -35,7 +35,8 @@ impl ThreadSet {
 
     /// Puts a thread into it.
     pub(crate) fn add(&mut self, thread: u8)
-        ensures { (threads : List ℕ) → IsThreadSet self.old threads → length threads < 2 ^ 64 - 1 → IsThreadSet self.new (threads ++ thread ∷ []) }
+        ensures { (threads : List ℕ) → IsThreadSet self.old threads →
+            length threads < 2 ^ 64 - 1 → IsThreadSet self.new (threads ++ thread ∷ []) }
     {
         let place = usize::from(thread);
         if !self.has[place] {

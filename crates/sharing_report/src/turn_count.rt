@@ -33,7 +33,8 @@ impl TurnCount {
 
     /// A turn no earlier than the last one.
     pub(crate) fn add(&mut self, turn: u64)
-        ensures { (turns : List ℕ) → CountsTurns self.old turns → All (λ other. other ≤ turn) turns → length turns < 2 ^ 64 - 1 → CountsTurns self.new (turns ++ turn ∷ []) }
+        ensures { (turns : List ℕ) → CountsTurns self.old turns → All (λ other. other ≤ turn) turns →
+            length turns < 2 ^ 64 - 1 → CountsTurns self.new (turns ++ turn ∷ []) }
     {
         match self.last {
             Some(last) => {
@@ -47,7 +48,8 @@ impl TurnCount {
 
     /// A turn that there wasn't yet.
     fn count_new(&mut self, turn: u64)
-        ensures { (turns : List ℕ) → CountsTurns self.old turns → is_among turns turn ≡ false → All (λ other. other ≤ turn) turns → length turns < 2 ^ 64 - 1 → CountsTurns self.new (turns ++ turn ∷ []) }
+        ensures { (turns : List ℕ) → CountsTurns self.old turns → is_among turns turn ≡ false →
+            All (λ other. other ≤ turn) turns → length turns < 2 ^ 64 - 1 → CountsTurns self.new (turns ++ turn ∷ []) }
     {
         self.last = Some(turn);
         self.count = self.count.saturating_add(1);
