@@ -19,7 +19,8 @@ pub fn named_twice<'a, F: Files>(
     files: &F,
 ) -> Result<Option<(FileName<'a>, FileName<'a>)>, Failure<'a>>
     ensures none { IfOk result (λ twins. twins ≡ None → AreUnlike (F.is_same files.now) (names_of file.entry records.now)) }
-    ensures some { IfOk result (λ twins. IfSome twins (λ two. AreTwins (F.is_same files.now) two.0 two.1 (names_of file.entry records.now))) }
+    ensures some { IfOk result (λ twins.
+        IfSome twins (λ two. AreTwins (F.is_same files.now) two.0 two.1 (names_of file.entry records.now))) }
     ensures err { IfErr result (λ failure. failure ≡ Failure.OutOfMemory) }
 {
     let names = names_of(alloc, file, records)?;
@@ -117,7 +118,8 @@ fn is_one_file<'a, F: Files>(
     files: &F,
 ) -> Result<bool, Failure<'a>>
     ensures alike { text_of name.entry ≡ text_of other.entry → IfOk result (λ is_one. is_one ≡ true) }
-    ensures known { IfOk result (λ is_one. IfSome (F.is_same files.now (text_of name.entry) (text_of other.entry)) (λ same. is_one ≡ same)) }
+    ensures known { IfOk result (λ is_one.
+        IfSome (F.is_same files.now (text_of name.entry) (text_of other.entry)) (λ same. is_one ≡ same)) }
     ensures failed { IfErr result (λ failure. failure ≡ Failure.OutOfMemory) }
 {
     match files.is_one_file(alloc, name, other) {

@@ -45,7 +45,8 @@ impl<F: Write> Write for HostOutput<F> {
 
 /// Writes all that a file holds to a writer, and flushes it.
 pub(crate) fn copy_text<F: Read + Seek, W: Write>(file: &mut F, writer: &mut W) -> io::Result<()>
-    ensures whole { OnOk result (ReadsOn F.remaining F.stream_position F.stream_bytes → IfSome (F.stream_bytes file.old) (Appends (W.contents writer.old) (W.contents writer.new))) }
+    ensures whole { OnOk result (ReadsOn F.remaining F.stream_position F.stream_bytes
+        → IfSome (F.stream_bytes file.old) (Appends (W.contents writer.old) (W.contents writer.new))) }
     ensures end { OnOk result (IsAtEnd (F.remaining file.new)) }
 {
     file.rewind()?;

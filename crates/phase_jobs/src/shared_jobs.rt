@@ -46,7 +46,8 @@ impl SharedJobs {
         requires { (length jobs.now ≤ most_jobs) × (0 < seats) × (seats ≤ most_seats) }
         ensures jobs { IfOk result (λ made. (made.0.jobs ≡ jobs.now) × (cells_of made.0.base ≡ cells_of base.now)) }
         ensures size { IfOk result (λ made. made.0.row.size ≡ record { jobs = length jobs.now; seats = seats }) }
-        ensures seats { IfOk result (λ made. made.1.items ≡ map (λ number. record { row = made.0.row; number = number; log = new_log 1 }) (range_with_len 0 seats)) }
+        ensures seats { IfOk result (λ made. made.1.items
+            ≡ map (λ number. record { row = made.0.row; number = number; log = new_log 1 }) (range_with_len 0 seats)) }
     {
         let (draws, given) = Draws::new(alloc, jobs.len() as u32, seats)?;
         let mut copies = Vec::with_capacity(alloc, jobs.len())?;

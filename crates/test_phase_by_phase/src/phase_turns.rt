@@ -53,7 +53,8 @@ fn jobs_of(
     quantum: Option<u64>,
 ) -> Result<Vec<Segment>, AllocError>
     requires { All (λ thread. thread < length rows.now) threads.now }
-    ensures { IfOk result (λ jobs. jobs.items ≡ map (λ thread. segments.segment_of bound quantum (segments.row_in rows.now thread)) threads.now) }
+    ensures { IfOk result (λ jobs. jobs.items
+        ≡ map (λ thread. segments.segment_of bound quantum (segments.row_in rows.now thread)) threads.now) }
 {
     let mut jobs = Vec::with_capacity(alloc, threads.len())?;
     for thread in threads {
@@ -72,7 +73,8 @@ fn job_turn<B: OfRun>(
     ran: Ran,
 ) -> Option<u32>
     requires setup { (point_of serial.old).setup ≡ B.setup }
-    requires ran { (jobs : List SegmentValue) × (memory : Memory) × AreJobsIn B.setup number threads.now jobs memory × IsRanOf jobs memory job ran }
+    requires ran { (jobs : List SegmentValue) × (memory : Memory) × AreJobsIn B.setup number threads.now jobs memory
+        × IsRanOf jobs memory job ran }
     ensures { (point_of serial.new).setup ≡ (point_of serial.old).setup }
 {
     let Need::Segment(work) = serial.need() else {
