@@ -72,9 +72,12 @@ impl Deframer {
 
     /// Takes the next byte.
     pub fn hear(&mut self, byte: u8) -> Heard
-        ensures packet { result ≡ Heard.Packet → IsFrame (bytes_begun self.old.body.items self.old.part ++ byte ∷ []) self.new.body.items }
-        ensures spoiled { result ≡ Heard.Spoiled → IsSpoiled (bytes_begun self.old.body.items self.old.part ++ byte ∷ []) self.new.body.items }
-        ensures goes_on { result ≡ Heard.Nothing → bytes_begun self.new.body.items self.new.part ≢ [] → GoesOn (bytes_begun self.old.body.items self.old.part) byte (bytes_begun self.new.body.items self.new.part) }
+        ensures packet { result ≡ Heard.Packet
+            → IsFrame (bytes_begun self.old.body.items self.old.part ++ byte ∷ []) self.new.body.items }
+        ensures spoiled { result ≡ Heard.Spoiled
+            → IsSpoiled (bytes_begun self.old.body.items self.old.part ++ byte ∷ []) self.new.body.items }
+        ensures goes_on { result ≡ Heard.Nothing → bytes_begun self.new.body.items self.new.part ≢ []
+            → GoesOn (bytes_begun self.old.body.items self.old.part) byte (bytes_begun self.new.body.items self.new.part) }
         ensures interrupt { result ≡ Heard.Interrupt → (byte ≡ 3) × (bytes_begun self.old.body.items self.old.part ≡ []) }
     {
         match self.part {
@@ -96,7 +99,8 @@ impl Deframer {
         requires { self.old.part ≡ Part.Outside }
         ensures other { (result ≢ Heard.Packet) × (result ≢ Heard.Spoiled) }
         ensures interrupt { result ≡ Heard.Interrupt → byte ≡ 3 }
-        ensures begun { bytes_begun self.new.body.items self.new.part ≢ [] → (byte ≡ 36) × (bytes_begun self.new.body.items self.new.part ≡ 36 ∷ []) }
+        ensures begun { bytes_begun self.new.body.items self.new.part ≢ []
+            → (byte ≡ 36) × (bytes_begun self.new.body.items self.new.part ≡ 36 ∷ []) }
     {
         match byte {
             b'$' => {

@@ -64,7 +64,8 @@ pub fn unescaped(alloc: Global, body: &[u8]) -> Result<Vec<u8>, AllocError>
 /// Appends what a byte of a frame stands for, which is escaped or not, and answers whether the next one is.
 #[tactic(auto, unfolding(crate::specs::Escapes::unescaped_by))]
 fn push_unescaped(text: &mut Vec<u8>, byte: u8, is_escaped: bool) -> Result<bool, AllocError>
-    ensures { IfOk result (λ next. (rest : List ℕ) → text.new.items ++ escapes.unescaped_by next rest ≡ text.old.items ++ escapes.unescaped_by is_escaped (byte ∷ rest)) }
+    ensures { IfOk result (λ next. (rest : List ℕ) →
+        text.new.items ++ escapes.unescaped_by next rest ≡ text.old.items ++ escapes.unescaped_by is_escaped (byte ∷ rest)) }
 {
     if is_escaped {
         text.push(flipped(byte))?;
