@@ -1,7 +1,8 @@
 -- How the jobs of a phase come to a taker of turns.
-use Rattle.std.specs.Prelude.{◌≡◌, ℕ, ◌<◌, Bool, true, false, Result, Ok, Err, List, length, map}
+use Rattle.std.specs.Prelude.{◌≡◌, ℕ, ◌<◌, ◌≤◌, Bool, true, false, Result, Ok, Err, OnOk, OnErr, List, length, map}
 use Rattle.std.specs.List.{range_with_len}
 use Rattle.guest_memory.specs.Memory.{Memory}
+use Rattle.claim_table.specs.Logs.{most_jobs}
 use Rattle.segment.specs.declared.segment.Segment.{Segment}
 use Rattle.parallel_phase.specs.declared.taker_stage.TakerStage.{TakerStage}
 use Rattle.parallel_phase.specs.declared.taker_stage.TakerStage.TheVariants.{New, Going, Stopped, Failed}
@@ -31,6 +32,21 @@ pub record IsTakerOf (jobs : List Segment) (memory : Memory) (turns_of : List Se
   pub jobs_are : turns_of ≡ jobs
   pub memory_is : begins_with ≡ memory
   pub stage_is : stage ≡ wanted
+
+-- The turns of these jobs on this memory may be taken. There are no more jobs than a phase may have. The ends that the host threads tell
+-- each other are of these jobs on this memory. The taker takes these turns and hasn't begun.
+pub record MayTakeTurns {S : Type 0} (turns_of : S → List Segment) (begins_with : S → Memory) (stage : S → TakerStage)
+    (ends_jobs : List Segment) (ends_memory : Memory) (jobs : List Segment) (memory : Memory) (taken_by : S) : Type 0 where
+  pub most : length jobs ≤ most_jobs
+  pub named : (ends_jobs ≡ jobs) × (ends_memory ≡ memory)
+  pub taker : IsTakerOf jobs memory (turns_of taken_by) (begins_with taken_by) (stage taken_by) New
+
+-- A taker took turns of these jobs. Its jobs and its memory stay. It is through with them or, where memory was refused, cut short.
+pub record TakesTurns {E S : Type 0} (turns_of : S → List Segment) (begins_with : S → Memory) (stage : S → TakerStage)
+    (result : Result (Unit {0}) E) (jobs : List Segment) (old new : S) : Type 0 where
+  pub same : (turns_of new ≡ turns_of old) × (begins_with new ≡ begins_with old)
+  pub through : OnOk result (IsThrough jobs (stage new))
+  pub short : OnErr result (IsCutShort jobs (stage new))
 
 -- the numbers of so many jobs, in their order
 abbrev pub numbers_to : ℕ → List ℕ

@@ -13,6 +13,12 @@ use Rattle.parallel_phase.specs.declared.drawn.Drawn.{Drawn}
 use Rattle.parallel_phase.specs.declared.outcome.Outcome.{Outcome}
 use Rattle.parallel_phase.specs.declared.outcome.Outcome.TheVariants.{Ran, Skipped}
 
+-- a seat of this phase drew this job of it
+pub record HasDrawn (phase : PhaseState) (number : ℕ) (seat : SeatState) : Type 0 where
+  pub row : seat.row ≡ phase.row
+  pub job : number < length phase.jobs
+  pub drawn : 0 < times number seat.log.drawn
+
 -- a seat drew a job, this became of it, and it was noted where the run ends by it
 pub record Works (jobs : List Segment) (memory : Memory) (old new : SeatState) (drawn : Drawn) : Type 0 where
   pub row : new.row ≡ old.row

@@ -5,7 +5,7 @@ ghost use Rattle.paged_memory.specs.Snapshot.{cells_of};
 ghost use Rattle.claim_table.specs.Logs.{most_jobs, most_seats};
 ghost use Rattle.phase_workers.specs.Hands.{Has};
 ghost use Rattle.parallel_phase.specs.Ran.{IsRanOf};
-ghost use Rattle.parallel_phase.specs.Turns.{IsCutShort, IsTakerOf, IsThrough, numbers_to};
+ghost use Rattle.parallel_phase.specs.Turns.{IsCutShort, IsTakerOf, IsThrough, MayTakeTurns, TakesTurns, numbers_to};
 ghost use Rattle.parallel_phase.specs.declared.taker_stage.TakerStage.TheVariants.{New};
 ghost use denote.Param.Send.{IsSend, IsSync};
 
@@ -91,12 +91,8 @@ fn take_turns<J: OfPhase + Send + Sync, G: Gate, R: Wait, T: TurnTaker>(
     base: &Snapshot,
     taker: &mut T,
 ) -> Result<(), AllocError>
-    requires most { length jobs.now ≤ most_jobs }
-    requires named { (J.jobs ≡ jobs.now) × (J.memory ≡ cells_of base.now) }
-    requires taker { IsTakerOf jobs.now (cells_of base.now) (T.turns_of taker.old) (T.begins_with taker.old) (T.taker_stage taker.old) New }
-    ensures same { (T.turns_of taker.new ≡ T.turns_of taker.old) × (T.begins_with taker.new ≡ T.begins_with taker.old) }
-    ensures through { OnOk result (IsThrough jobs.now (T.taker_stage taker.new)) }
-    ensures short { OnErr result (IsCutShort jobs.now (T.taker_stage taker.new)) }
+    requires { MayTakeTurns T.turns_of T.begins_with T.taker_stage J.jobs J.memory jobs.now (cells_of base.now) taker.old }
+    ensures { TakesTurns T.turns_of T.begins_with T.taker_stage result jobs.now taker.old taker.new }
 {
     if !taker.begin()? {
         return Ok(());
@@ -122,12 +118,8 @@ fn take_beside<J: OfPhase + Send + Sync, G: Gate + Sync, R: Threads + Wait + Syn
     base: &Snapshot,
     taker: &mut T,
 ) -> Result<(), AllocError>
-    requires most { length jobs.now ≤ most_jobs }
-    requires named { (J.jobs ≡ jobs.now) × (J.memory ≡ cells_of base.now) }
-    requires taker { IsTakerOf jobs.now (cells_of base.now) (T.turns_of taker.old) (T.begins_with taker.old) (T.taker_stage taker.old) New }
-    ensures same { (T.turns_of taker.new ≡ T.turns_of taker.old) × (T.begins_with taker.new ≡ T.begins_with taker.old) }
-    ensures through { OnOk result (IsThrough jobs.now (T.taker_stage taker.new)) }
-    ensures short { OnErr result (IsCutShort jobs.now (T.taker_stage taker.new)) }
+    requires { MayTakeTurns T.turns_of T.begins_with T.taker_stage J.jobs J.memory jobs.now (cells_of base.now) taker.old }
+    ensures { TakesTurns T.turns_of T.begins_with T.taker_stage result jobs.now taker.old taker.new }
 {
     if workers == 0 {
         let taken = take_turns(rt, desk, gate, jobs, base, taker);
@@ -139,8 +131,9 @@ fn take_beside<J: OfPhase + Send + Sync, G: Gate + Sync, R: Threads + Wait + Syn
         rt,
         &mut || crew.serve(rt, gate),
         &mut || -> Result<(), AllocError>
-            requires { IsSync R.row × IsSync G.row × IsSync J.row × IsSend J.row × (length jobs.now ≤ most_jobs) × (J.jobs ≡ jobs.now) × (J.memory ≡ cells_of base.now) × IsTakerOf jobs.now (cells_of base.now) (T.turns_of taker.now) (T.begins_with taker.now) (T.taker_stage taker.now) New }
-            ensures { (T.turns_of taker.exit.now ≡ T.turns_of taker.entry.now) × (T.begins_with taker.exit.now ≡ T.begins_with taker.entry.now) × OnOk result (IsThrough jobs.entry.now (T.taker_stage taker.exit.now)) × OnErr result (IsCutShort jobs.entry.now (T.taker_stage taker.exit.now)) }
+            requires { IsSync R.row × IsSync G.row × IsSync J.row × IsSend J.row
+                × MayTakeTurns T.turns_of T.begins_with T.taker_stage J.jobs J.memory jobs.now (cells_of base.now) taker.now }
+            ensures { TakesTurns T.turns_of T.begins_with T.taker_stage result jobs.entry.now taker.entry.now taker.exit.now }
         { take_beside(rt, desk, crew, others, gate, jobs, base, taker) },
     );
     taken
@@ -156,12 +149,9 @@ fn in_order<J: OfPhase + Send + Sync, G: Gate + Sync, R: Threads + Wait + Sync, 
     base: &Snapshot,
     taker: &mut T,
 ) -> Result<(), AllocError>
-    requires limits { (length jobs.now ≤ most_jobs) × (0 < seats) × (seats ≤ most_seats) }
-    requires named { (J.jobs ≡ jobs.now) × (J.memory ≡ cells_of base.now) }
-    requires taker { IsTakerOf jobs.now (cells_of base.now) (T.turns_of taker.old) (T.begins_with taker.old) (T.taker_stage taker.old) New }
-    ensures same { (T.turns_of taker.new ≡ T.turns_of taker.old) × (T.begins_with taker.new ≡ T.begins_with taker.old) }
-    ensures through { OnOk result (IsThrough jobs.now (T.taker_stage taker.new)) }
-    ensures short { OnErr result (IsCutShort jobs.now (T.taker_stage taker.new)) }
+    requires seats { (0 < seats) × (seats ≤ most_seats) }
+    requires turns { MayTakeTurns T.turns_of T.begins_with T.taker_stage J.jobs J.memory jobs.now (cells_of base.now) taker.old }
+    ensures { TakesTurns T.turns_of T.begins_with T.taker_stage result jobs.now taker.old taker.new }
 {
     let mut desk = Desk::new();
     let crew = desk.hire(alloc)?;

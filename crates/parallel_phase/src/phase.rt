@@ -9,7 +9,7 @@ ghost use Rattle.phase_jobs.specs.SharedJobs.{Looks};
 ghost use Rattle.phase_jobs.specs.Slices.{IsSlice};
 ghost use Rattle.segment.specs.declared.progress.Progress.TheVariants.{Over};
 ghost use Rattle.parallel_phase.specs.Outcome.{IsOutcomeAt};
-ghost use Rattle.parallel_phase.specs.Work.{Works, OnlyDraws, AreOver, IsUnbegun, IsWorkOf};
+ghost use Rattle.parallel_phase.specs.Work.{Works, OnlyDraws, AreOver, HasDrawn, IsUnbegun, IsWorkOf};
 
 use crate::drawn::Drawn;
 use crate::outcome::Outcome;
@@ -46,10 +46,9 @@ fn run(
     seat: &mut DrawSeat,
     number: u32,
 ) -> Result<Option<SegmentEnd>, AllocError>
-    requires row { seat.old.row ≡ shared.now.row }
-    requires job { number < length shared.now.jobs }
-    requires drawn { 0 < times number seat.old.log.drawn }
-    ensures over { IfOk result (λ end. IsSlice shared.now.jobs (cells_of shared.now.base) number 0 seat.old seat.new (option_map Over end)) }
+    requires { HasDrawn shared.now number seat.old }
+    ensures over { IfOk result (λ end.
+        IsSlice shared.now.jobs (cells_of shared.now.base) number 0 seat.old seat.new (option_map Over end)) }
     ensures refused { OnErr result (Looks seat.old seat.new) }
 {
     let mut slice = shared.begin(seat, number)?;
@@ -73,7 +72,8 @@ impl Phase {
         requires { (length jobs.now ≤ most_jobs) × (0 < seats) × (seats ≤ most_seats) }
         ensures jobs { IfOk result (λ made. (made.0.jobs ≡ jobs.now) × (cells_of made.0.base ≡ cells_of base.now)) }
         ensures size { IfOk result (λ made. made.0.row.size ≡ record { jobs = length jobs.now; seats = seats }) }
-        ensures seats { IfOk result (λ made. made.1.items ≡ map (λ number. record { row = made.0.row; number = number; log = new_log 1 }) (range_with_len 0 seats)) }
+        ensures seats { IfOk result (λ made. made.1.items
+            ≡ map (λ number. record { row = made.0.row; number = number; log = new_log 1 }) (range_with_len 0 seats)) }
     {
         let (shared, given) = SharedJobs::open(alloc, jobs, seats, base)?;
         Ok((Phase { shared }, given))
@@ -128,9 +128,7 @@ impl Phase {
 
     /// What becomes of a job that the seat drew.
     fn outcome(&self, seat: &mut DrawSeat, number: u32) -> Result<Outcome, AllocError>
-        requires row { seat.old.row ≡ self.now.row }
-        requires job { number < length self.now.jobs }
-        requires drawn { 0 < times number seat.old.log.drawn }
+        requires { HasDrawn self.now number seat.old }
         ensures outcome { IfOk result (IsOutcomeAt self.now.jobs (cells_of self.now.base) number seat.old seat.new) }
         ensures refused { OnErr result (Looks seat.old seat.new) }
     {
@@ -152,7 +150,9 @@ impl Phase {
         requires over { (work.old.refused ≡ false) × AreOver self.now.jobs (cells_of self.now.base) work.old.outcomes }
         ensures row { (work.new.seat.row ≡ work.old.seat.row) × (work.new.seat.number ≡ work.old.seat.number) }
         ensures over { AreOver self.now.jobs (cells_of self.now.base) work.new.outcomes }
-        ensures on { result ≡ true → (work.new.refused ≡ false) × (length work.new.seat.log.drawn ≡ length work.old.seat.log.drawn + 1) × (length work.new.seat.log.drawn ≤ length self.now.jobs) }
+        ensures on { result ≡ true → (work.new.refused ≡ false)
+            × (length work.new.seat.log.drawn ≡ length work.old.seat.log.drawn + 1)
+            × (length work.new.seat.log.drawn ≤ length self.now.jobs) }
         ensures ended { result ≡ false → work.new.refused ≡ false → 0 < work.new.seat.log.ended }
     {
         match self.one(&mut work.seat, gate) {

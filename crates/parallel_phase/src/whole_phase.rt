@@ -83,7 +83,8 @@ pub fn run_phase<G: Gate + Sync, R: Threads + Sync>(
 ) -> Result<Vec<Outcome>, AllocError>
     requires { (length jobs.now ≤ most_jobs) × (0 < workers) × (workers ≤ most_seats) }
     ensures fates { IfOk result (λ outcomes. AreFates jobs.now (cells_of base.now) outcomes.items) }
-    ensures events { IfOk result (λ outcomes. (seats : ℕ) × (events : List Event) × (seats ≤ workers) × LeadTo jobs.now (cells_of base.now) seats events outcomes.items) }
+    ensures events { IfOk result (λ outcomes. (seats : ℕ) × (events : List Event) × (seats ≤ workers)
+        × LeadTo jobs.now (cells_of base.now) seats events outcomes.items) }
 {
     let (phase, seats) = Phase::open(alloc, jobs, seats_for(jobs.len(), workers), base)?;
     let mut works = phase.unbegun(seats)?;
