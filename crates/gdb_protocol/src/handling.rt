@@ -130,7 +130,8 @@ impl Session {
 
     /// Answers with one register of the thread that is meant.
     fn answer_register(&mut self, number: u64) -> Result<(), AllocError>
-        ensures { OnOk result (Answers self.old self.new (text_or_error (one_register_shown (moment_in self.old) self.old.selection.general number))) }
+        ensures { OnOk result
+            (Answers self.old self.new (text_or_error (one_register_shown (moment_in self.old) self.old.selection.general number))) }
     {
         let thread = self.selection.general;
         let text = register_text(self.alloc, &self.timeline, thread, number)?;
@@ -139,7 +140,8 @@ impl Session {
 
     /// Answers with the bytes that the thread sees that is meant, as far as they are mapped.
     fn answer_memory(&mut self, window: Window) -> Result<(), AllocError>
-        ensures { OnOk result (Answers self.old self.new (text_or_error (memory_shown (moment_in self.old) self.old.selection.general window))) }
+        ensures { OnOk result
+            (Answers self.old self.new (text_or_error (memory_shown (moment_in self.old) self.old.selection.general window))) }
     {
         let thread = self.selection.general;
         let text = memory_text(self.alloc, &self.timeline, thread, window)?;
