@@ -97,6 +97,11 @@ Leads run run' races races' =
     (start : Point) (events : List Event) → AreEvents start (point_of run) events → Records races events
     → (more : List Event) × AreEvents start (point_of run') more × Records races' more
 
+-- Turns of a run were legal, and its recorder of races was told their events.
+pub record LeadsLegally (run run' : RunInTurn) (races races' : RaceRecorder) : Type 0 where
+  pub leads : Leads run run' races races'
+  pub legal : IsLegalPoint (point_of run)
+
 -- the recorder of races was told what follows the segment of a turn
 abbrev pub TellsLast : RunInTurn → (races races' : RaceRecorder) → (thread : ℕ) → Option SegmentEnd → Type 0
 TellsLast run races races' thread end =

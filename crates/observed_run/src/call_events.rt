@@ -53,7 +53,8 @@ pub(crate) fn end_events(
     end: Option<&SegmentEnd>,
     stop: TurnStop,
 ) -> Result<Vec<Event>, AllocError>
-    ensures { IfOk result (λ events. AreOfEnd ended.now.actor (option_map (λ end. end.now) end.entry) ended.now.held.now ended.now.passed.now stop events.items) }
+    ensures { IfOk result (λ events.
+        AreOfEnd ended.now.actor (option_map (λ end. end.now) end.entry) ended.now.held.now ended.now.passed.now stop events.items) }
 {
     match (end, stop) {
         (Some(end), TurnStop::Call { reply, .. }) => call_events(alloc, ended, &end.hart, reply),
@@ -75,7 +76,8 @@ fn call_events(
     hart: &Hart,
     reply: Reply,
 ) -> Result<Vec<Event>, AllocError>
-    ensures { IfOk result (λ events. AreOfCall ended.now.actor hart.now.pc ended.now.held.now ended.now.passed.now (request.call_of hart.now) reply events.items) }
+    ensures { IfOk result (λ events.
+        AreOfCall ended.now.actor hart.now.pc ended.now.held.now ended.now.passed.now (request.call_of hart.now) reply events.items) }
 {
     let call = call_of(hart);
     match reply {

@@ -7,7 +7,7 @@ ghost use Rattle.token.specs.declared.outcome.RunOutcome.{RunOutcome};
 ghost use Rattle.token.specs.declared.turn_fault.TurnFault.TheVariants.{WriteFailed};
 ghost use Rattle.runtime.specs.Turns.{GoesOn, Moves};
 ghost use Rattle.observed_run.specs.Runs as spec;
-ghost use Rattle.observed_run.specs.Runs.{IsLegalPoint, Leads, MayMove, TellsLast, actor_of, needed_events, thread_by};
+ghost use Rattle.observed_run.specs.Runs.{LeadsLegally, MayMove, TellsLast, actor_of, needed_events, thread_by};
 ghost use Rattle.observed_run.specs.Told.{IsTold};
 
 use crate::actor::{Actor, byte_of};
@@ -39,8 +39,7 @@ impl Observer {
     ) -> Result<RunOutcome, Interruption>
         requires { S.failed sink.old < 2 ^ 64 - 1 }
         ensures goes { GoesOn K.writes S.taken S.failed Some result serial.old serial.new sink.old sink.new }
-        ensures leads { OnOk result (Leads serial.old serial.new self.old.races self.new.races) }
-        ensures legal { OnOk result (IsLegalPoint (point_of serial.old)) }
+        ensures leads { OnOk result (LeadsLegally serial.old serial.new self.old.races self.new.races) }
         ensures ended { OnOk result (IsSome (point_of serial.new).ended) }
     {
         for _ in rt.forever() {
@@ -59,8 +58,7 @@ impl Observer {
     ) -> Result<Option<RunOutcome>, Interruption>
         requires { S.failed sink.old < 2 ^ 64 - 1 }
         ensures goes { GoesOn K.writes S.taken S.failed (λ ends. ends) result serial.old serial.new sink.old sink.new }
-        ensures leads { OnOk result (Leads serial.old serial.new self.old.races self.new.races) }
-        ensures legal { OnOk result (IsLegalPoint (point_of serial.old)) }
+        ensures leads { OnOk result (LeadsLegally serial.old serial.new self.old.races self.new.races) }
     {
         if let Some(outcome) = self.take_turn(serial)? {
             return Ok(Some(outcome));
@@ -76,8 +74,7 @@ impl Observer {
         &mut self,
         serial: &mut Serial<K>,
     ) -> Result<Option<RunOutcome>, TurnFault>
-        ensures leads { OnOk result (Leads serial.old serial.new self.old.races self.new.races) }
-        ensures legal { OnOk result (IsLegalPoint (point_of serial.old)) }
+        ensures leads { OnOk result (LeadsLegally serial.old serial.new self.old.races self.new.races) }
         ensures moved { IfOk result (λ ends. Moves ends (point_of serial.old) (point_of serial.new)) }
         ensures may { OnErr result (MayMove (point_of serial.old) (point_of serial.new)) }
         ensures failed { IfErr result (λ fault. fault ≡ WriteFailed → K.writes × ((point_of serial.new).ended ≡ None)) }
@@ -99,7 +96,9 @@ impl Observer {
     ) -> Result<Option<SegmentEnd>, AllocError>
         requires { (outcome : RunOutcome) → need.now ≢ Need.Ended outcome }
         ensures needed { IfOk result (IsNeededBy (point_of serial.now) need.now) }
-        ensures told { IfOk result (λ end. IsTold self.old.races self.new.races (needed_events (actor_of (point_of serial.now).done (thread_by need.now)) (point_of serial.now) need.now end)) }
+        ensures told { IfOk result (λ end.
+            IsTold self.old.races self.new.races
+            (needed_events (actor_of (point_of serial.now).done (thread_by need.now)) (point_of serial.now) need.now end)) }
     {
         let (work, memory) = match *need {
             Need::Segment(work) => (work, serial.base()),
@@ -119,7 +118,8 @@ impl Observer {
         end: Option<&SegmentEnd>,
     ) -> Result<(), TurnFault>
         requires { IsNeededAt (point_of serial.old) (option_map (λ end. end.now) end) }
-        ensures moved { OnOk result (point_of serial.new ≡ moved (point_of serial.old) (step_at (point_of serial.old) (option_map (λ end. end.now) end.entry))) }
+        ensures moved { OnOk result
+            (point_of serial.new ≡ moved (point_of serial.old) (step_at (point_of serial.old) (option_map (λ end. end.now) end.entry))) }
         ensures longer { OnOk result (IsLonger (point_of serial.old) (point_of serial.new)) }
         ensures may { OnErr result (MayMove (point_of serial.old) (point_of serial.new)) }
         ensures failed { IfErr result (λ fault. fault ≡ WriteFailed → K.writes × (point_of serial.new ≡ point_of serial.old)) }

@@ -23,8 +23,7 @@ loop-view-init c =
     let below : cells_of (views.base_of c.open-memory.result) ≡ cells_of c.args.base.now = ap cells_of opened.base ∙ ap memory_of_pages c.in_ok-try_clone.ensures.pages in
     record {
       runs = subst (λ (memory : Memory). Runs c.args.segment.hart (cells_of c.args.base.now) c.args.segment.left c.args.segment.quantum 0 c.args.segment.hart memory) (sym cells) (begun _ _ _ _);
-      bound = omega arith;
-      quantum = none_done segment.quantum;
+      may = record { bound = omega arith; quantum = none_done segment.quantum };
       base = below;
       code = subst (λ (memory : Memory). HasCode c.code-code.result.start c.code-code.result.entries.now memory) (sym cells) c.code-code.ensures;
       told = told_none c.args.recorder.now;
@@ -38,8 +37,7 @@ loop-view-preserved c =
     let observed = rw c.in-Unfinished.is at c.in_ok-end.ensures.observed in
     record {
       runs = observed.ends segment.hart copy so_far.runs;
-      bound = omega (arith, observed.ahead.1);
-      quantum = not_used_up segment.quantum c.in-Unfinished.count observed.ahead.2;
+      may = record { bound = omega (arith, observed.ahead.1); quantum = not_used_up segment.quantum c.in-Unfinished.count observed.ahead.2 };
       base = c.observe_some.ensures.base ∙ so_far.base;
       code = c.observe_some.ensures.code;
       told = observed.told segment.hart copy c.args.recorder.now so_far.runs so_far.told;

@@ -16,8 +16,8 @@ returns-in_err-races-clause-goes g c =
 pub returns-clause-races : goal.returns-clause-races
 returns-clause-races g c = λ none.
     let start = point_of c.args.serial.now in
-    let led = c.in_ok-outcome.ensures.leads start [] AreEvents.none c.in_ok-new.ensures in
-    let legal = c.in_ok-outcome.ensures.legal in
+    let led = c.in_ok-outcome.ensures.leads.leads start [] AreEvents.none c.in_ok-new.ensures in
+    let legal = c.in_ok-outcome.ensures.leads.legal in
     record {
       start = start;
       begins = at_start start start legal.0 refl none legal.1;

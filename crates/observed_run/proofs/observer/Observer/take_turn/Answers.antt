@@ -1,4 +1,4 @@
-use Rattle.std.proofs.Common.{◌≡◌, ◌∙◌, None, ap, refl, sym}
+use Rattle.std.proofs.Common.{◌≡◌, ◌∙◌, None, ap, refl, rules, sym}
 use Rattle.std.proofs.lemmas.Result.{err_from_is_err_and}
 use Rattle.token.specs.Point.{Point}
 use Rattle.token.specs.RunInTurn.{point_of}
@@ -24,6 +24,9 @@ returns-clause-leads g c =
     let needed = c.need-need.result in
     let end = c.in_ok-end.end in
     let told = rw (c.as_ref.ensures.value, c.thread_by.ensures) at c.in_ok-turn.ensures.told in
-    λ start events are records.
-    by_need start point (point_of c.turn.new.serial) events told.0 c.args.self.now.races c.execute.new.self.races c.turn.new.self.races are records told.2
-    needed end (sym c.need-need.ensures.need) c.in_ok-end.ensures.needed c.in_ok-end.ensures.told told.1 (rw c.as_ref.ensures.value at c.in_ok-turn.ensures.moved)
+    record {
+      leads = λ start events are records.
+          by_need start point (point_of c.turn.new.serial) events told.0 c.args.self.now.races c.execute.new.self.races c.turn.new.self.races are records told.2
+          needed end (sym c.need-need.ensures.need) c.in_ok-end.ensures.needed c.in_ok-end.ensures.told told.1 (rw c.as_ref.ensures.value at c.in_ok-turn.ensures.moved);
+      legal = search rules;
+    }
