@@ -34,7 +34,8 @@ pub(crate) fn run_given<'a, H: Threads + Wait + Sync, F: Files, R: Read, W: Writ
     requires { stdout.old.failures < 2 ^ 64 - 1 }
     ensures taken { TakesAtMost (limit.input + 1) (R.remaining stdin.old) (R.remaining stdin.new) }
     ensures unused { IsSome input.entry → stdin.new ≡ stdin.old }
-    ensures answer { RunsOn (Tells F.Output.contents) (run_of file.entry (F.is_same files.old) (R.remaining stdin.old) config.now records.now)
+    ensures answer { RunsOn (Tells F.Output.contents)
+        (run_of file.entry (F.is_same files.old) (R.remaining stdin.old) config.now records.now)
         input.entry (host_of F.content W.contents files.old stdout.old) (host_of F.content W.contents files.new stdout.new) result }
 {
     let Some(path) = input else {
