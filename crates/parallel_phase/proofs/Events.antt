@@ -4,12 +4,12 @@ use Rattle.std.proofs.lemmas.Bool.Decides.{nat_tests}
 use Rattle.std.specs.Prelude.{slice_get, slice_set, min, nat_lt, ◌&&◌, if◌then◌else◌}
 use Rattle.schedule.specs.Phase.{Counts, Leads, Verdicts, is_enabled, is_enabled_at, made, made_for, advanced, is_end, with_worker}
 use Rattle.schedule.specs.Verdict.{Verdict, GoesOn, Stops, EndsRun}
-use Rattle.schedule.specs.declared.advance.Advance.{Advance}
+use Rattle.schedule.specs.declared.progress.Progress.{Progress}
 use Rattle.schedule.specs.declared.event.Event.{Event}
 use Rattle.schedule.specs.declared.event.Event.TheVariants.{Draw, Step, Note, Skip, Post}
 use Rattle.schedule.specs.declared.fate.Fate.{Fate}
 use Rattle.schedule.specs.declared.fate.Fate.TheVariants as fate
-use Rattle.schedule.specs.declared.worker.Task.{Task}
+use Rattle.schedule.specs.declared.worker.Held.{Held}
 use Rattle.schedule.specs.declared.worker.Worker.{Worker}
 use Rattle.schedule.specs.declared.worker.Worker.TheVariants.{Idle, Ended, Working}
 use Rattle.parallel_phase.proofs.Fates.{get_set_same}
@@ -19,11 +19,11 @@ abbrev pub idle : ℕ → ℕ → List Fate → ℕ → Counts
 idle drawn least fates workers = record { drawn = drawn; least = least; workers = replicate workers Idle; fates = fates }
 
 -- the counts where one worker has a job
-abbrev pub working : ℕ → ℕ → List Fate → ℕ → ℕ → Task → Counts
-working drawn least fates workers worker task = record { drawn = drawn; least = least; workers = slice_set (replicate workers Idle) worker (Working task); fates = fates }
+abbrev pub working : ℕ → ℕ → List Fate → ℕ → ℕ → Held → Counts
+working drawn least fates workers worker held = record { drawn = drawn; least = least; workers = slice_set (replicate workers Idle) worker (Working held); fates = fates }
 
-abbrev pub task_at : ℕ → ℕ → Bool → Bool → Task
-task_at job steps stopped noted = record { job = job; advance = record { steps = steps; stopped = stopped }; noted = noted }
+abbrev pub held_at : ℕ → ℕ → Bool → Bool → Held
+held_at job steps stopped noted = record { job = job; progress = record { steps = steps; stopped = stopped }; noted = noted }
 
 -- an event that is enabled leads from these counts to those
 abbrev pub Does : Verdicts → Counts → Event → Counts → Type 0
@@ -74,35 +74,35 @@ stopped_by true steps = refl
 stopped_by false steps = refl
 
 module _ (v : Verdicts) (drawn least : ℕ) (fates : List Fate) (workers worker : ℕ) (inside : worker < workers) where
-  -- the worker's task, and the workers after it changed
-  has : (task : Task) → slice_get (slice_set (replicate workers Idle) worker (Working task)) worker ≡ Some (Working task)
-  has task = get_set_same (replicate workers Idle) worker (Working task) (let long = long_idle workers in omega arith)
+  -- the worker's job, and the workers after it changed
+  has : (held : Held) → slice_get (slice_set (replicate workers Idle) worker (Working held)) worker ≡ Some (Working held)
+  has held = get_set_same (replicate workers Idle) worker (Working held) (let long = long_idle workers in omega arith)
 
-  again : (old new : Task) → slice_set (slice_set (replicate workers Idle) worker (Working old)) worker (Working new) ≡ slice_set (replicate workers Idle) worker (Working new)
+  again : (old new : Held) → slice_set (slice_set (replicate workers Idle) worker (Working old)) worker (Working new) ≡ slice_set (replicate workers Idle) worker (Working new)
   again old new = set_set (replicate workers Idle) worker (Working old) (Working new)
 
-  freed : (task : Task) → slice_set (slice_set (replicate workers Idle) worker (Working task)) worker Idle ≡ replicate workers Idle
-  freed task = set_set (replicate workers Idle) worker (Working task) Idle ∙ set_idle workers worker
+  freed : (held : Held) → slice_set (slice_set (replicate workers Idle) worker (Working held)) worker Idle ≡ replicate workers Idle
+  freed held = set_set (replicate workers Idle) worker (Working held) Idle ∙ set_idle workers worker
 
-  pub draws : drawn < length fates → Does v (idle drawn least fates workers) (Draw worker) (working (drawn + 1) least fates workers worker (task_at drawn 0 false false))
+  pub draws : drawn < length fates → Does v (idle drawn least fates workers) (Draw worker) (working (drawn + 1) least fates workers worker (held_at drawn 0 false false))
   unfolding is_enabled made
   draws below = (
     ap (λ (state : Option Worker). is_enabled_at v least state (Draw worker)) (get_idle workers worker inside),
     ap (λ (state : Option Worker). made_for v (idle drawn least fates workers) worker state (Draw worker)) (get_idle workers worker inside)
-        ∙ ap (λ (test : Bool). with_worker (idle (drawn + 1) least fates workers) worker (if test then Working (task_at drawn 0 false false) else Ended)) (less_is drawn (length fates) below),
+        ∙ ap (λ (test : Bool). with_worker (idle (drawn + 1) least fates workers) worker (if test then Working (held_at drawn 0 false false) else Ended)) (less_is drawn (length fates) below),
   )
 
   module _ (job : ℕ) where
     abbrev at : ℕ → Bool → Bool → Counts
-    at steps stopped noted = working drawn least fates workers worker (task_at job steps stopped noted)
+    at steps stopped noted = working drawn least fates workers worker (held_at job steps stopped noted)
 
     goes : (steps : ℕ) → v job steps ≡ GoesOn → Does v (at steps false false) (Step worker) (at (steps + 1) false false)
     unfolding is_enabled made
     goes steps on = (
-      ap (λ (state : Option Worker). is_enabled_at v least state (Step worker)) (has (task_at job steps false false)),
-      ap (λ (state : Option Worker). made_for v (at steps false false) worker state (Step worker)) (has (task_at job steps false false))
-          ∙ ap (λ (verdict : Verdict). with_worker (at steps false false) worker (Working (record (task_at job steps false false) { advance = advanced verdict (record { steps = steps; stopped = false }) }))) on
-          ∙ ap counts_with (again (task_at job steps false false) (task_at job (steps + 1) false false)),
+      ap (λ (state : Option Worker). is_enabled_at v least state (Step worker)) (has (held_at job steps false false)),
+      ap (λ (state : Option Worker). made_for v (at steps false false) worker state (Step worker)) (has (held_at job steps false false))
+          ∙ ap (λ (verdict : Verdict). with_worker (at steps false false) worker (Working (record (held_at job steps false false) { progress = advanced verdict (record { steps = steps; stopped = false }) }))) on
+          ∙ ap counts_with (again (held_at job steps false false) (held_at job (steps + 1) false false)),
     )
       where
         counts_with : List Worker → Counts
@@ -111,11 +111,11 @@ module _ (v : Verdicts) (drawn least : ℕ) (fates : List Fate) (workers worker 
     stops : (steps : ℕ) (test : Bool) → v job steps ≡ (if test then EndsRun else Stops) → Does v (at steps false false) (Step worker) (at steps true false)
     unfolding is_enabled made
     stops steps test is = (
-      ap (λ (state : Option Worker). is_enabled_at v least state (Step worker)) (has (task_at job steps false false)),
-      ap (λ (state : Option Worker). made_for v (at steps false false) worker state (Step worker)) (has (task_at job steps false false))
-          ∙ ap (λ (verdict : Verdict). with_worker (at steps false false) worker (Working (record (task_at job steps false false) { advance = advanced verdict (record { steps = steps; stopped = false }) }))) is
-          ∙ ap (λ (advance : Advance). with_worker (at steps false false) worker (Working (record { job = job; advance = advance; noted = false }))) (stopped_by test steps)
-          ∙ ap counts_with (again (task_at job steps false false) (task_at job steps true false)),
+      ap (λ (state : Option Worker). is_enabled_at v least state (Step worker)) (has (held_at job steps false false)),
+      ap (λ (state : Option Worker). made_for v (at steps false false) worker state (Step worker)) (has (held_at job steps false false))
+          ∙ ap (λ (verdict : Verdict). with_worker (at steps false false) worker (Working (record (held_at job steps false false) { progress = advanced verdict (record { steps = steps; stopped = false }) }))) is
+          ∙ ap (λ (progress : Progress). with_worker (at steps false false) worker (Working (record { job = job; progress = progress; noted = false }))) (stopped_by test steps)
+          ∙ ap counts_with (again (held_at job steps false false) (held_at job steps true false)),
     )
       where
         counts_with : List Worker → Counts
@@ -129,12 +129,12 @@ module _ (v : Verdicts) (drawn least : ℕ) (fates : List Fate) (workers worker 
     runs (suc n) steps last test events c is on end rest =
         does_first v _ _ c (Step worker) (replicate (suc n) (Step worker) ++ events) (goes steps (on steps (omega arith))) (runs n (steps + 1) last test events c (omega arith) on end rest)
 
-    pub notes : (steps : ℕ) → v job steps ≡ EndsRun → Does v (at steps true false) (Note worker) (working drawn (min least job) fates workers worker (task_at job steps true true))
+    pub notes : (steps : ℕ) → v job steps ≡ EndsRun → Does v (at steps true false) (Note worker) (working drawn (min least job) fates workers worker (held_at job steps true true))
     unfolding is_enabled made
     notes steps is = (
-      ap (λ (state : Option Worker). is_enabled_at v least state (Note worker)) (has (task_at job steps true false)) ∙ ap (λ (verdict : Verdict). is_end verdict && true) is,
-      ap (λ (state : Option Worker). made_for v (at steps true false) worker state (Note worker)) (has (task_at job steps true false))
-          ∙ ap counts_with (again (task_at job steps true false) (task_at job steps true true)),
+      ap (λ (state : Option Worker). is_enabled_at v least state (Note worker)) (has (held_at job steps true false)) ∙ ap (λ (verdict : Verdict). is_end verdict && true) is,
+      ap (λ (state : Option Worker). made_for v (at steps true false) worker state (Note worker)) (has (held_at job steps true false))
+          ∙ ap counts_with (again (held_at job steps true false) (held_at job steps true true)),
     )
       where
         counts_with : List Worker → Counts
@@ -143,9 +143,9 @@ module _ (v : Verdicts) (drawn least : ℕ) (fates : List Fate) (workers worker 
     pub posts : (steps : ℕ) (noted : Bool) → Does v (at steps true noted) (Post worker) (idle drawn least (slice_set fates job fate.Posted) workers)
     unfolding is_enabled made
     posts steps noted = (
-      ap (λ (state : Option Worker). is_enabled_at v least state (Post worker)) (has (task_at job steps true noted)),
-      ap (λ (state : Option Worker). made_for v (at steps true noted) worker state (Post worker)) (has (task_at job steps true noted))
-          ∙ ap counts_with (freed (task_at job steps true noted)),
+      ap (λ (state : Option Worker). is_enabled_at v least state (Post worker)) (has (held_at job steps true noted)),
+      ap (λ (state : Option Worker). made_for v (at steps true noted) worker state (Post worker)) (has (held_at job steps true noted))
+          ∙ ap counts_with (freed (held_at job steps true noted)),
     )
       where
         counts_with : List Worker → Counts
@@ -154,9 +154,9 @@ module _ (v : Verdicts) (drawn least : ℕ) (fates : List Fate) (workers worker 
     pub skips : least < job → Does v (at 0 false false) (Skip worker) (idle drawn least (slice_set fates job fate.Skipped) workers)
     unfolding is_enabled made
     skips below = (
-      ap (λ (state : Option Worker). is_enabled_at v least state (Skip worker)) (has (task_at job 0 false false)) ∙ less_is least job below,
-      ap (λ (state : Option Worker). made_for v (at 0 false false) worker state (Skip worker)) (has (task_at job 0 false false))
-          ∙ ap counts_with (freed (task_at job 0 false false)),
+      ap (λ (state : Option Worker). is_enabled_at v least state (Skip worker)) (has (held_at job 0 false false)) ∙ less_is least job below,
+      ap (λ (state : Option Worker). made_for v (at 0 false false) worker state (Skip worker)) (has (held_at job 0 false false))
+          ∙ ap counts_with (freed (held_at job 0 false false)),
     )
       where
         counts_with : List Worker → Counts
@@ -189,7 +189,7 @@ module _ (v : Verdicts) (least : ℕ) (past future : List Fate) (workers worker 
       does_first v _ _ _ (Draw worker) (Skip worker ∷ []) drew (does_first v _ _ _ (Skip worker) [] skip end)
 
   posted_end : (number steps below : ℕ) (noted : Bool) → length past ≡ number
-      → Leads v (working (number + 1) below (past ++ fate.Open ∷ future) workers worker (task_at number steps true noted)) (Post worker ∷ []) (closed_at number below fate.Posted)
+      → Leads v (working (number + 1) below (past ++ fate.Open ∷ future) workers worker (held_at number steps true noted)) (Post worker ∷ []) (closed_at number below fate.Posted)
   posted_end number steps below noted long =
       let all = past ++ fate.Open ∷ future in
       let post = posts v (number + 1) below all workers worker inside number steps noted in
@@ -197,7 +197,7 @@ module _ (v : Verdicts) (least : ℕ) (past future : List Fate) (workers worker 
       does_first v _ _ _ (Post worker) [] post end
 
   noted_end : (number steps : ℕ) (test noted : Bool) → length past ≡ number → v number steps ≡ (if test then EndsRun else Stops) → (noted ≡ true → test ≡ true)
-      → Leads v (working (number + 1) least (past ++ fate.Open ∷ future) workers worker (task_at number steps true false)) ((if noted then Note worker ∷ [] else []) ++ Post worker ∷ []) (closed_at number (least_after noted least number) fate.Posted)
+      → Leads v (working (number + 1) least (past ++ fate.Open ∷ future) workers worker (held_at number steps true false)) ((if noted then Note worker ∷ [] else []) ++ Post worker ∷ []) (closed_at number (least_after noted least number) fate.Posted)
   noted_end number steps test false long end only = posted_end number steps least false long
   noted_end number steps test true long end only =
       let ends : v number steps ≡ EndsRun = end ∙ ap (λ (t : Bool). if t then EndsRun else Stops) (only refl) in
@@ -210,4 +210,4 @@ module _ (v : Verdicts) (least : ℕ) (past future : List Fate) (workers worker 
       let last = (if noted then Note worker ∷ [] else []) ++ Post worker ∷ [] in
       let drew = draws v number least all workers worker inside (inside_fates number long) in
       let rest = runs v (number + 1) least all workers worker inside number steps 0 steps test last _ (omega arith) on end (noted_end number steps test noted long end only) in
-      does_first v _ _ _ (Draw worker) (replicate count (Step worker) ++ last) drew (subst (λ (n : ℕ). Leads v (working (number + 1) least all workers worker (task_at number 0 false false)) (replicate n (Step worker) ++ last) (closed_at number (least_after noted least number) fate.Posted)) (sym is) rest)
+      does_first v _ _ _ (Draw worker) (replicate count (Step worker) ++ last) drew (subst (λ (n : ℕ). Leads v (working (number + 1) least all workers worker (held_at number 0 false false)) (replicate n (Step worker) ++ last) (closed_at number (least_after noted least number) fate.Posted)) (sym is) rest)

@@ -2,12 +2,12 @@
 -- next instruction from the job's start.
 use Rattle.std.specs.Prelude.{◌≡◌, ℕ, ◌+◌, Bool, true, false, ◌&&◌, not, nat_lt, min, if◌then◌else◌, Option, Some, None, List, [], ◌∷◌, length, replicate, slice_get, slice_set}
 use Rattle.schedule.specs.Verdict.{Verdict, GoesOn, Stops, EndsRun}
-use Rattle.schedule.specs.declared.advance.Advance.{Advance}
+use Rattle.schedule.specs.declared.progress.Progress.{Progress}
 use Rattle.schedule.specs.declared.event.Event.{Event}
 use Rattle.schedule.specs.declared.event.Event.TheVariants.{Draw, Step, Note, Skip, Post, Hold, Turn}
 use Rattle.schedule.specs.declared.fate.Fate.{Fate}
 use Rattle.schedule.specs.declared.fate.Fate.TheVariants.{Open, Posted, Skipped}
-use Rattle.schedule.specs.declared.worker.Task.{Task}
+use Rattle.schedule.specs.declared.worker.Held.{Held}
 use Rattle.schedule.specs.declared.worker.Worker.{Worker}
 use Rattle.schedule.specs.declared.worker.Worker.TheVariants.{Idle, Ended, Working}
 
@@ -28,18 +28,18 @@ abbrev pub Verdicts : Type 0
 Verdicts = ℕ → ℕ → Verdict
 
 -- a segment that has made no step
-abbrev pub begun : Advance
+abbrev pub begun : Progress
 begun = record { steps = 0; stopped = false }
 
 -- a segment after one more event: it has made a step more, or it has stopped
-abbrev pub advanced : Verdict → Advance → Advance
-advanced GoesOn advance = record advance { steps = advance.steps + 1 }
-advanced Stops advance = record advance { stopped = true }
-advanced EndsRun advance = record advance { stopped = true }
+abbrev pub advanced : Verdict → Progress → Progress
+advanced GoesOn progress = record progress { steps = progress.steps + 1 }
+advanced Stops progress = record progress { stopped = true }
+advanced EndsRun progress = record progress { stopped = true }
 
 -- what a job that has come so far comes to
-abbrev pub verdict_at : Verdicts → Task → Verdict
-verdict_at verdicts task = verdicts task.job task.advance.steps
+abbrev pub verdict_at : Verdicts → Held → Verdict
+verdict_at verdicts held = verdicts held.job held.progress.steps
 
 abbrev pub is_end : Verdict → Bool
 is_end GoesOn = false
@@ -58,12 +58,12 @@ worker_of Turn = None
 
 -- Where an event of a worker that has this job is enabled: it steps while its job hasn't stopped, makes known once that the job has ended
 -- the run, skips a job that hasn't stopped and is above one that ended the run, and posts a job that has stopped.
-abbrev pub is_enabled_with : Verdicts → ℕ → Task → Event → Bool
-is_enabled_with verdicts least task (Step worker) = not task.advance.stopped
-is_enabled_with verdicts least task (Note worker) = task.advance.stopped && (is_end (verdict_at verdicts task) && not task.noted)
-is_enabled_with verdicts least task (Skip worker) = not task.advance.stopped && nat_lt least task.job
-is_enabled_with verdicts least task (Post worker) = task.advance.stopped
-is_enabled_with verdicts least task _ = false
+abbrev pub is_enabled_with : Verdicts → ℕ → Held → Event → Bool
+is_enabled_with verdicts least held (Step worker) = not held.progress.stopped
+is_enabled_with verdicts least held (Note worker) = held.progress.stopped && (is_end (verdict_at verdicts held) && not held.noted)
+is_enabled_with verdicts least held (Skip worker) = not held.progress.stopped && nat_lt least held.job
+is_enabled_with verdicts least held (Post worker) = held.progress.stopped
+is_enabled_with verdicts least held _ = false
 
 -- an idle worker may draw and no more
 abbrev pub is_draw : Event → Bool
@@ -73,7 +73,7 @@ is_draw _ = false
 abbrev pub is_enabled_for : Verdicts → ℕ → Worker → Event → Bool
 is_enabled_for verdicts least Idle event = is_draw event
 is_enabled_for verdicts least Ended event = false
-is_enabled_for verdicts least (Working task) event = is_enabled_with verdicts least task event
+is_enabled_for verdicts least (Working held) event = is_enabled_with verdicts least held event
 
 -- whether a worker's event is enabled; nothing is for a worker that isn't there
 abbrev pub is_enabled_at : Verdicts → ℕ → Option Worker → Event → Bool
@@ -91,7 +91,7 @@ is_enabled verdicts counts event = is_enabled_by verdicts counts (worker_of even
 
 -- what a worker is at that has drawn a number
 abbrev pub drawing : ℕ → ℕ → Worker
-drawing number jobs = if nat_lt number jobs then Working (record { job = number; advance = begun; noted = false }) else Ended
+drawing number jobs = if nat_lt number jobs then Working (record { job = number; progress = begun; noted = false }) else Ended
 
 -- the counts where a worker is at something else
 abbrev pub with_worker : Counts → ℕ → Worker → Counts
@@ -102,19 +102,19 @@ abbrev pub with_fate : Counts → ℕ → Fate → Counts
 with_fate counts job fate = record counts { fates = slice_set counts.fates job fate }
 
 -- what an event of a worker that has a job does
-abbrev pub made_with : Verdicts → Counts → ℕ → Task → Event → Counts
-made_with verdicts counts worker task (Step _) = with_worker counts worker (Working (record task { advance = advanced (verdict_at verdicts task) task.advance }))
-made_with verdicts counts worker task (Note _) = with_worker (record counts { least = min counts.least task.job }) worker (Working (record task { noted = true }))
-made_with verdicts counts worker task (Skip _) = with_fate (with_worker counts worker Idle) task.job Skipped
-made_with verdicts counts worker task (Post _) = with_fate (with_worker counts worker Idle) task.job Posted
-made_with verdicts counts worker task _ = counts
+abbrev pub made_with : Verdicts → Counts → ℕ → Held → Event → Counts
+made_with verdicts counts worker held (Step _) = with_worker counts worker (Working (record held { progress = advanced (verdict_at verdicts held) held.progress }))
+made_with verdicts counts worker held (Note _) = with_worker (record counts { least = min counts.least held.job }) worker (Working (record held { noted = true }))
+made_with verdicts counts worker held (Skip _) = with_fate (with_worker counts worker Idle) held.job Skipped
+made_with verdicts counts worker held (Post _) = with_fate (with_worker counts worker Idle) held.job Posted
+made_with verdicts counts worker held _ = counts
 
 -- what a draw does: it takes the next number
 abbrev pub drawn_by : Counts → ℕ → Counts
 drawn_by counts worker = with_worker (record counts { drawn = counts.drawn + 1 }) worker (drawing counts.drawn (length counts.fates))
 
 abbrev pub made_for : Verdicts → Counts → ℕ → Option Worker → Event → Counts
-made_for verdicts counts worker (Some (Working task)) event = made_with verdicts counts worker task event
+made_for verdicts counts worker (Some (Working held)) event = made_with verdicts counts worker held event
 made_for verdicts counts worker _ event = drawn_by counts worker
 
 abbrev pub made_by : Verdicts → Counts → Option ℕ → Event → Counts

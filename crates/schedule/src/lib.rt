@@ -1,14 +1,14 @@
 //! The events of written schedules that workers make, and what a phase counts of them.
 #![tactic(auto)]
 
-pub mod advance;
 pub mod end;
 pub mod event;
 pub mod fate;
+pub mod progress;
 pub mod worker;
 
-pub use advance::Advance;
 pub use end::ends_run;
 pub use event::Event;
 pub use fate::Fate;
-pub use worker::{Task, Worker};
+pub use progress::Progress;
+pub use worker::{Held, Worker};

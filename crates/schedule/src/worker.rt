@@ -1,13 +1,13 @@
 //! What a worker is at in a phase: nothing, a job, or its end for this phase.
-use crate::advance::Advance;
+use crate::progress::Progress;
 
 /// What a worker has of a job.
 #[derive(Clone, Copy, Debug, PartialEq, Eq)]
-pub struct Task {
+pub struct Held {
     /// The job's number in its phase, from 0.
     pub job: u32,
     /// How far its segment has come.
-    pub advance: Advance,
+    pub progress: Progress,
     /// It was made known that it has ended the run.
     pub noted: bool,
 }
@@ -20,5 +20,5 @@ pub enum Worker {
     /// It has found no job left.
     Ended,
     /// It has this job.
-    Working(Task),
+    Working(Held),
 }

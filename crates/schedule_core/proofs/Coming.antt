@@ -12,9 +12,9 @@ use Rattle.hart.specs.declared.stop.Stop.{Stop}
 use Rattle.hart.specs.declared.stop.Stop.TheVariants.{Trap, Ecall, Quantum}
 use Rattle.schedule.specs.Phase.{advanced, is_end}
 use Rattle.schedule.specs.Verdict.{GoesOn, Stops, EndsRun, ends_run, verdict_after, verdict_in, verdict_of}
-use Rattle.schedule.specs.declared.advance.Advance.{Advance}
+use Rattle.schedule.specs.declared.progress.Progress.{Progress}
 use Rattle.segment.specs.declared.segment.Segment.{Segment}
-use Rattle.schedule_core.specs.Running.{HasCome, limit_at}
+use Rattle.schedule_core.specs.Underway.{HasCome, limit_at}
 
 -- the bound or the quantum comes first, and else the next instruction says what stops it
 first_limit : (at_bound used : Bool) (stop : Option Stop) (what : Next)
@@ -126,17 +126,17 @@ counts_step segment memory hart next_hart cells next_cells steps stop come free 
     verdict_now segment memory hart cells steps come.reached ∙ ap (verdict_of hart) (below_limit segment steps (next hart cells) free ∙ ap stop_of goes)
 
 -- or that it has stopped
-advanced_by : (ends : Bool) (advance : Advance) → advanced (if ends then EndsRun else Stops) advance ≡ record advance { stopped = true }
-advanced_by true advance = refl
-advanced_by false advance = refl
+advanced_by : (ends : Bool) (progress : Progress) → advanced (if ends then EndsRun else Stops) progress ≡ record progress { stopped = true }
+advanced_by true progress = refl
+advanced_by false progress = refl
 
-pub counts_stop : (segment : Segment) (memory : Memory) (hart : HartState) (cells : Memory) (steps : ℕ) (stop : Stop) (advance : Advance)
+pub counts_stop : (segment : Segment) (memory : Memory) (hart : HartState) (cells : Memory) (steps : ℕ) (stop : Stop) (progress : Progress)
     → HasCome segment memory hart cells steps (Some stop)
-    → advanced (verdict_after segment.hart memory segment.left segment.quantum steps) advance ≡ record advance { stopped = true }
-counts_stop segment memory hart cells steps stop advance come =
-    ap (λ verdict. advanced verdict advance)
+    → advanced (verdict_after segment.hart memory segment.left segment.quantum steps) progress ≡ record progress { stopped = true }
+counts_stop segment memory hart cells steps stop progress come =
+    ap (λ verdict. advanced verdict progress)
     (verdict_now segment memory hart cells steps come.reached ∙ ap (verdict_of hart) (sym (stop_now segment memory hart cells steps come.reached) ∙ come.stops))
-    ∙ advanced_by (ends_run hart stop) advance
+    ∙ advanced_by (ends_run hart stop) progress
 
 -- whether a segment that has stopped ends the run
 end_by : (ends : Bool) → is_end (if ends then EndsRun else Stops) ≡ ends

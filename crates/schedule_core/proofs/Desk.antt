@@ -12,9 +12,9 @@ use Rattle.schedule.specs.Phase.{Counts, Verdicts, advanced, drawing, is_draw, i
 use Rattle.schedule.specs.Phase.{worker_of as worker_in}
 use Rattle.schedule.specs.declared.event.Event.{Event}
 use Rattle.schedule.specs.declared.event.Event.TheVariants.{Draw, Step, Note, Skip, Post, Hold, Turn}
-use Rattle.schedule.specs.declared.advance.Advance.{Advance}
+use Rattle.schedule.specs.declared.progress.Progress.{Progress}
 use Rattle.schedule.specs.declared.fate.Fate.{Fate}
-use Rattle.schedule.specs.declared.worker.Task.{Task}
+use Rattle.schedule.specs.declared.worker.Held.{Held as Counted}
 use Rattle.schedule.specs.declared.worker.Worker.{Worker}
 use Rattle.schedule.specs.declared.worker.Worker.TheVariants as worker
 use Rattle.hart.specs.declared.stop.Stop.{Stop}
@@ -22,9 +22,9 @@ use Rattle.segment.specs.Ends.{IsEndOf}
 use Rattle.segment.specs.declared.segment_end.SegmentEnd.{SegmentEnd}
 use Rattle.token.specs.declared.need.Work.{Work}
 use Rattle.schedule_core.specs.Jobs.{Start, verdict_by, verdicts_of, work_at}
-use Rattle.schedule_core.specs.Running.{advance_of, memory_of, verdict_of}
-use Rattle.schedule_core.specs.Scene.{IsDesk, IsHeld, IsSeat, counts_by, fate_of, one_if_ended, task_of, worker_of}
-use Rattle.schedule_core.specs.declared.running.Running.{Running}
+use Rattle.schedule_core.specs.Underway.{progress_of, memory_of, verdict_of}
+use Rattle.schedule_core.specs.Scene.{IsDesk, IsHeld, IsSeat, counts_by, fate_of, one_if_ended, counted_of, worker_of}
+use Rattle.schedule_core.specs.declared.underway.Underway.{Underway}
 use Rattle.schedule_core.specs.declared.seat.Held.{Held}
 use Rattle.schedule_core.specs.declared.seat.Seat.{Seat}
 use Rattle.schedule_core.specs.declared.seat.Seat.TheVariants.{Idle, Ended, Working}
@@ -54,10 +54,10 @@ made_at verdicts drawn least seats slots w seat event its is =
     ∙ ap (λ state. made_for verdicts (counts_by drawn least seats slots) w state event) (told_at seats w seat is)
 
 -- the verdict on a job that a worker has
-pub held_verdict : (start : Start) (held : Held) → IsHeld start held → verdict_of held.running ≡ verdicts_of start held.job held.running.steps
+pub held_verdict : (start : Start) (held : Held) → IsHeld start held → verdict_of held.underway ≡ verdicts_of start held.job held.underway.steps
 unfolding verdicts_of
 held_verdict start held is =
-    ap (λ work. verdict_by (memory_of held.running) work held.running.steps) is.work ∙ ap (λ memory. verdict_by memory (work_at start held.job) held.running.steps) is.memory
+    ap (λ work. verdict_by (memory_of held.underway) work held.underway.steps) is.work ∙ ap (λ memory. verdict_by memory (work_at start held.job) held.underway.steps) is.memory
 
 -- the counts where a worker is at something else
 set_told : (drawn least : ℕ) (seats : List Seat) (slots : List Slot) (w : ℕ) (seat : Seat) (state : Worker) → worker_of seat ≡ state
@@ -75,24 +75,24 @@ counts_draw verdicts drawn least seats slots w seat idle draws =
     ∙ sym (made_at verdicts drawn least seats slots w Idle (Draw w) refl idle)
 
 -- step
-pub counts_step : (start : Start) (drawn least : ℕ) (seats : List Seat) (slots : List Slot) (w : ℕ) (held : Held) (running : Running)
-    → slice_get seats w ≡ Some (Working held) → IsHeld start held → advance_of running ≡ advanced (verdict_of held.running) (advance_of held.running)
-    → counts_by drawn least (slice_set seats w (Working (record held { running = running }))) slots ≡ made (verdicts_of start) (counts_by drawn least seats slots) (Step w)
-counts_step start drawn least seats slots w held running is holds goes =
-    set_told drawn least seats slots w (Working (record held { running = running }))
-    (worker.Working (record { job = held.job; advance = advanced (verdicts_of start held.job held.running.steps) (advance_of held.running); noted = held.noted }))
-    (ap (λ (advance : Advance). let task : Task = record { job = held.job; advance = advance; noted = held.noted } in worker.Working task)
-    (goes ∙ ap (λ verdict. advanced verdict (advance_of held.running)) (held_verdict start held holds)))
+pub counts_step : (start : Start) (drawn least : ℕ) (seats : List Seat) (slots : List Slot) (w : ℕ) (held : Held) (underway : Underway)
+    → slice_get seats w ≡ Some (Working held) → IsHeld start held → progress_of underway ≡ advanced (verdict_of held.underway) (progress_of held.underway)
+    → counts_by drawn least (slice_set seats w (Working (record held { underway = underway }))) slots ≡ made (verdicts_of start) (counts_by drawn least seats slots) (Step w)
+counts_step start drawn least seats slots w held underway is holds goes =
+    set_told drawn least seats slots w (Working (record held { underway = underway }))
+    (worker.Working (record { job = held.job; progress = advanced (verdicts_of start held.job held.underway.steps) (progress_of held.underway); noted = held.noted }))
+    (ap (λ (progress : Progress). let counted : Counted = record { job = held.job; progress = progress; noted = held.noted } in worker.Working counted)
+    (goes ∙ ap (λ verdict. advanced verdict (progress_of held.underway)) (held_verdict start held holds)))
     ∙ sym (made_at (verdicts_of start) drawn least seats slots w (Working held) (Step w) refl is)
 
 -- a step that found no memory
-pub counts_kept : (drawn least : ℕ) (seats : List Seat) (slots : List Slot) (w : ℕ) (held : Held) (running : Running)
-    → slice_get seats w ≡ Some (Working held) → advance_of running ≡ advance_of held.running
-    → counts_by drawn least (slice_set seats w (Working (record held { running = running }))) slots ≡ counts_by drawn least seats slots
-counts_kept drawn least seats slots w held running is same =
+pub counts_kept : (drawn least : ℕ) (seats : List Seat) (slots : List Slot) (w : ℕ) (held : Held) (underway : Underway)
+    → slice_get seats w ≡ Some (Working held) → progress_of underway ≡ progress_of held.underway
+    → counts_by drawn least (slice_set seats w (Working (record held { underway = underway }))) slots ≡ counts_by drawn least seats slots
+counts_kept drawn least seats slots w held underway is same =
     ap (λ (workers : List Worker). let counts : Counts = record { drawn = drawn; least = least; workers = workers; fates = map fate_of slots } in counts)
-    (map-set_same worker_of seats w (Working (record held { running = running })) (Working held)
-    (ap (λ (advance : Advance). let task : Task = record { job = held.job; advance = advance; noted = held.noted } in worker.Working task) same
+    (map-set_same worker_of seats w (Working (record held { underway = underway })) (Working held)
+    (ap (λ (progress : Progress). let counted : Counted = record { job = held.job; progress = progress; noted = held.noted } in worker.Working counted) same
     ∙ ap worker_of (sym (get_or_from_slice_get seats w (Working held) (Working held) is))))
 
 -- note
@@ -152,7 +152,7 @@ drawn_ended : (seat : Seat) (number jobs : ℕ) (below : Bool) → nat_lt number
 drawn_ended seat number jobs true is draws = inl (grind (arith, nat_tests))
 drawn_ended Idle number jobs false is draws = let no : worker.Idle ≡ worker.Ended = draws ∙ rw is refl in let bad : ⊥ = cc in absurd bad
 drawn_ended Ended number jobs false is draws = inr refl
-drawn_ended (Working held) number jobs false is draws = let no : worker.Working (task_of held) ≡ worker.Ended = draws ∙ rw is refl in let bad : ⊥ = cc in absurd bad
+drawn_ended (Working held) number jobs false is draws = let no : worker.Working (counted_of held) ≡ worker.Ended = draws ∙ rw is refl in let bad : ⊥ = cc in absurd bad
 
 -- what holds where a worker draws
 pub seat_draws : (start : Start) (drawn : ℕ) (seats : List Seat) (slots : List Slot) (w : ℕ) (new : Seat)
@@ -263,25 +263,25 @@ no_stop None is = refl
 no_stop (Some stop) is = let no : ⊥ = cc in absurd no
 
 pub not_stopped : (verdicts : Verdicts) (drawn least : ℕ) (seats : List Seat) (slots : List Slot) (w : ℕ) (held : Held)
-    → slice_get seats w ≡ Some (Working held) → is_enabled verdicts (counts_by drawn least seats slots) (Step w) ≡ true → held.running.stop ≡ None
+    → slice_get seats w ≡ Some (Working held) → is_enabled verdicts (counts_by drawn least seats slots) (Step w) ≡ true → held.underway.stop ≡ None
 not_stopped verdicts drawn least seats slots w held is enabled =
-    no_stop held.running.stop (sym (enabled_at verdicts drawn least seats slots w (Working held) (Step w) refl is) ∙ enabled)
+    no_stop held.underway.stop (sym (enabled_at verdicts drawn least seats slots w (Working held) (Step w) refl is) ∙ enabled)
 
 some_stop : (stop : Option Stop) → is_some stop ≡ true → stop ≡ None → ⊥
 some_stop None is none = cc
 some_stop (Some stop) is none = cc
 
 pub must_have_stopped : (verdicts : Verdicts) (drawn least : ℕ) (seats : List Seat) (slots : List Slot) (w : ℕ) (held : Held)
-    → slice_get seats w ≡ Some (Working held) → is_enabled verdicts (counts_by drawn least seats slots) (Post w) ≡ true → held.running.stop ≡ None → ⊥
+    → slice_get seats w ≡ Some (Working held) → is_enabled verdicts (counts_by drawn least seats slots) (Post w) ≡ true → held.underway.stop ≡ None → ⊥
 must_have_stopped verdicts drawn least seats slots w held is enabled none =
-    some_stop held.running.stop (sym (enabled_at verdicts drawn least seats slots w (Working held) (Post w) refl is) ∙ enabled) none
+    some_stop held.underway.stop (sym (enabled_at verdicts drawn least seats slots w (Working held) (Post w) refl is) ∙ enabled) none
 
 -- what is enabled for a worker that has a job
 same_allowed : (start : Start) (least : ℕ) (held : Held) (event : Event) → IsHeld start held
-    → is_enabled_with (λ job steps. verdict_of held.running) least (task_of held) event ≡ is_enabled_with (verdicts_of start) least (task_of held) event
+    → is_enabled_with (λ job steps. verdict_of held.underway) least (counted_of held) event ≡ is_enabled_with (verdicts_of start) least (counted_of held) event
 same_allowed start least held (Draw w) holds = refl
 same_allowed start least held (Step w) holds = refl
-same_allowed start least held (Note w) holds = ap (λ verdict. is_some held.running.stop && (is_end verdict && not held.noted)) (held_verdict start held holds)
+same_allowed start least held (Note w) holds = ap (λ verdict. is_some held.underway.stop && (is_end verdict && not held.noted)) (held_verdict start held holds)
 same_allowed start least held (Skip w) holds = refl
 same_allowed start least held (Post w) holds = refl
 same_allowed start least held Hold holds = refl
@@ -289,7 +289,7 @@ same_allowed start least held Turn holds = refl
 
 pub allowed_to : (start : Start) (drawn least : ℕ) (seats : List Seat) (slots : List Slot) (w : ℕ) (held : Held) (event : Event)
     → IsDesk start drawn seats slots → worker_in event ≡ Some w → slice_get seats w ≡ Some (Working held)
-    → is_enabled_with (λ job steps. verdict_of held.running) least (task_of held) event ≡ is_enabled (verdicts_of start) (counts_by drawn least seats slots) event
+    → is_enabled_with (λ job steps. verdict_of held.underway) least (counted_of held) event ≡ is_enabled (verdicts_of start) (counts_by drawn least seats slots) event
 allowed_to start drawn least seats slots w held event desk its is =
     same_allowed start least held event (held_at start drawn seats slots w held desk is)
     ∙ sym (enabled_at (verdicts_of start) drawn least seats slots w (Working held) event its is)
@@ -304,9 +304,9 @@ no_draw Hold none = refl
 no_draw Turn none = refl
 
 -- the result that is posted is that of the job
-pub posted_end : (start : Start) (held : Held) → IsHeld start held → (end : SegmentEnd) → IsEndOf (memory_of held.running) held.running.work.segment end
+pub posted_end : (start : Start) (held : Held) → IsHeld start held → (end : SegmentEnd) → IsEndOf (memory_of held.underway) held.underway.work.segment end
     → (posted : SegmentEnd) → Posted end ≡ Posted posted → IsEndOf start.memory (work_at start held.job).segment posted
 posted_end start held holds end ends posted is =
     let same : end ≡ posted = cc is in
     subst (IsEndOf start.memory (work_at start held.job).segment) same
-    (subst (λ (work : Work). IsEndOf start.memory work.segment end) holds.work (subst (λ memory. IsEndOf memory held.running.work.segment end) holds.memory ends))
+    (subst (λ (work : Work). IsEndOf start.memory work.segment end) holds.work (subst (λ memory. IsEndOf memory held.underway.work.segment end) holds.memory ends))

@@ -12,7 +12,7 @@ use Rattle.token.specs.declared.need.Need.TheVariants as need
 use Rattle.token.specs.declared.need.Work.{Work}
 use Rattle.token.specs.declared.outcome.RunOutcome.{RunOutcome}
 use Rattle.token.specs.History.{History}
-use Rattle.token.specs.Law.{Progress}
+use Rattle.token.specs.Law.{Progress as LawOfProgress}
 use Rattle.token.specs.Serial.{StandsAfter}
 use Rattle.schedule_core.specs.Histories.{IsOutcome}
 use Rattle.std.specs.Prelude.{map, option_map, slice_get, slice_index, position}
@@ -23,7 +23,7 @@ use Rattle.std.proofs.lemmas.List.Elements.{All-from_get_or}
 use Rattle.std.proofs.lemmas.List.Quantifiers.{position-Some}
 use Rattle.std.proofs.lemmas.Option.{slice_get_within, get_or_from_slice_get, slice_get-get_or, slice_get-map}
 use Rattle.schedule.specs.Phase.{Counts, opened}
-use Rattle.schedule.specs.declared.advance.Advance.{Advance}
+use Rattle.schedule.specs.declared.progress.Progress.{Progress}
 use Rattle.schedule.specs.declared.event.Event.TheVariants.{Turn}
 use Rattle.schedule.specs.declared.fate.Fate.{Fate}
 use Rattle.token.proofs.Needs.{segment_is, segment_needed}
@@ -33,13 +33,13 @@ use Rattle.token.specs.RunInTurn.{point_of}
 use Rattle.token.specs.declared.run_in_turn.RunInTurn.{RunInTurn}
 use Rattle.segment.specs.declared.segment_end.SegmentEnd.{SegmentEnd}
 use Rattle.schedule_core.specs.Jobs.{Start, start_of, work_of, work_at, job_of, jobs_of}
-use Rattle.schedule_core.specs.Scene.{IsSeat, counts_by, counts_of, fate_of, keeper_advance, point_at, tally_of, worker_of}
+use Rattle.schedule_core.specs.Scene.{IsSeat, counts_by, counts_of, fate_of, keeper_progress, point_at, tally_of, worker_of}
 use Rattle.schedule_core.specs.Tally.{Happens, Tally, counts_after, is_posted}
 use Rattle.schedule_core.specs.declared.scene.Scene.{Scene}
 use Rattle.schedule_core.specs.declared.seat.Seat.TheVariants.{Idle}
 use Rattle.schedule_core.specs.declared.slot.Slot.TheVariants.{Open, Posted, Skipped}
 use Rattle.schedule_core.specs.Scene.{IsDesk, IsKeeper}
-use Rattle.schedule_core.specs.declared.running.Running.{Running}
+use Rattle.schedule_core.specs.declared.underway.Underway.{Underway}
 use Rattle.schedule_core.specs.declared.seat.Seat.{Seat}
 use Rattle.schedule_core.specs.declared.slot.Slot.{Slot}
 
@@ -98,11 +98,11 @@ kept_desk old new step phase number places results done is desk same =
 pub same_desk : (old new : Point) (number : ℕ) (places : List Seat) (results : List Slot) → new ≡ old → IsDesk (start_of old) number places results → IsDesk (start_of new) number places results
 same_desk old new number places results same desk = subst (λ (point : Point). IsDesk (start_of point) number places results) (sym same) desk
 
-pub same_keeper : (old new : Point) (keeper : Option Running) → new ≡ old → IsKeeper old keeper → IsKeeper new keeper
+pub same_keeper : (old new : Point) (keeper : Option Underway) → new ≡ old → IsKeeper old keeper → IsKeeper new keeper
 same_keeper old new keeper same holds = subst (λ (point : Point). IsKeeper point keeper) (sym same) holds
 
 -- the outcome of a run is that of its history
-pub outcome_is : (point : Point) (history : History) → StandsAfter point history → Progress → (found : Option RunOutcome) → point.ended ≡ found → IsOutcome point found
+pub outcome_is : (point : Point) (history : History) → StandsAfter point history → LawOfProgress → (found : Option RunOutcome) → point.ended ≡ found → IsOutcome point found
 outcome_is point history stands law found same =
     record {
       history = history;
@@ -173,7 +173,7 @@ posted_needed point work number places results job end needs desk is posted =
     (subst (λ (work : Work). IsEndOf point.base work.segment end) (job_work (start_of point) work.thread job is ∙ sym (segment_work point work needs)) (desk.slots job end posted))
 
 -- a turn that is done has happened
-same_tally : (turns other : ℕ) (counts others : Counts) (keeper another : Advance) → turns ≡ other → counts ≡ others → keeper ≡ another
+same_tally : (turns other : ℕ) (counts others : Counts) (keeper another : Progress) → turns ≡ other → counts ≡ others → keeper ≡ another
     → (let tally : Tally = record { turns = turns; counts = counts; keeper = keeper } in tally) ≡ record { turns = other; counts = others; keeper = another }
 same_tally turns other counts others keeper another one two three = λ i. record { turns = one i; counts = two i; keeper = three i }
 
@@ -194,7 +194,7 @@ turn_done old new serial phase end needed done longer is same none counts =
           same_tally _ _ _ _ _ _
           (ap (λ (point : Point). point.done) after ∙ longer.done)
           (told ∙ ap (λ (point : Point). counts_after (point_at old) point (counts_of old)) (sym after))
-          (ap keeper_advance none);
+          (ap keeper_progress none);
     }
 
 -- a result that was looked at

@@ -1,6 +1,6 @@
 pub mod Faults
 pub mod Histories
 pub mod Jobs
-pub mod Running
+pub mod Underway
 pub mod Scene
 pub mod Tally

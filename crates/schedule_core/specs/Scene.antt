@@ -8,12 +8,12 @@ use Rattle.hart.specs.HartState.{HartState}
 use Rattle.hart.specs.Segment.{after}
 use Rattle.run_limits.specs.Limits as limit
 use Rattle.schedule.specs.Phase.{Counts, begun, is_enabled, made, opened}
-use Rattle.schedule.specs.declared.advance.Advance.{Advance}
+use Rattle.schedule.specs.declared.progress.Progress.{Progress}
 use Rattle.schedule.specs.declared.event.Event.{Event}
 use Rattle.schedule.specs.declared.event.Event.TheVariants.{Turn}
 use Rattle.schedule.specs.declared.fate.Fate.{Fate}
 use Rattle.schedule.specs.declared.fate.Fate.TheVariants as fate
-use Rattle.schedule.specs.declared.worker.Task.{Task}
+use Rattle.schedule.specs.declared.worker.Held.{Held as Counted}
 use Rattle.schedule.specs.declared.worker.Worker.{Worker}
 use Rattle.schedule.specs.declared.worker.Worker.TheVariants as worker
 use Rattle.segment.specs.Ends.{IsEndOf}
@@ -24,10 +24,10 @@ use Rattle.token.specs.declared.need.Need.TheVariants.{Keeper}
 use Rattle.segment.specs.declared.segment_end.SegmentEnd.{SegmentEnd}
 use Rattle.schedule_core.specs.Faults.{IsAnswerTo}
 use Rattle.schedule_core.specs.Jobs.{Start, jobs_of, start_of, verdicts_of, work_at}
-use Rattle.schedule_core.specs.Running.{IsRunning, advance_of, memory_of}
+use Rattle.schedule_core.specs.Underway.{IsUnderway, progress_of, memory_of}
 use Rattle.schedule_core.specs.Tally.{Happens, Tally, is_turn_enabled, refusal_if, refusal_of}
 use Rattle.schedule_core.specs.declared.event_fault.EventFault.{EventFault}
-use Rattle.schedule_core.specs.declared.running.Running.{Running}
+use Rattle.schedule_core.specs.declared.underway.Underway.{Underway}
 use Rattle.schedule_core.specs.declared.seat.Held.{Held}
 use Rattle.schedule_core.specs.declared.seat.Seat.{Seat}
 use Rattle.schedule_core.specs.declared.seat.Seat.TheVariants.{Idle, Ended, Working}
@@ -36,13 +36,13 @@ use Rattle.schedule_core.specs.declared.slot.Slot.TheVariants.{Open, Posted, Ski
 use Rattle.schedule_core.specs.declared.scene.Scene.{Scene}
 
 -- what is counted of the job that a worker has
-abbrev pub task_of : Held → Task
-task_of held = record { job = held.job; advance = advance_of held.running; noted = held.noted }
+abbrev pub counted_of : Held → Counted
+counted_of held = record { job = held.job; progress = progress_of held.underway; noted = held.noted }
 
 abbrev pub worker_of : Seat → Worker
 worker_of Idle = worker.Idle
 worker_of Ended = worker.Ended
-worker_of (Working held) = worker.Working (task_of held)
+worker_of (Working held) = worker.Working (counted_of held)
 
 abbrev pub fate_of : Slot → Fate
 fate_of Open = fate.Open
@@ -54,9 +54,9 @@ abbrev pub counts_by : ℕ → ℕ → List Seat → List Slot → Counts
 counts_by drawn least seats slots = record { drawn = drawn; least = least; workers = map worker_of seats; fates = map fate_of slots }
 
 -- how far the keeper's segment has come
-abbrev pub keeper_advance : Option Running → Advance
-keeper_advance None = begun
-keeper_advance (Some running) = advance_of running
+abbrev pub keeper_progress : Option Underway → Progress
+keeper_progress None = begun
+keeper_progress (Some underway) = progress_of underway
 
 -- where the turns stand
 abbrev pub point_at : Scene → Point
@@ -67,14 +67,14 @@ counts_of scene = counts_by scene.drawn scene.least scene.seats.items scene.slot
 
 -- the abstract world that is told
 abbrev pub tally_of : Scene → Tally
-tally_of scene = record { turns = (point_at scene).done; counts = counts_of scene; keeper = keeper_advance scene.keeper }
+tally_of scene = record { turns = (point_at scene).done; counts = counts_of scene; keeper = keeper_progress scene.keeper }
 
 -- A worker's segment is its job's on the phase's first memory.
 pub record IsHeld (start : Start) (held : Held) : Type 0 where
-  pub running : IsRunning held.running
+  pub underway : IsUnderway held.underway
   pub job : held.job < length (jobs_of start)
-  pub work : held.running.work ≡ work_at start held.job
-  pub memory : memory_of held.running ≡ start.memory
+  pub work : held.underway.work ≡ work_at start held.job
+  pub memory : memory_of held.underway ≡ start.memory
 
 abbrev pub IsSeat : Start → Seat → Type 0
 IsSeat start Idle = Unit {0}
@@ -82,14 +82,14 @@ IsSeat start Ended = Unit {0}
 IsSeat start (Working held) = IsHeld start held
 
 -- the keeper's segment is the one that the next turn needs, on the present memory
-pub record IsKeepers (point : Point) (segment : Running) : Type 0 where
-  pub running : IsRunning segment
+pub record IsKeepers (point : Point) (segment : Underway) : Type 0 where
+  pub underway : IsUnderway segment
   pub need : need_at point ≡ Keeper segment.work
   pub memory : memory_of segment ≡ point.state.memory
 
-abbrev pub IsKeeper : Point → Option Running → Type 0
+abbrev pub IsKeeper : Point → Option Underway → Type 0
 IsKeeper point None = Unit {0}
-IsKeeper point (Some running) = IsKeepers point running
+IsKeeper point (Some underway) = IsKeepers point underway
 
 -- one for a worker that has found no job left
 abbrev pub one_if_ended : Seat → ℕ
@@ -183,7 +183,7 @@ pub record Settles (old : Scene) (counted : Counts) (new : Scene) : Type 0 where
 
 -- the hart and the memory of a worker's job: as many times the next instruction from its start on the phase's first memory as its steps
 abbrev pub private_of : Start → Option Worker → Option (HartState × Memory)
-private_of start (Some (worker.Working task)) = after task.advance.steps (work_at start task.job).segment.hart start.memory
+private_of start (Some (worker.Working held)) = after held.progress.steps (work_at start held.job).segment.hart start.memory
 private_of start (Some worker.Idle) = None
 private_of start (Some worker.Ended) = None
 private_of start None = None

@@ -4,11 +4,11 @@
 mod applying;
 pub mod event_fault;
 mod refused_event;
-mod running;
 mod scene;
 mod seat;
 mod slot;
 mod turns;
+mod underway;
 pub mod world;
 
 pub use event_fault::EventFault;

@@ -1,7 +1,7 @@
 //! The scene of a world: the serial state with the slots and seats of its phase.
-use crate::running::Running;
 use crate::seat::{Held, Seat};
 use crate::slot::Slot;
+use crate::underway::Underway;
 use schedule::Event;
 use std::alloc::AllocError;
 use token::{Kept, RunOutcome, Serial, Work, segment_of};
@@ -19,7 +19,7 @@ pub struct Scene {
     /// What has become of each job.
     pub(crate) slots: Vec<Slot>,
     /// The segment of the thread that keeps the token, once it has begun.
-    pub(crate) keeper: Option<Running>,
+    pub(crate) keeper: Option<Underway>,
     /// How the run ended, none while a turn may follow.
     pub(crate) outcome: Option<RunOutcome>,
 }
@@ -73,7 +73,7 @@ impl Scene {
         Ok(Seat::Working(Held {
             job: self.drawn,
             noted: false,
-            running: Running::begin(work, base),
+            underway: Underway::begin(work, base),
         }))
     }
 
@@ -94,7 +94,7 @@ impl Scene {
         ensures { Works self.old (event.Step worker) self.new result }
     {
         match &mut self.seats[worker as usize] {
-            Seat::Working(held) => held.running.go_on(),
+            Seat::Working(held) => held.underway.go_on(),
             _ => Ok(()),
         }
     }
@@ -130,11 +130,11 @@ impl Scene {
         let Seat::Working(held) = &self.seats[worker as usize] else {
             return Ok(());
         };
-        let Some(stop) = held.running.stop else {
+        let Some(stop) = held.underway.stop else {
             return Ok(());
         };
         let job = held.job as usize;
-        let end = held.running.end(stop)?;
+        let end = held.underway.end(stop)?;
         self.seats[worker as usize] = Seat::Idle;
         self.slots[job] = Slot::Posted(end);
         Ok(())

@@ -4,10 +4,10 @@ ghost use Rattle.std.specs.Vec.{vec_capacity};
 ghost use Rattle.token.specs.RunInTurn.{point_of};
 
 use crate::event_fault::EventFault;
-use crate::running::Running;
 use crate::scene::Scene;
 use crate::seat::Seat;
 use crate::slot::Slot;
+use crate::underway::Underway;
 use std::alloc::AllocError;
 use token::{Kept, Need, RunOutcome, Serial, TurnFault, Work};
 
@@ -18,7 +18,7 @@ impl Scene {
     ghost use Rattle.token.specs.declared.need.Need.TheVariants as need;
     ghost use Rattle.run_limits.specs.Limits as limit;
     ghost use Rattle.schedule_core.specs.Jobs.{job_of, verdict_by};
-    ghost use Rattle.schedule_core.specs.Scene.{Answers, Does, GoesOn, HasRoom, IsDesk, IsSound, NeedsNext, Settles, TakesTurn, counts_of, keeper_advance, opened_in, point_at, settled_from, start_in};
+    ghost use Rattle.schedule_core.specs.Scene.{Answers, Does, GoesOn, HasRoom, IsDesk, IsSound, NeedsNext, Settles, TakesTurn, counts_of, keeper_progress, opened_in, point_at, settled_from, start_in};
     ghost use Rattle.schedule_core.specs.Tally.{is_posted, is_posted_at};
 
     /// The keeper's segment goes on by an instruction, or stops.
@@ -30,11 +30,11 @@ impl Scene {
             return Err(EventFault::NotEnabled);
         };
         match &mut self.keeper {
-            Some(running) => {
-                if running.has_stopped() {
+            Some(underway) => {
+                if underway.has_stopped() {
                     return Err(EventFault::NotEnabled);
                 }
-                running.go_on()?;
+                underway.go_on()?;
                 Ok(())
             }
             None => {
@@ -51,12 +51,12 @@ impl Scene {
         ensures sound { IsSound self.new }
         ensures serial { self.new.serial ≡ self.old.serial }
         ensures counts { counts_of self.new ≡ counts_of self.old }
-        ensures ok { OnOk result (keeper_advance self.new.keeper ≡ advanced (verdict_by (point_at self.old).state.memory work 0) begun) }
+        ensures ok { OnOk result (keeper_progress self.new.keeper ≡ advanced (verdict_by (point_at self.old).state.memory work 0) begun) }
         ensures err { OnErr result (self.new.keeper ≡ None) }
     {
-        let mut running = Running::begin(work, self.serial.now().try_clone()?);
-        running.go_on()?;
-        self.keeper = Some(running);
+        let mut underway = Underway::begin(work, self.serial.now().try_clone()?);
+        underway.go_on()?;
+        self.keeper = Some(underway);
         Ok(())
     }
 
@@ -133,13 +133,13 @@ impl Scene {
         requires { NeedsNext self.old (need.Keeper work) }
         ensures { TakesTurn self.old (need.Keeper work) self.new result }
     {
-        let Some(running) = &self.keeper else {
+        let Some(underway) = &self.keeper else {
             return Err(EventFault::NotEnabled);
         };
-        let Some(stop) = running.stop else {
+        let Some(stop) = underway.stop else {
             return Err(EventFault::NotEnabled);
         };
-        let end = running.end(stop)?;
+        let end = underway.end(stop)?;
         let phase = self.serial.phase();
         self.serial.turn(Some(&end))?;
         self.settle(phase);

@@ -176,7 +176,7 @@ impl World {
             ≡ private_of (start_in self.now) (slice_get (counts_of self.now).workers worker) }
     {
         match self.scene.seats.get(worker as usize) {
-            Some(Seat::Working(held)) => Some((&held.running.hart, &held.running.view)),
+            Some(Seat::Working(held)) => Some((&held.underway.hart, &held.underway.view)),
             _ => None,
         }
     }

@@ -17,14 +17,14 @@ use Rattle.paged_memory.specs.Snapshot as snapshots
 use Rattle.twins.specs.View as views
 use Rattle.segment.specs.declared.segment_end.SegmentEnd.{SegmentEnd}
 use Rattle.segment.specs.Ends.{IsEndOf}
-use Rattle.timeline.specs.Moment.{Task}
+use Rattle.timeline.specs.Moment.{Origin}
 use Rattle.token.specs.Turns.{Ran}
 use Rattle.token.proofs.SegmentEnds.{one_end}
-use Rattle.timeline.specs.Running.{EndsHere, IsRunning, IsOver, IsProgress, IsStopped, IsTrapped, task_of}
+use Rattle.timeline.specs.Underway.{EndsHere, IsUnderway, IsOver, IsProgress, IsStopped, IsTrapped, origin_of}
 use Rattle.timeline.specs.declared.halt.Halt.TheVariants.{End}
-use Rattle.timeline.specs.declared.running.Running.{Running}
-use Rattle.timeline.specs.declared.running.Progress.{Progress}
-use Rattle.timeline.specs.declared.running.Progress.TheVariants.{Stays, Halts, Over}
+use Rattle.timeline.specs.declared.underway.Underway.{Underway}
+use Rattle.timeline.specs.declared.underway.Progress.{Progress}
+use Rattle.timeline.specs.declared.underway.Progress.TheVariants.{Stays, Halts, Over}
 
 -- a segment stops no earlier than it has come
 pub not_before : (hart last : HartState) (memory last_memory : Memory) (left : ℕ) (quantum : Option ℕ) (done steps : ℕ) (stop : Stop)
@@ -83,7 +83,7 @@ no_earlier hart last end_hart memory last_memory end_memory left quantum done co
     omega arith
 
 -- a segment that stands at a trap
-at_trap : (mid : Running) (count : ℕ) (trap : TrapOf) → snapshots.cells_of mid.under ≡ snapshots.cells_of (views.base_of mid.view) → EndsHere mid (Trap trap) count → IsRunning (record mid { done = count; trap = Some trap })
+at_trap : (mid : Underway) (count : ℕ) (trap : TrapOf) → snapshots.cells_of mid.under ≡ snapshots.cells_of (views.base_of mid.view) → EndsHere mid (Trap trap) count → IsUnderway (record mid { done = count; trap = Some trap })
 at_trap mid count trap under ends =
     let segment = ends.0 in
     record {
@@ -98,34 +98,34 @@ at_trap mid count trap under ends =
     }
 
 -- the segment stands at a trap that was found
-trapped : (old mid new : Running) (until count : ℕ) (trap : TrapOf) (result : Progress)
-    → IsRunning old → mid.done ≡ old.done → task_of mid ≡ task_of old → snapshots.cells_of mid.under ≡ snapshots.cells_of (views.base_of mid.view)
+trapped : (old mid new : Underway) (until count : ℕ) (trap : TrapOf) (result : Progress)
+    → IsUnderway old → mid.done ≡ old.done → origin_of mid ≡ origin_of old → snapshots.cells_of mid.under ≡ snapshots.cells_of (views.base_of mid.view)
     → EndsHere mid (Trap trap) count → old.done ≤ count → count ≤ until → IsTrapped mid trap count result new → IsProgress old until result new
-trapped old mid new until count trap Stays running same_done same_task under ends no_less within is =
+trapped old mid new until count trap Stays underway same_done same_origin under ends no_less within is =
     let above = is.0 in
     let further : old.done < count = omega arith in
-    subst (λ (new : Running). IsRunning new × (task_of new ≡ task_of old) × (old.done < new.done) × (new.done ≤ until)) (sym is.1)
-    (at_trap mid count trap under ends, same_task, further, within)
-trapped old mid new until count trap (Halts halt) running same_done same_task under ends no_less within is =
+    subst (λ (new : Underway). IsUnderway new × (origin_of new ≡ origin_of old) × (old.done < new.done) × (new.done ≤ until)) (sym is.1)
+    (at_trap mid count trap under ends, same_origin, further, within)
+trapped old mid new until count trap (Halts halt) underway same_done same_origin under ends no_less within is =
     let above = is.0 in
     let same : count ≡ old.done = omega arith in
-    let stands : (halt ≡ End) × IsRunning (record mid { done = count; trap = Some trap }) × (task_of (record mid { done = count; trap = Some trap }) ≡ task_of old) × (count ≡ old.done) × ((found : TrapOf) × (Some trap ≡ Some found)) =
-    (is.1, at_trap mid count trap under ends, same_task, same, (trap, refl)) in
-    subst (λ (new : Running). (halt ≡ End) × IsRunning new × (task_of new ≡ task_of old) × (new.done ≡ old.done) × ((found : TrapOf) × (new.trap ≡ Some found))) (sym is.2) stands
-trapped old mid new until count trap (Over end) running same_done same_task under ends no_less within is = absurd is
+    let stands : (halt ≡ End) × IsUnderway (record mid { done = count; trap = Some trap }) × (origin_of (record mid { done = count; trap = Some trap }) ≡ origin_of old) × (count ≡ old.done) × ((found : TrapOf) × (Some trap ≡ Some found)) =
+    (is.1, at_trap mid count trap under ends, same_origin, same, (trap, refl)) in
+    subst (λ (new : Underway). (halt ≡ End) × IsUnderway new × (origin_of new ≡ origin_of old) × (new.done ≡ old.done) × ((found : TrapOf) × (new.trap ≡ Some found))) (sym is.2) stands
+trapped old mid new until count trap (Over end) underway same_done same_origin under ends no_less within is = absurd is
 
 -- the end of a segment that is over
-over : (old new : Running) (task : Task) (until count : ℕ) (stop : Stop) (result : Progress)
-    → task ≡ task_of old → ((trap : TrapOf) → stop ≡ Trap trap → ⊥) → old.done < count → count ≤ until → IsOver task stop count result → IsProgress old until result new
-over old new task until count stop Stays same other further within is = absurd is
-over old new task until count stop (Halts halt) same other further within is = absurd is
-over old new task until count stop (Over None) same other further within is = let some = is.1 in cc
-over old new task until count stop (Over (Some end)) same other further within is =
+over : (old new : Underway) (origin : Origin) (until count : ℕ) (stop : Stop) (result : Progress)
+    → origin ≡ origin_of old → ((trap : TrapOf) → stop ≡ Trap trap → ⊥) → old.done < count → count ≤ until → IsOver origin stop count result → IsProgress old until result new
+over old new origin until count stop Stays same other further within is = absurd is
+over old new origin until count stop (Halts halt) same other further within is = absurd is
+over old new origin until count stop (Over None) same other further within is = let some = is.1 in cc
+over old new origin until count stop (Over (Some end)) same other further within is =
     let of_it = is.0 in
     let counted = of_it.2 in (
       (
         record {
-          end_of = subst (λ (task : Task). IsEndOf task.copy task.work.segment end) same of_it.0;
+          end_of = subst (λ (origin : Origin). IsEndOf origin.copy origin.work.segment end) same of_it.0;
           no_trap = λ trap traps. other trap (sym of_it.1 ∙ traps);
         },
         (omega arith),
@@ -135,34 +135,34 @@ over old new task until count stop (Over (Some end)) same other further within i
     )
 
 -- a segment that stopped is at a trap or over
-pub stopped_is : {E : Type 0} (old mid new : Running) (until count : ℕ) (stop : Stop) (result : Result Progress E)
-    → IsRunning old → old.trap ≡ None → mid.done ≡ old.done → task_of mid ≡ task_of old → snapshots.cells_of mid.under ≡ snapshots.cells_of (views.base_of mid.view)
+pub stopped_is : {E : Type 0} (old mid new : Underway) (until count : ℕ) (stop : Stop) (result : Result Progress E)
+    → IsUnderway old → old.trap ≡ None → mid.done ≡ old.done → origin_of mid ≡ origin_of old → snapshots.cells_of mid.under ≡ snapshots.cells_of (views.base_of mid.view)
     → EndsHere mid stop count → count ≤ until → IfOk result (λ progress. IsStopped mid stop count progress new) → IfOk result (λ progress. IsProgress old until progress new)
-stopped_is old mid new until count stop (Err error) running goes same_done same_task under ends within is = is
-stopped_is old mid new until count stop (Ok progress) running goes same_done same_task under ends within is = by_stop stop ends is
+stopped_is old mid new until count stop (Err error) underway goes same_done same_origin under ends within is = is
+stopped_is old mid new until count stop (Ok progress) underway goes same_done same_origin under ends within is = by_stop stop ends is
   where
-    segment_of : (stop : Stop) → EndsHere mid stop count → Segment old.work.segment.hart (task_of old).copy old.work.segment.left old.work.segment.quantum stop count mid.hart (views.cells_of mid.view)
+    segment_of : (stop : Stop) → EndsHere mid stop count → Segment old.work.segment.hart (origin_of old).copy old.work.segment.left old.work.segment.quantum stop count mid.hart (views.cells_of mid.view)
     segment_of stop ends =
-        subst (λ (task : Task). Segment task.work.segment.hart task.copy task.work.segment.left task.work.segment.quantum stop count mid.hart (views.cells_of mid.view)) same_task ends.0
+        subst (λ (origin : Origin). Segment origin.work.segment.hart origin.copy origin.work.segment.left origin.work.segment.quantum stop count mid.hart (views.cells_of mid.view)) same_origin ends.0
 
     by_stop : (stop : Stop) → EndsHere mid stop count → IsStopped mid stop count progress new → IsProgress old until progress new
     by_stop (Trap trap) ends is =
-        trapped old mid new until count trap progress running same_done same_task under ends
-        (no_earlier _ _ _ _ _ _ _ _ _ _ _ running.stands.runs (segment_of (Trap trap) ends)) within is
+        trapped old mid new until count trap progress underway same_done same_origin under ends
+        (no_earlier _ _ _ _ _ _ _ _ _ _ _ underway.stands.runs (segment_of (Trap trap) ends)) within is
     by_stop Ecall ends is =
         let other : (trap : TrapOf) → Ecall ≡ Trap trap → ⊥ = λ trap traps. cc in
-        over old new (task_of mid) until count Ecall progress same_task other
-        (later _ _ _ _ _ _ _ _ _ _ _ running.stands.runs (running.stands.quantum goes) other (segment_of Ecall ends)) within is
+        over old new (origin_of mid) until count Ecall progress same_origin other
+        (later _ _ _ _ _ _ _ _ _ _ _ underway.stands.runs (underway.stands.quantum goes) other (segment_of Ecall ends)) within is
     by_stop Quantum ends is =
         let other : (trap : TrapOf) → Quantum ≡ Trap trap → ⊥ = λ trap traps. cc in
-        over old new (task_of mid) until count Quantum progress same_task other
-        (later _ _ _ _ _ _ _ _ _ _ _ running.stands.runs (running.stands.quantum goes) other (segment_of Quantum ends)) within is
+        over old new (origin_of mid) until count Quantum progress same_origin other
+        (later _ _ _ _ _ _ _ _ _ _ _ underway.stands.runs (underway.stands.quantum goes) other (segment_of Quantum ends)) within is
 
 -- the end of a segment that was executed again is the end that it had
-pub again : (task : Task) (stop : Stop) (count : ℕ) (hart : HartState) (memory : Memory) (end : SegmentEnd)
-    → Segment task.work.segment.hart task.copy task.work.segment.left task.work.segment.quantum stop count hart memory → IsEndOf task.copy task.work.segment end → (end.stop ≡ stop) × (end.count ≡ count)
-again task stop count hart memory end segment of_it =
+pub again : (origin : Origin) (stop : Stop) (count : ℕ) (hart : HartState) (memory : Memory) (end : SegmentEnd)
+    → Segment origin.work.segment.hart origin.copy origin.work.segment.left origin.work.segment.quantum stop count hart memory → IsEndOf origin.copy origin.work.segment end → (end.stop ≡ stop) × (end.count ≡ count)
+again origin stop count hart memory end segment of_it =
     let one : Ran = record { hart = end.hart; memory = of_it.memory; stop = end.stop; count = end.count } in
     let other : Ran = record { hart = hart; memory = memory; stop = stop; count = count } in
-    let same = one_end task.work.segment.hart task.copy task.work.segment.left task.work.segment.quantum one other of_it.segment_is segment in
+    let same = one_end origin.work.segment.hart origin.copy origin.work.segment.left origin.work.segment.quantum one other of_it.segment_is segment in
     (ap (λ (ran : Ran). ran.stop) same, ap (λ (ran : Ran). ran.count) same)

@@ -32,7 +32,7 @@ nothing_at (Some own) = (refl, sym (no_event (next_access own.hart own.memory)))
 
 -- nothing is told of the positions of a turn that are passed
 pub silent_walk : (wanted : Wanted) (start : Point) (old : Present) (to : ℕ) → BeginsAt start old → moves_other wanted.alone (need_at (point_at old)) ≡ false
-    → ArePlain wanted (point_at old) (steps_of old.running) (steps_of old.running + (to - step_of old)) → AreSilent wanted start (step_of old) to
+    → ArePlain wanted (point_at old) (steps_of old.underway) (steps_of old.underway + (to - step_of old)) → AreSilent wanted start (step_of old) to
 silent_walk wanted start old to begins moves plain = λ n low high.
     let k : ℕ = n - old.before in
     let here = plain k (omega (arith, low)) (omega (arith, low, high)) in
@@ -46,7 +46,7 @@ silent_walk wanted start old to begins moves plain = λ n low high.
 
 -- the last of the steps of a turn that isn't to move
 pub moved_other : (wanted : Wanted) (start : Point) (old : Present) (to : ℕ) → BeginsAt start old → moves_other wanted.alone (need_at (point_at old)) ≡ true → step_of old < to
-    → ArePlain wanted (point_at old) (steps_of old.running) (steps_of old.running + (to - step_of old)) → IsLastTold wanted start (step_of old) to OtherThread to
+    → ArePlain wanted (point_at old) (steps_of old.underway) (steps_of old.underway + (to - step_of old)) → IsLastTold wanted start (step_of old) to OtherThread to
 moved_other wanted start old to begins moves further plain =
     let k : ℕ = to - 1 - old.before in
     let here = plain k (omega (arith, further)) (omega (arith, further)) in
@@ -134,7 +134,7 @@ then_found wanted start from mid to None None since within before now = either w
 pub not_halted : (wanted : Wanted) (start : Point) (old new : Present) (goal until : ℕ) (last : Moment) (halt : Option Halt) → IsStep old goal halt new → IsPlainWalk wanted old halt new
     → (point_at new ≡ point_at old
     → (address_at wanted (own_at (moment_of new)) ≡ None) × (event_at wanted.watches (own_at (moment_of new)) ≡ None) × (call_at wanted.watches (moment_of new) ≡ None))
-    → IsTurns (point_at new) new.running → BeginsAt start new → goal ≤ until → moment_at start until ≡ Some last → (step_of old < step_of new) × (step_of new ≤ goal)
+    → IsTurns (point_at new) new.underway → BeginsAt start new → goal ≤ until → moment_at start until ≡ Some last → (step_of old < step_of new) × (step_of new ≤ goal)
 not_halted wanted start old new goal until last None step walk quiet turns begins within leads = step
 not_halted wanted start old new goal until last (Some halt) step walk quiet turns begins within leads =
     let none = quiet walk.1 in
@@ -144,7 +144,7 @@ not_halted wanted start old new goal until last (Some halt) step walk quiet turn
 
 -- a motion that is asked for nothing goes on where the run leads further
 pub goes_on : (start : Point) (wanted : Wanted) (old begun new : Present) (goal until : ℕ) (last : Moment) (halt : Option Halt) → wanted ≡ nothing → step_of begun ≡ step_of old
-    → IsStep begun goal halt new → IsPlainWalk wanted begun halt new → IsTurns (point_at new) new.running → BeginsAt start new → goal ≤ until → moment_at start until ≡ Some last
+    → IsStep begun goal halt new → IsPlainWalk wanted begun halt new → IsTurns (point_at new) new.underway → BeginsAt start new → goal ≤ until → moment_at start until ≡ Some last
     → (step_of old < step_of new) × (step_of new ≤ goal)
 goes_on start wanted old begun new goal until last halt same_wanted same step walk turns begins within leads =
     let there = not_halted nothing start begun new goal until last halt step (rw same_wanted at walk) quiet turns begins within leads in
@@ -157,7 +157,7 @@ goes_on start wanted old begun new goal until last halt same_wanted same step wa
         (none.0, none.1, call_nothing (moment_of new))
 
 -- the run leads from a position to those before another of its positions
-pub leads_to : (start : Point) (present other : Present) (step : ℕ) → BeginsAt start present → BeginsAt start other → IsTurns (point_at other) other.running → step ≤ step_of other → LeadsTo present step
+pub leads_to : (start : Point) (present other : Present) (step : ℕ) → BeginsAt start present → BeginsAt start other → IsTurns (point_at other) other.underway → step ≤ step_of other → LeadsTo present step
 leads_to start present other step begins other_begins turns within =
     let there = earlier start step (step_of other) (moment_of other) within (stands_at start other turns other_begins) in
     record { start = start; begins = begins; moment = there.0; there = there.1 }
@@ -180,7 +180,7 @@ halts_at_end moment halt is =
     no_threads (need.Ended outcome) = refl
 
 -- the next position of a run, by that of a run that begins with its turn
-pub next_of : (present copy after : Present) → point_at copy ≡ point_at present → steps_of copy.running ≡ steps_of present.running → copy.before ≡ 0 → IsSound copy
+pub next_of : (present copy after : Present) → point_at copy ≡ point_at present → steps_of copy.underway ≡ steps_of present.underway → copy.before ≡ 0 → IsSound copy
     → StaysInRun copy after → step_of after ≡ step_of copy + 1 → next_moment (moment_of present) ≡ Some (moment_of after)
 next_of present copy after point steps before sound stays next =
     let start = point_at copy in
@@ -192,7 +192,7 @@ next_of present copy after point steps before sound stays next =
     ap next_moment (sym same) ∙ sym (then_next start (step_of copy) (moment_of copy) here) ∙ ap (moment_at start) more ∙ there
 
 -- none if that run halts where it stands
-pub none_next : (present copy after : Present) (halt : Halt) (wanted : Wanted) → point_at copy ≡ point_at present → steps_of copy.running ≡ steps_of present.running → copy.before ≡ 0 → IsSound copy
+pub none_next : (present copy after : Present) (halt : Halt) (wanted : Wanted) → point_at copy ≡ point_at present → steps_of copy.underway ≡ steps_of present.underway → copy.before ≡ 0 → IsSound copy
     → StaysInRun copy after → wanted ≡ nothing → IsStep copy (step_of copy + 1) (Some halt) after
     → IsPlainWalk wanted copy (Some halt) after → next_moment (moment_of present) ≡ None
 none_next present copy after halt wanted point steps before sound stays same_wanted step walk =
@@ -224,7 +224,7 @@ one_step old new wanted halt here leads same same_wanted step walk stays =
     omega (arith, on.0, on.1)
 
 -- a motion over a turn of which nothing is told
-pub turn_passed : (wanted : Wanted) (old new : Present) (until : ℕ) (halt : Option Halt) → IsSound old → IsBegun (point_at old) old.running → looks wanted old.running ≡ false → LeadsTo old until
+pub turn_passed : (wanted : Wanted) (old new : Present) (until : ℕ) (halt : Option Halt) → IsSound old → IsBegun (point_at old) old.underway → looks wanted old.underway ≡ false → LeadsTo old until
     → IsStep old until halt new → IsPlainWalk wanted old halt new → StaysInRun old new → (step_of old < step_of new) × (step_of new ≤ until)
 turn_passed wanted old new until halt sound begun is leads step walk stays =
     not_halted wanted leads.start old new until until leads.moment halt step walk quiet stays.sound.turns (stays.begins leads.start leads.begins) (omega arith) leads.there
@@ -232,11 +232,11 @@ turn_passed wanted old new until halt sound begun is leads step walk stays =
     quiet : point_at new ≡ point_at old
         → (address_at wanted (own_at (moment_of new)) ≡ None) × (event_at wanted.watches (own_at (moment_of new)) ≡ None) × (call_at wanted.watches (moment_of new) ≡ None)
     quiet same =
-        let none = silent_turn wanted (point_at old) old.running (steps_of new.running) sound.turns begun is in
-        let call = silent_call wanted (point_at old) old.running (steps_of new.running) begun is in
+        let none = silent_turn wanted (point_at old) old.underway (steps_of new.underway) sound.turns begun is in
+        let call = silent_call wanted (point_at old) old.underway (steps_of new.underway) begun is in
         rw same (none.0, none.1, call)
 
-pub plain_of : (wanted : Wanted) (old new : Present) (halt : Option Halt) → IsPlainWalk wanted old halt new → ArePlain wanted (point_at old) (steps_of old.running) (steps_of old.running + (step_of new - step_of old))
+pub plain_of : (wanted : Wanted) (old new : Present) (halt : Option Halt) → IsPlainWalk wanted old halt new → ArePlain wanted (point_at old) (steps_of old.underway) (steps_of old.underway + (step_of new - step_of old))
 plain_of wanted old new None walk = walk
 plain_of wanted old new (Some halt) walk = walk.0
 

@@ -16,7 +16,7 @@ use Rattle.marked_memory.specs.declared.watch.Watch.{Watch}
 use Rattle.token.specs.Point.{Point}
 use Rattle.timeline.specs.Calls.{call_at, call_by}
 use Rattle.timeline.specs.Halts.{Wanted, access_event, access_of, calls_next, first_from, is_call, next_access, next_instr}
-use Rattle.timeline.specs.Moment.{Moment, Task, state_in, stop_in, task_at}
+use Rattle.timeline.specs.Moment.{Moment, Origin, state_in, stop_in, origin_at}
 use Rattle.timeline.specs.Quiet.{IsQuiet}
 use Rattle.timeline.specs.Shown.{Executing, own_at, own_by}
 use Rattle.timeline.specs.declared.halt.Halt.{Halt}
@@ -25,50 +25,50 @@ none_of : (test : Bool) (told : Option Halt) → told ≡ None → (if test then
 none_of true told none = none
 none_of false told none = refl
 
-nothing_by : (moment : Moment) (task : Option Task) (own : Option Executing) → call_by [] moment task own ≡ None
+nothing_by : (moment : Moment) (origin : Option Origin) (own : Option Executing) → call_by [] moment origin own ≡ None
 unfolding first_from
 nothing_by moment None own = refl
-nothing_by moment (Some task) None = refl
-nothing_by moment (Some task) (Some own) = none_of (calls_next task.work.segment.left moment.steps own.hart own.memory) None refl
+nothing_by moment (Some origin) None = refl
+nothing_by moment (Some origin) (Some own) = none_of (calls_next origin.work.segment.left moment.steps own.hart own.memory) None refl
 
 -- where nothing is watched
 pub call_nothing : (moment : Moment) → call_at [] moment ≡ None
 unfolding call_at
-call_nothing moment = nothing_by moment (task_at moment.point) (own_at moment)
+call_nothing moment = nothing_by moment (origin_at moment.point) (own_at moment)
 
 -- in a turn without a segment
-pub call_without : (watches : List Watch) (point : Point) (steps : ℕ) → task_at point ≡ None → call_at watches (record { point = point; steps = steps }) ≡ None
+pub call_without : (watches : List Watch) (point : Point) (steps : ℕ) → origin_at point ≡ None → call_at watches (record { point = point; steps = steps }) ≡ None
 unfolding call_at
-call_without watches point steps none = ap (λ (task : Option Task). call_by watches (record { point = point; steps = steps }) task (own_at (record { point = point; steps = steps }))) none
+call_without watches point steps none = ap (λ (origin : Option Origin). call_by watches (record { point = point; steps = steps }) origin (own_at (record { point = point; steps = steps }))) none
 
-quiet_by : (watches : List Watch) (moment : Moment) (task : Task) (state : Option (HartState × Memory))
-    → ((hart : HartState) (memory : Memory) → state ≡ Some (hart, memory) → calls_next task.work.segment.left moment.steps hart memory ≡ false)
-    → call_by watches moment (Some task) (option_map (λ state. record { thread = task.work.thread; hart = state.0; memory = state.1 }) state) ≡ None
-quiet_by watches moment task None each = refl
-quiet_by watches moment task (Some state) each = rw (each state.0 state.1 refl) refl
+quiet_by : (watches : List Watch) (moment : Moment) (origin : Origin) (state : Option (HartState × Memory))
+    → ((hart : HartState) (memory : Memory) → state ≡ Some (hart, memory) → calls_next origin.work.segment.left moment.steps hart memory ≡ false)
+    → call_by watches moment (Some origin) (option_map (λ state. record { thread = origin.work.thread; hart = state.0; memory = state.1 }) state) ≡ None
+quiet_by watches moment origin None each = refl
+quiet_by watches moment origin (Some state) each = rw (each state.0 state.1 refl) refl
 
 -- where no call comes next
-pub call_quiet : (watches : List Watch) (point : Point) (task : Task) (steps : ℕ) → task_at point ≡ Some task
-    → ((hart : HartState) (memory : Memory) → state_in task steps ≡ Some (hart, memory) → calls_next task.work.segment.left steps hart memory ≡ false)
+pub call_quiet : (watches : List Watch) (point : Point) (origin : Origin) (steps : ℕ) → origin_at point ≡ Some origin
+    → ((hart : HartState) (memory : Memory) → state_in origin steps ≡ Some (hart, memory) → calls_next origin.work.segment.left steps hart memory ≡ false)
     → call_at watches (record { point = point; steps = steps }) ≡ None
 unfolding call_at own_at
-call_quiet watches point task steps is each =
+call_quiet watches point origin steps is each =
     let moment : Moment = record { point = point; steps = steps } in
-    ap (λ (task : Option Task). call_by watches moment task (own_by task steps)) is ∙ quiet_by watches moment task (state_in task steps) each
+    ap (λ (origin : Option Origin). call_by watches moment origin (own_by origin steps)) is ∙ quiet_by watches moment origin (state_in origin steps) each
 
-watched_by : (watches : List Watch) (point : Point) (task : Task) (k : ℕ) → task_at point ≡ Some task
-    → ((hart : HartState) (memory : Memory) → state_in task k ≡ Some (hart, memory) → watches ≢ [] → calls_next task.work.segment.left k hart memory ≡ false)
+watched_by : (watches : List Watch) (point : Point) (origin : Origin) (k : ℕ) → origin_at point ≡ Some origin
+    → ((hart : HartState) (memory : Memory) → state_in origin k ≡ Some (hart, memory) → watches ≢ [] → calls_next origin.work.segment.left k hart memory ≡ false)
     → call_at watches (record { point = point; steps = k }) ≡ None
-watched_by [] point task k is each = call_nothing (record { point = point; steps = k })
-watched_by (watch ∷ watches) point task k is each = call_quiet (watch ∷ watches) point task k is (λ hart memory there. each hart memory there (λ none. cc))
+watched_by [] point origin k is each = call_nothing (record { point = point; steps = k })
+watched_by (watch ∷ watches) point origin k is each = call_quiet (watch ∷ watches) point origin k is (λ hart memory there. each hart memory there (λ none. cc))
 
 -- at the positions that are passed, but for the first
-pub call_passed : (wanted : Wanted) (point : Point) (task : Task) (from to k : ℕ) → IsQuiet wanted task from to → task_at point ≡ Some task → from ≤ k → k < to
+pub call_passed : (wanted : Wanted) (point : Point) (origin : Origin) (from to k : ℕ) → IsQuiet wanted origin from to → origin_at point ≡ Some origin → from ≤ k → k < to
     → call_at wanted.watches (record { point = point; steps = from }) ≡ None → call_at wanted.watches (record { point = point; steps = k }) ≡ None
-call_passed wanted point task from to k quiet is low high first =
+call_passed wanted point origin from to k quiet is low high first =
     elim (cases_eq k from) [
       | inl same ↦ rw same first
-      | inr other ↦ watched_by wanted.watches point task k is (λ hart memory there watched. quiet.calls k hart memory (omega arith) high there watched)
+      | inr other ↦ watched_by wanted.watches point origin k is (λ hart memory there watched. quiet.calls k hart memory (omega arith) high there watched)
     ]
 
 -- a call stops its segment
@@ -100,23 +100,23 @@ stops_by left k quantum stop below is no_quantum no_call = by (is_used_up quantu
     by false is = no_call is
 
 -- where a segment doesn't stop at a call or its quantum, no call comes next
-pub no_call : (task : Task) (k : ℕ) (hart : HartState) (memory : Memory) → state_in task k ≡ Some (hart, memory) → (stop_in task k ≡ Some Quantum → ⊥) → (stop_in task k ≡ Some Ecall → ⊥)
-    → calls_next task.work.segment.left k hart memory ≡ false
+pub no_call : (origin : Origin) (k : ℕ) (hart : HartState) (memory : Memory) → state_in origin k ≡ Some (hart, memory) → (stop_in origin k ≡ Some Quantum → ⊥) → (stop_in origin k ≡ Some Ecall → ⊥)
+    → calls_next origin.work.segment.left k hart memory ≡ false
 unfolding stop_after
-no_call task k hart memory there no_quantum no_ecall = by (calls_next task.work.segment.left k hart memory) refl
+no_call origin k hart memory there no_quantum no_ecall = by (calls_next origin.work.segment.left k hart memory) refl
   where
     left : ℕ
-    left = task.work.segment.left
+    left = origin.work.segment.left
 
     by : (found : Bool) → calls_next left k hart memory ≡ found → calls_next left k hart memory ≡ false
     by false is = is
     by true is =
         let both = both_true (nat_lt k left) (is_call (next_instr hart memory)) is in
         let other : (k == left) ≡ false = grind (arith, nat_tests, both.0) in
-        let stop : stop_in task k ≡ stop_at left task.work.segment.quantum k Calls =
-        ap (option_and_then (λ (state : HartState × Memory). stop_at left task.work.segment.quantum k (next state.0 state.1))) there
-        ∙ ap (stop_at left task.work.segment.quantum k) (calls hart memory both.1) in
-        absurd (stops_by left k task.work.segment.quantum (stop_in task k) other stop no_quantum no_ecall)
+        let stop : stop_in origin k ≡ stop_at left origin.work.segment.quantum k Calls =
+        ap (option_and_then (λ (state : HartState × Memory). stop_at left origin.work.segment.quantum k (next state.0 state.1))) there
+        ∙ ap (stop_at left origin.work.segment.quantum k) (calls hart memory both.1) in
+        absurd (stops_by left k origin.work.segment.quantum (stop_in origin k) other stop no_quantum no_ecall)
 
 pub and_false : (one other : Bool) → other ≡ false → (one && other) ≡ false
 and_false true other is = is

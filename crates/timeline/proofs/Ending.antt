@@ -8,31 +8,31 @@ use Rattle.token.specs.declared.need.Need.{Need}
 use Rattle.token.specs.declared.need.Need.TheVariants as need
 use Rattle.timeline.specs.Halting.{end_at, end_by_need, end_by_stop}
 use Rattle.timeline.specs.Halts.{first_of}
-use Rattle.timeline.specs.Moment.{Moment, Task, moment_at, next_in, next_moment, stepped, stop_in, task_at, task_by}
+use Rattle.timeline.specs.Moment.{Moment, Origin, moment_at, next_in, next_moment, stepped, stop_in, origin_at, origin_by}
 use Rattle.timeline.specs.declared.halt.Halt.{Halt}
 use Rattle.timeline.specs.declared.halt.Halt.TheVariants.{End}
 use Rattle.timeline.proofs.Positions.{then_next}
 
-by_stop : (point : Point) (task : Task) (steps : ℕ) (halt : Halt) (stop : Option Stop) → first_of (end_by_stop stop) None ≡ Some halt → stepped point task steps stop ≡ None
-by_stop point task steps halt None is = absurd (cc)
-by_stop point task steps halt (Some (Trap trap)) is = refl
-by_stop point task steps halt (Some Ecall) is = absurd (cc)
-by_stop point task steps halt (Some Quantum) is = absurd (cc)
+by_stop : (point : Point) (origin : Origin) (steps : ℕ) (halt : Halt) (stop : Option Stop) → first_of (end_by_stop stop) None ≡ Some halt → stepped point origin steps stop ≡ None
+by_stop point origin steps halt None is = absurd (cc)
+by_stop point origin steps halt (Some (Trap trap)) is = refl
+by_stop point origin steps halt (Some Ecall) is = absurd (cc)
+by_stop point origin steps halt (Some Quantum) is = absurd (cc)
 
 by_need : (point : Point) (steps : ℕ) (halt : Halt) (asked : Need)
-    → first_of (end_by_stop (option_and_then (λ task. stop_in task steps) (task_by point asked))) (end_by_need asked) ≡ Some halt → next_in point steps (task_by point asked) asked ≡ None
+    → first_of (end_by_stop (option_and_then (λ origin. stop_in origin steps) (origin_by point asked))) (end_by_need asked) ≡ Some halt → next_in point steps (origin_by point asked) asked ≡ None
 by_need point steps halt (need.Segment work) is =
-    let task : Task = record { work = work; copy = point.base } in
-    by_stop point task steps halt (stop_in task steps) is
+    let origin : Origin = record { work = work; copy = point.base } in
+    by_stop point origin steps halt (stop_in origin steps) is
 by_need point steps halt (need.Keeper work) is =
-    let task : Task = record { work = work; copy = point.state.memory } in
-    by_stop point task steps halt (stop_in task steps) is
+    let origin : Origin = record { work = work; copy = point.state.memory } in
+    by_stop point origin steps halt (stop_in origin steps) is
 by_need point steps halt (need.Wake thread) is = absurd (cc)
 by_need point steps halt (need.Ended outcome) is = refl
 
 -- none follows the last position
 pub none_follows : (moment : Moment) (halt : Halt) → end_at moment ≡ Some halt → next_moment moment ≡ None
-unfolding end_at next_moment task_at
+unfolding end_at next_moment origin_at
 none_follows moment halt is = by_need moment.point moment.steps halt (need_at moment.point) is
 
 none_later : (start : Point) (step more : ℕ) → moment_at start step ≡ None → moment_at start (step + more) ≡ None
@@ -62,7 +62,7 @@ earlier start step to last within leads = some_or_none (moment_at start step) (�
     cc)
 
 pub only_end : (moment : Moment) (halt : Halt) → end_at moment ≡ Some halt → halt ≡ End
-unfolding end_at task_at
+unfolding end_at origin_at
 only_end moment halt is = by (need_at moment.point) is
   where
     ends : (stop : Option Stop) → first_of (end_by_stop stop) None ≡ Some halt → halt ≡ End
@@ -71,7 +71,7 @@ only_end moment halt is = by (need_at moment.point) is
     ends (Some Ecall) is = absurd (cc)
     ends (Some Quantum) is = absurd (cc)
 
-    by : (asked : Need) → first_of (end_by_stop (option_and_then (λ task. stop_in task moment.steps) (task_by moment.point asked))) (end_by_need asked) ≡ Some halt → halt ≡ End
+    by : (asked : Need) → first_of (end_by_stop (option_and_then (λ origin. stop_in origin moment.steps) (origin_by moment.point asked))) (end_by_need asked) ≡ Some halt → halt ≡ End
     by (need.Segment work) is = ends (stop_in (record { work = work; copy = moment.point.base }) moment.steps) is
     by (need.Keeper work) is = ends (stop_in (record { work = work; copy = moment.point.state.memory }) moment.steps) is
     by (need.Wake thread) is = absurd (cc)

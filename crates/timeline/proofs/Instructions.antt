@@ -11,15 +11,15 @@ use Rattle.paged_memory.specs.Snapshot as snapshots
 use Rattle.twins.specs.View as views
 use Rattle.segment.proofs.Coding.{view_keeps}
 use Rattle.timeline.specs.Halts.{IsInstr, access_of, is_call}
-use Rattle.timeline.specs.Running.{IsRunning}
-use Rattle.timeline.specs.declared.running.Running.{Running}
+use Rattle.timeline.specs.Underway.{IsUnderway}
+use Rattle.timeline.specs.declared.underway.Underway.{Underway}
 
 -- the code below a segment's memory is that of the memory
-pub code_of : (running : Running) (start : ℕ) (entries : List Instr) → IsRunning running → HasCode start entries (snapshots.cells_of running.under) → HasCode start entries (views.cells_of running.view)
-code_of running start entries is code =
+pub code_of : (underway : Underway) (start : ℕ) (entries : List Instr) → IsUnderway underway → HasCode start entries (snapshots.cells_of underway.under) → HasCode start entries (views.cells_of underway.view)
+code_of underway start entries is code =
     let base = subst (λ (memory : Memory). HasCode start entries memory) is.under code in
-    code_kept _ _ (snapshots.cells_of (views.base_of running.view)) (views.cells_of running.view) base
-    (view_keeps (snapshots.pages_of (views.base_of running.view)) (views.private_of running.view) running.view.twins)
+    code_kept _ _ (snapshots.cells_of (views.base_of underway.view)) (views.cells_of underway.view) base
+    (view_keeps (snapshots.pages_of (views.base_of underway.view)) (views.private_of underway.view) underway.view.twins)
 
 entry_is : (instr : Option Instr) → IsInstr (Some (entry_of instr)) instr
 entry_is None = inr refl

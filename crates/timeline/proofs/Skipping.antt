@@ -11,8 +11,8 @@ use Rattle.marked_memory.proofs.Reaching.{last_of}
 use Rattle.paged_memory.specs.Snapshot as snapshots
 use Rattle.twins.specs.View as views
 use Rattle.timeline.proofs.Quieting.{hart_or, memory_or}
-use Rattle.timeline.specs.Running.{IsRoom, IsRunning, IsSkipped, task_of}
-use Rattle.timeline.specs.declared.running.Running.{Running}
+use Rattle.timeline.specs.Underway.{IsRoom, IsUnderway, IsSkipped, origin_of}
+use Rattle.timeline.specs.declared.underway.Underway.{Underway}
 
 below_all : (quantum : Option ℕ) (count more : ℕ) → count ≤ more → IfSome quantum (λ q. more ≤ q) → IfSome quantum (λ q. count ≤ q)
 below_all None count more less within = within
@@ -50,30 +50,30 @@ no_trap None none = refl
 no_trap (Some trap) none = absurd (cc)
 
 -- where a segment stands that was run up to a mark
-pub skipped : (old new : Running) (until room count : ℕ) → IsRunning old → is_some old.trap ≡ false → old.done ≤ until → IsRoom old until room → count ≤ room
+pub skipped : (old new : Underway) (until room count : ℕ) → IsUnderway old → is_some old.trap ≡ false → old.done ≤ until → IsRoom old until room → count ≤ room
     → after count old.hart (views.cells_of old.view) ≡ Some (new.hart, views.cells_of new.view)
     → snapshots.cells_of (views.base_of new.view) ≡ snapshots.cells_of (views.base_of old.view)
     → new ≡ record old { hart = new.hart; view = new.view; done = old.done + count } → IsSkipped old until new
-skipped old new until room count running untrapped started is_room less reached base is =
+skipped old new until room count underway untrapped started is_room less reached base is =
     let none = no_trap old.trap untrapped in
     let bound = is_room.bound none in
     let below = still_below old.work.segment.quantum old.done room count less (is_room.quantum none) in
     let asked = is_room.asked started in
     rw is
     (record {
-      running =
+      underway =
           record {
             stands =
                 record {
                   runs =
-                      further old.work.segment.hart old.hart new.hart (task_of old).copy (views.cells_of old.view) (views.cells_of new.view) old.work.segment.left old.work.segment.quantum
-                      old.done count running.stands.runs reached (omega arith) (at_most old.work.segment.quantum (old.done + count) below);
+                      further old.work.segment.hart old.hart new.hart (origin_of old).copy (views.cells_of old.view) (views.cells_of new.view) old.work.segment.left old.work.segment.quantum
+                      old.done count underway.stands.runs reached (omega arith) (at_most old.work.segment.quantum (old.done + count) below);
                   within = λ none. omega arith;
                   quantum = λ none. below;
                   is_trap = rw none tt;
                 };
-            under = running.under ∙ sym base;
-            whole = λ whole. base ∙ running.whole whole;
+            under = underway.under ∙ sym base;
+            whole = λ whole. base ∙ underway.whole whole;
           };
       same = refl;
       since = omega arith;

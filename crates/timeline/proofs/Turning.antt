@@ -10,61 +10,61 @@ use Rattle.guest_memory.specs.Memory.{Memory}
 use Rattle.hart.specs.HartState.{HartState}
 use Rattle.hart.specs.declared.stop.Stop.TheVariants.{Quantum}
 use Rattle.hart.specs.declared.trap.Trap.{Trap as TrapOf}
-use Rattle.timeline.specs.Moment.{Task, beginning, moment_at, stop_in, task_at}
+use Rattle.timeline.specs.Moment.{Origin, beginning, moment_at, stop_in, origin_at}
 use Rattle.timeline.specs.Present.{BeginsAt, IsTurnEnd, IsTurns, IsWent, SameTurn, count_of, moment_of, point_at, step_of, steps_of}
-use Rattle.timeline.specs.Running.{IsFurther, IsProgress, Stands, task_of}
+use Rattle.timeline.specs.Underway.{IsFurther, IsProgress, Stands, origin_of}
 use Rattle.timeline.specs.declared.present.Present.{Present}
-use Rattle.timeline.specs.declared.running.Running.{Running}
-use Rattle.timeline.specs.declared.running.Progress.{Progress}
-use Rattle.timeline.specs.declared.running.Progress.TheVariants.{Stays, Halts, Over}
+use Rattle.timeline.specs.declared.underway.Underway.{Underway}
+use Rattle.timeline.specs.declared.underway.Progress.{Progress}
+use Rattle.timeline.specs.declared.underway.Progress.TheVariants.{Stays, Halts, Over}
 use Rattle.timeline.proofs.Positions.{after_turn, after_wake, end_needed, wake_needed, within_turn}
 use Rattle.timeline.proofs.Advancing.{quantum_at}
 
 -- what a segment comes to is what the present turn comes to
-went_by : (old : Present) (running new : Running) (most : ℕ) (progress : Progress) → old.running ≡ Some running → IsTurns (point_at old) (Some running)
-    → IsFurther running most progress new → IsWent old most progress (record old { running = Some new })
-went_by old running new most Stays is turns further =
-    let steps : steps_of old.running ≡ running.done = ap steps_of is in
+went_by : (old : Present) (underway new : Underway) (most : ℕ) (progress : Progress) → old.underway ≡ Some underway → IsTurns (point_at old) (Some underway)
+    → IsFurther underway most progress new → IsWent old most progress (record old { underway = Some new })
+went_by old underway new most Stays is turns further =
+    let steps : steps_of old.underway ≡ underway.done = ap steps_of is in
     let more = further.2 in
     ((further.0, turns.1 ∙ ap Some (sym further.1)), (omega arith), further.3)
-went_by old running new most (Halts halt) is turns further =
-    let steps : steps_of old.running ≡ running.done = ap steps_of is in
+went_by old underway new most (Halts halt) is turns further =
+    let steps : steps_of old.underway ≡ underway.done = ap steps_of is in
     let more = further.2 in
     ((further.0, turns.1 ∙ ap Some (sym further.1)), (omega arith), further.3)
-went_by old running new most (Over None) is turns further = let some = further.1 in cc
-went_by old running new most (Over (Some end)) is turns further =
-    let steps : steps_of old.running ≡ running.done = ap steps_of is in
+went_by old underway new most (Over None) is turns further = let some = further.1 in cc
+went_by old underway new most (Over (Some end)) is turns further =
+    let steps : steps_of old.underway ≡ underway.done = ap steps_of is in
     let last = further.0.0 in
-    let above : running.done < end.count = further.0.1 in
+    let above : underway.done < end.count = further.0.1 in
     record {
-      needed = end_needed (point_at old) (task_of running) end turns.1 last.end_of;
+      needed = end_needed (point_at old) (origin_of underway) end turns.1 last.end_of;
       later = omega arith;
       within = further.0.2;
-      leads = λ start begins. after_turn start (point_at old) (task_of running) old.before end begins turns.1 last (omega arith);
+      leads = λ start begins. after_turn start (point_at old) (origin_of underway) old.before end begins turns.1 last (omega arith);
     }
 
-pub went : {E : Type 0} (old : Present) (running new : Running) (most : ℕ) (result : Result Progress E) → old.running ≡ Some running → IsTurns (point_at old) (Some running)
-    → IfOk result (λ progress. IsFurther running most progress new) → IfOk result (λ progress. IsWent old most progress (record old { running = Some new }))
-went old running new most (Err error) is turns further = further
-went old running new most (Ok progress) is turns further = went_by old running new most progress is turns further
+pub went : {E : Type 0} (old : Present) (underway new : Underway) (most : ℕ) (result : Result Progress E) → old.underway ≡ Some underway → IsTurns (point_at old) (Some underway)
+    → IfOk result (λ progress. IsFurther underway most progress new) → IfOk result (λ progress. IsWent old most progress (record old { underway = Some new }))
+went old underway new most (Err error) is turns further = further
+went old underway new most (Ok progress) is turns further = went_by old underway new most progress is turns further
 
-further_by : (old new : Running) (most : ℕ) (progress : Progress) → old.done < most → IsProgress old most progress new → IsFurther old most progress new
+further_by : (old new : Underway) (most : ℕ) (progress : Progress) → old.done < most → IsProgress old most progress new → IsFurther old most progress new
 further_by old new most Stays below is = is
 further_by old new most (Halts halt) below is =
     let same : new.done ≡ old.done = is.3 in
     (is.1, is.2, (omega arith), (omega arith))
 further_by old new most (Over end) below is = is
 
-pub further : {E : Type 0} (old new : Running) (most : ℕ) (result : Result Progress E) → old.done < most → IfOk result (λ progress. IsProgress old most progress new)
+pub further : {E : Type 0} (old new : Underway) (most : ℕ) (result : Result Progress E) → old.done < most → IfOk result (λ progress. IsProgress old most progress new)
     → IfOk result (λ progress. IsFurther old most progress new)
 further old new most (Err error) below is = is
 further old new most (Ok progress) below is = further_by old new most progress below is
 
 -- a wake is the end of its turn
-pub wakes : (present : Present) (most : ℕ) → present.running ≡ None → task_at (point_at present) ≡ None → steps_of present.running < most
+pub wakes : (present : Present) (most : ℕ) → present.underway ≡ None → origin_at (point_at present) ≡ None → steps_of present.underway < most
     → ((outcome : RunOutcome) → need_at (point_at present) ≡ need.Ended outcome → ⊥) → IsTurnEnd present most None
 wakes present most is none below goes_on =
-    let steps : steps_of present.running ≡ 0 = ap steps_of is in
+    let steps : steps_of present.underway ≡ 0 = ap steps_of is in
     let needed = wake_needed (point_at present) none goes_on in
     record {
       needed = needed;
@@ -94,20 +94,20 @@ same_begins start old new same begins =
     ap (moment_at start) same.before ∙ begins ∙ ap (λ (p : Point). Some (beginning p)) (sym (same_point new old same.serial))
 
 -- a segment that may go on, or is at a trap, isn't at its quantum
-not_at_quantum : (task : Task) (done : ℕ) (trap : Option TrapOf) (hart : HartState) (cells : Memory) → Stands task done trap hart cells → stop_in task done ≡ Some Quantum → ⊥
-not_at_quantum task done (Some trap) hart cells stands is = let other = stands.is_trap in cc
-not_at_quantum task done None hart cells stands is =
-    let used = quantum_at task.work.segment.hart hart task.copy cells task.work.segment.left task.work.segment.quantum done stands.runs.reached is in
+not_at_quantum : (origin : Origin) (done : ℕ) (trap : Option TrapOf) (hart : HartState) (cells : Memory) → Stands origin done trap hart cells → stop_in origin done ≡ Some Quantum → ⊥
+not_at_quantum origin done (Some trap) hart cells stands is = let other = stands.is_trap in cc
+not_at_quantum origin done None hart cells stands is =
+    let used = quantum_at origin.work.segment.hart hart origin.copy cells origin.work.segment.left origin.work.segment.quantum done stands.runs.reached is in
     let below : done < done = rw used at (stands.quantum refl) in
     omega arith
 
-by_running : (start point : Point) (before : ℕ) (running : Option Running) → IsTurns point running → moment_at start before ≡ Some (beginning point)
-    → moment_at start (before + steps_of running) ≡ Some (record { point = point; steps = steps_of running })
-by_running start point before None turns begins = let same : before + 0 ≡ before = omega arith in ap (moment_at start) same ∙ begins
-by_running start point before (Some running) turns begins =
+by_underway : (start point : Point) (before : ℕ) (underway : Option Underway) → IsTurns point underway → moment_at start before ≡ Some (beginning point)
+    → moment_at start (before + steps_of underway) ≡ Some (record { point = point; steps = steps_of underway })
+by_underway start point before None turns begins = let same : before + 0 ≡ before = omega arith in ap (moment_at start) same ∙ begins
+by_underway start point before (Some underway) turns begins =
     let stands = turns.0.stands in
-    within_turn start point (task_of running) before running.done begins turns.1 stands.runs.running (not_at_quantum (task_of running) running.done running.trap _ _ stands)
+    within_turn start point (origin_of underway) before underway.done begins turns.1 stands.runs.running (not_at_quantum (origin_of underway) underway.done underway.trap _ _ stands)
 
 -- the position is that of its step
-pub stands_at : (start : Point) (present : Present) → IsTurns (point_at present) present.running → BeginsAt start present → moment_at start (step_of present) ≡ Some (moment_of present)
-stands_at start present turns begins = by_running start (point_at present) present.before present.running turns begins
+pub stands_at : (start : Point) (present : Present) → IsTurns (point_at present) present.underway → BeginsAt start present → moment_at start (step_of present) ≡ Some (moment_of present)
+stands_at start present turns begins = by_underway start (point_at present) present.before present.underway turns begins

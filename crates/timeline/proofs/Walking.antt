@@ -20,11 +20,11 @@ no_halt wanted point steps plain threads = rw (plain.address, threads, plain.cal
 none_here : (wanted : Wanted) (point : Point) (steps : ℕ) → IsPlain wanted point steps → threads_at wanted point ≡ None → IsNoHalt wanted point steps
 none_here wanted point steps plain threads = record { within = plain.within; none = no_halt wanted point steps plain threads }
 
-same_moment : (one other : Present) → point_at one ≡ point_at other → steps_of one.running ≡ steps_of other.running → moment_of one ≡ moment_of other
+same_moment : (one other : Present) → point_at one ≡ point_at other → steps_of one.underway ≡ steps_of other.underway → moment_of one ≡ moment_of other
 same_moment one other point steps = λ i. record { point = point i; steps = steps i }
 
 -- It halts where it stands.
-pub halts_here : (wanted : Wanted) (old begun : Present) (halt : Halt) → point_at begun ≡ point_at old → steps_of begun.running ≡ steps_of old.running → step_of begun ≡ step_of old
+pub halts_here : (wanted : Wanted) (old begun : Present) (halt : Halt) → point_at begun ≡ point_at old → steps_of begun.underway ≡ steps_of old.underway → step_of begun ≡ step_of old
     → first_of (address_at wanted (own_at (moment_of begun))) (threads_at wanted (point_at begun)) ≡ Some halt → IsWalked wanted old (Some halt) begun
 unfolding halts_at
 halts_here wanted old begun halt point steps step told = (
@@ -41,7 +41,7 @@ calls_here wanted old begun halt step none call =
     ((λ k low high. absurd (omega (arith, step, low, high))), rw (both.0, both.1, call) refl)
 
 -- It goes on from where it doesn't halt.
-pub walks : (wanted : Wanted) (old begun new : Present) (halt : Option Halt) → point_at begun ≡ point_at old → steps_of begun.running ≡ steps_of old.running → step_of begun ≡ step_of old
+pub walks : (wanted : Wanted) (old begun new : Present) (halt : Option Halt) → point_at begun ≡ point_at old → steps_of begun.underway ≡ steps_of old.underway → step_of begun ≡ step_of old
     → first_of (address_at wanted (own_at (moment_of begun))) (threads_at wanted (point_at begun)) ≡ None → IsPlainWalk wanted begun halt new → IsWalked wanted old halt new
 unfolding halts_at
 walks wanted old begun new None point steps step none walk =
@@ -54,25 +54,25 @@ walks wanted old begun new (Some halt) point steps step none walk =
       rw threads_new walk.2,
     )
 
-pub all_walk : {E : Type 0} (wanted : Wanted) (old begun new : Present) (result : Result (Option Halt) E) → point_at begun ≡ point_at old → steps_of begun.running ≡ steps_of old.running
+pub all_walk : {E : Type 0} (wanted : Wanted) (old begun new : Present) (result : Result (Option Halt) E) → point_at begun ≡ point_at old → steps_of begun.underway ≡ steps_of old.underway
     → step_of begun ≡ step_of old → first_of (address_at wanted (own_at (moment_of begun))) (threads_at wanted (point_at begun)) ≡ None
     → IfOk result (λ halt. IsPlainWalk wanted begun halt new) → IfOk result (λ halt. IsWalked wanted old halt new)
 all_walk wanted old begun new (Err error) point steps step none walk = walk
 all_walk wanted old begun new (Ok halt) point steps step none walk = walks wanted old begun new halt point steps step none walk
 
 -- the positions that were passed, by the steps that were made
-pub stays : (wanted : Wanted) (old new : Present) → new.before ≡ old.before → ArePlain wanted (point_at old) (steps_of old.running) (steps_of new.running)
-    → ArePlain wanted (point_at old) (steps_of old.running) (steps_of old.running + (step_of new - step_of old))
+pub stays : (wanted : Wanted) (old new : Present) → new.before ≡ old.before → ArePlain wanted (point_at old) (steps_of old.underway) (steps_of new.underway)
+    → ArePlain wanted (point_at old) (steps_of old.underway) (steps_of old.underway + (step_of new - step_of old))
 stays wanted old new before plain = λ k low high. plain k low (omega (arith, low, high, before))
 
-pub turns : (wanted : Wanted) (old new : Present) (count : ℕ) → new.running ≡ None → new.before ≡ old.before + count → ArePlain wanted (point_at old) (steps_of old.running) count
-    → ArePlain wanted (point_at old) (steps_of old.running) (steps_of old.running + (step_of new - step_of old))
+pub turns : (wanted : Wanted) (old new : Present) (count : ℕ) → new.underway ≡ None → new.before ≡ old.before + count → ArePlain wanted (point_at old) (steps_of old.underway) count
+    → ArePlain wanted (point_at old) (steps_of old.underway) (steps_of old.underway + (step_of new - step_of old))
 turns wanted old new count none before plain =
-    let steps : steps_of new.running ≡ 0 = ap steps_of none in
+    let steps : steps_of new.underway ≡ 0 = ap steps_of none in
     λ k low high. plain k low (omega (arith, low, high, before, steps))
 
 -- the positions of a turn that were passed follow those that were passed before
-pub passed_more : (wanted : Wanted) (start : Point) (old new : Present) (from : ℕ) → BeginsAt start old → NoneHalts wanted (point_at old) (steps_of old.running) (steps_of old.running + (step_of new - step_of old))
+pub passed_more : (wanted : Wanted) (start : Point) (old new : Present) (from : ℕ) → BeginsAt start old → NoneHalts wanted (point_at old) (steps_of old.underway) (steps_of old.underway + (step_of new - step_of old))
     → NoneBetween wanted start from (step_of old) → NoneBetween wanted start from (step_of new)
 passed_more wanted start old new from begins none before = λ n low high.
     elim (cases_order n (step_of old)) [

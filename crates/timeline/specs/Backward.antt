@@ -12,7 +12,7 @@ use Rattle.timeline.specs.Shown.{own_at}
 use Rattle.timeline.specs.declared.halt.Halt.{Halt}
 use Rattle.timeline.specs.declared.halt.Halt.TheVariants.{GoesOn, OtherThread, Start}
 use Rattle.timeline.specs.declared.present.Present.{Present}
-use Rattle.timeline.specs.declared.running.Running.{Running}
+use Rattle.timeline.specs.declared.underway.Underway.{Underway}
 use Rattle.timeline.specs.declared.scout.Found.{Found}
 
 -- the watch event of a step
@@ -72,9 +72,9 @@ GoesBack wanted start here halt there =
     ⊎ (AreSilent wanted start there here × (there ≤ here - 1) × (halt ≡ nothing_at there))
 
 -- whether something may be told of the next instruction for what it is
-abbrev pub looks : Wanted → Option Running → Bool
+abbrev pub looks : Wanted → Option Underway → Bool
 looks wanted None = false
-looks wanted (Some running) = asks wanted running.work.thread
+looks wanted (Some underway) = asks wanted underway.work.thread
 
 -- what is told of a step for what its instruction is
 abbrev pub IsToldOf : Wanted → Moment → ℕ → Option Found → Type 0

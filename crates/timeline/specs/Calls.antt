@@ -13,14 +13,14 @@ use Rattle.thread_table.specs.declared.thread.Thread.{Thread}
 use Rattle.paged_memory.specs.Snapshot as snapshots
 use Rattle.twins.specs.View as views
 use Rattle.timeline.specs.Halts.{calls_next, first_place, is_seen}
-use Rattle.timeline.specs.Moment.{Moment, Task, next_moment, task_at}
+use Rattle.timeline.specs.Moment.{Moment, Origin, next_moment, origin_at}
 use Rattle.timeline.specs.Shown.{Executing, own_at, row_at}
 use Rattle.timeline.specs.Present.{point_at}
 use Rattle.timeline.specs.declared.access.Access.{Access}
 use Rattle.timeline.specs.declared.halt.Halt.{Halt}
 use Rattle.timeline.specs.declared.halt.Halt.TheVariants.{Watched}
 use Rattle.timeline.specs.declared.present.Present.{Present}
-use Rattle.timeline.specs.declared.running.Running.{Running}
+use Rattle.timeline.specs.declared.underway.Underway.{Underway}
 
 -- whether a test holds of a number below this one
 unfoldable pub any_below : (ℕ → Bool) → ℕ → Bool
@@ -94,22 +94,22 @@ is_event read joint watch = is_read_by read watch || joins joint watch
 abbrev pub call_event : List Watch → Option Access → Joint → Option Halt
 call_event watches read joint = option_map Watched (first_place (is_event read joint) watches)
 
-abbrev pub joint_of : Moment → Task → Executing → Joint
-joint_of moment task own = record { own = own.memory; base = task.copy; shared = moment.point.state.memory }
+abbrev pub joint_of : Moment → Origin → Executing → Joint
+joint_of moment origin own = record { own = own.memory; base = origin.copy; shared = moment.point.state.memory }
 
 abbrev pub read_at : List Watch → Moment → Executing → Option Access
 read_at watches moment own = read_by watches (call_of own.hart) (count_read moment own.thread)
 
-abbrev pub call_by : List Watch → Moment → Option Task → Option Executing → Option Halt
+abbrev pub call_by : List Watch → Moment → Option Origin → Option Executing → Option Halt
 call_by watches moment None own = None
-call_by watches moment (Some task) None = None
-call_by watches moment (Some task) (Some own) =
-    if calls_next task.work.segment.left moment.steps own.hart own.memory then call_event watches (read_at watches moment own) (joint_of moment task own) else None
+call_by watches moment (Some origin) None = None
+call_by watches moment (Some origin) (Some own) =
+    if calls_next origin.work.segment.left moment.steps own.hart own.memory then call_event watches (read_at watches moment own) (joint_of moment origin own) else None
 
 -- the watch event of the call that comes next, none if no call does
 unfoldable pub call_at : List Watch → Moment → Option Halt
-call_at watches moment = call_by watches moment (task_at moment.point) (own_at moment)
+call_at watches moment = call_by watches moment (origin_at moment.point) (own_at moment)
 
 -- the memories of a thread that a run has executed so far
-abbrev pub joint_in : Present → Running → Joint
-joint_in present running = record { own = views.cells_of running.view; base = snapshots.cells_of running.base; shared = (point_at present).state.memory }
+abbrev pub joint_in : Present → Underway → Joint
+joint_in present underway = record { own = views.cells_of underway.view; base = snapshots.cells_of underway.base; shared = (point_at present).state.memory }

@@ -3,16 +3,16 @@ use Rattle.std.specs.Prelude.{◌≡◌, ℕ, ◌+◌, ◌<◌, ◌≤◌, ◌^�
 use Rattle.paged_memory.specs.Snapshot.{cells_of}
 use Rattle.token.specs.Point.{Point}
 use Rattle.token.specs.RunInTurn.{point_of}
-use Rattle.timeline.specs.Moment.{Task, beginning, moment_at, task_at}
-use Rattle.timeline.specs.Running.{Stands}
+use Rattle.timeline.specs.Moment.{Origin, beginning, moment_at, origin_at}
+use Rattle.timeline.specs.Underway.{Stands}
 use Rattle.timeline.specs.declared.checkpoint.Begun.{Begun}
 use Rattle.timeline.specs.declared.checkpoint.Checkpoint.{Checkpoint}
 
 -- A turn's segment was executed so far, to this hart and memory.
 pub record HasBegun (point : Point) (begun : Begun) : Type 0 where
-  pub task : Task
-  pub needed : task_at point ≡ Some task
-  pub stands : Stands task begun.done begun.trap begun.hart (cells_of begun.memory)
+  pub origin : Origin
+  pub needed : origin_at point ≡ Some origin
+  pub stands : Stands origin begun.done begun.trap begun.hart (cells_of begun.memory)
 
 abbrev pub MayHaveBegun : Point → Option Begun → Type 0
 MayHaveBegun point None = Unit {0}

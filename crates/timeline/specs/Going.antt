@@ -22,7 +22,7 @@ IsAtEnd present = end_at (moment_of present) ≡ Some End
 
 -- Where memory was refused it stands further on, with no halt on the way, or at the start of its turn.
 abbrev pub IsRefused : Wanted → Point → Present → Present → Type 0
-IsRefused wanted start old new = NoneBetween wanted start (step_of old) (step_of new) × ((step_of old ≤ step_of new) ⊎ (steps_of new.running ≡ 0))
+IsRefused wanted start old new = NoneBetween wanted start (step_of old) (step_of new) × ((step_of old ≤ step_of new) ⊎ (steps_of new.underway ≡ 0))
 
 -- A step was made, or there is none.
 abbrev pub IsStepped : Present → Bool → Present → Type 0

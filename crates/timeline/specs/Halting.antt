@@ -8,14 +8,14 @@ use Rattle.token.specs.declared.need.Need.{Need}
 use Rattle.token.specs.declared.need.Need.TheVariants as need
 use Rattle.timeline.specs.Calls.{call_at}
 use Rattle.timeline.specs.Halts.{Wanted, access_event, address_halt, first_of, forbids, has_more, next_access}
-use Rattle.timeline.specs.Moment.{Moment, beginning, moment_at, stop_in, task_at}
+use Rattle.timeline.specs.Moment.{Moment, beginning, moment_at, stop_in, origin_at}
 use Rattle.timeline.specs.Present.{count_of, moment_of, point_at, step_of, steps_of}
 use Rattle.timeline.specs.Shown.{Executing, own_at}
 use Rattle.timeline.specs.declared.halt.Halt.{Halt}
 use Rattle.timeline.specs.declared.halt.Halt.TheVariants.{End, GoesOn, NewThread, OtherThread}
 use Rattle.timeline.specs.declared.present.Present.{Present}
-use Rattle.timeline.specs.declared.running.Progress.{Progress}
-use Rattle.timeline.specs.declared.running.Progress.TheVariants.{Stays, Halts, Over}
+use Rattle.timeline.specs.declared.underway.Progress.{Progress}
+use Rattle.timeline.specs.declared.underway.Progress.TheVariants.{Stays, Halts, Over}
 
 -- for the address of the next instruction
 abbrev pub address_at : Wanted → Option Executing → Option Halt
@@ -53,7 +53,7 @@ end_by_need (need.Wake thread) = None
 end_by_need (need.Ended outcome) = Some End
 
 unfoldable pub end_at : Moment → Option Halt
-end_at moment = first_of (end_by_stop (option_and_then (λ task. stop_in task moment.steps) (task_at moment.point))) (end_by_need (need_at moment.point))
+end_at moment = first_of (end_by_stop (option_and_then (λ origin. stop_in origin moment.steps) (origin_at moment.point))) (end_by_need (need_at moment.point))
 
 -- what is looked at after the address and the threads: what the call or the instruction stores or loads, the end
 abbrev pub step_halt : Wanted → Moment → Option Halt
@@ -81,11 +81,11 @@ ArePlain wanted point from to = (k : ℕ) → from ≤ k → k < to → IsPlain 
 
 -- what comes of a turn that is gone on with
 abbrev pub IsPassed : Wanted → Present → Progress → Present → Type 0
-IsPassed wanted old Stays new = ArePlain wanted (point_at old) (steps_of old.running) (steps_of new.running)
+IsPassed wanted old Stays new = ArePlain wanted (point_at old) (steps_of old.underway) (steps_of new.underway)
 IsPassed wanted old (Halts halt) new =
-    ArePlain wanted (point_at old) (steps_of old.running) (steps_of new.running)
+    ArePlain wanted (point_at old) (steps_of old.underway) (steps_of new.underway)
     × (first_of (address_at wanted (own_at (moment_of new))) (step_halt wanted (moment_of new)) ≡ Some halt)
-IsPassed wanted old (Over end) new = ArePlain wanted (point_at old) (steps_of old.running) (count_of end)
+IsPassed wanted old (Over end) new = ArePlain wanted (point_at old) (steps_of old.underway) (count_of end)
 
 -- It doesn't halt at this position of a turn.
 pub record IsNoHalt (wanted : Wanted) (point : Point) (steps : ℕ) : Type 0 where
@@ -97,16 +97,16 @@ NoneHalts wanted point from to = (k : ℕ) → from ≤ k → k < to → IsNoHal
 
 -- It goes on over positions at which it doesn't halt, to one at which it does, or as far as it was to go.
 abbrev pub IsWalked : Wanted → Present → Option Halt → Present → Type 0
-IsWalked wanted old None new = NoneHalts wanted (point_at old) (steps_of old.running) (steps_of old.running + (step_of new - step_of old))
+IsWalked wanted old None new = NoneHalts wanted (point_at old) (steps_of old.underway) (steps_of old.underway + (step_of new - step_of old))
 IsWalked wanted old (Some halt) new =
-    NoneHalts wanted (point_at old) (steps_of old.running) (steps_of old.running + (step_of new - step_of old))
+    NoneHalts wanted (point_at old) (steps_of old.underway) (steps_of old.underway + (step_of new - step_of old))
     × (halts_at wanted (moment_of new) ≡ Some halt)
 
 -- The same of a motion that looks at no threads.
 abbrev pub IsPlainWalk : Wanted → Present → Option Halt → Present → Type 0
-IsPlainWalk wanted old None new = ArePlain wanted (point_at old) (steps_of old.running) (steps_of old.running + (step_of new - step_of old))
+IsPlainWalk wanted old None new = ArePlain wanted (point_at old) (steps_of old.underway) (steps_of old.underway + (step_of new - step_of old))
 IsPlainWalk wanted old (Some halt) new =
-    ArePlain wanted (point_at old) (steps_of old.running) (steps_of old.running + (step_of new - step_of old)) × (point_at new ≡ point_at old)
+    ArePlain wanted (point_at old) (steps_of old.underway) (steps_of old.underway + (step_of new - step_of old)) × (point_at new ≡ point_at old)
     × (first_of (address_at wanted (own_at (moment_of new))) (step_halt wanted (moment_of new)) ≡ Some halt)
 
 -- A motion halts at none of the positions from one step of a run to another.

@@ -9,5 +9,5 @@ pub mod Line
 pub mod Moment
 pub mod Present
 pub mod Quiet
-pub mod Running
+pub mod Underway
 pub mod Shown

@@ -3,23 +3,23 @@ use Rattle.std.specs.Prelude.{◌≡◌, ◌⊎◌, ℕ, ◌+◌, ◌<◌, ◌�
 use Rattle.token.specs.Point.{Point, IsNeededAt}
 use Rattle.token.specs.RunInTurn.{point_of}
 use Rattle.token.specs.declared.turn_fault.TurnFault.{TurnFault}
-use Rattle.timeline.specs.Moment.{Moment, beginning, moment_at, task_at, turned}
-use Rattle.timeline.specs.Running.{IsRunning, task_of}
+use Rattle.timeline.specs.Moment.{Moment, beginning, moment_at, origin_at, turned}
+use Rattle.timeline.specs.Underway.{IsUnderway, origin_of}
 use Rattle.timeline.specs.declared.present.Present.{Present}
-use Rattle.timeline.specs.declared.running.Running.{Running}
-use Rattle.timeline.specs.declared.running.Progress.{Progress}
-use Rattle.timeline.specs.declared.running.Progress.TheVariants.{Stays, Halts, Over}
+use Rattle.timeline.specs.declared.underway.Underway.{Underway}
+use Rattle.timeline.specs.declared.underway.Progress.{Progress}
+use Rattle.timeline.specs.declared.underway.Progress.TheVariants.{Stays, Halts, Over}
 use Rattle.timeline.specs.declared.halt.Halt.{Halt}
 use Rattle.segment.specs.declared.segment_end.SegmentEnd.{SegmentEnd}
 
 -- how many instructions of the present turn were executed
-abbrev pub steps_of : Option Running → ℕ
+abbrev pub steps_of : Option Underway → ℕ
 steps_of None = 0
-steps_of (Some running) = running.done
+steps_of (Some underway) = underway.done
 
 -- how many steps were made
 abbrev pub step_of : Present → ℕ
-step_of present = present.before + steps_of present.running
+step_of present = present.before + steps_of present.underway
 
 -- what stands before the present turn
 abbrev pub point_at : Present → Point
@@ -27,16 +27,16 @@ point_at present = point_of present.serial.value
 
 -- the position
 abbrev pub moment_of : Present → Moment
-moment_of present = record { point = point_at present; steps = steps_of present.running }
+moment_of present = record { point = point_at present; steps = steps_of present.underway }
 
 -- the segment is the one that the present turn needs
-abbrev pub IsTurns : Point → Option Running → Type 0
+abbrev pub IsTurns : Point → Option Underway → Type 0
 IsTurns point None = Unit {0}
-IsTurns point (Some running) = IsRunning running × (task_at point ≡ Some (task_of running))
+IsTurns point (Some underway) = IsUnderway underway × (origin_at point ≡ Some (origin_of underway))
 
 -- What holds of it wherever it stands.
 pub record IsSound (present : Present) : Type 0 where
-  pub turns : IsTurns (point_at present) present.running
+  pub turns : IsTurns (point_at present) present.underway
   pub few : step_of present ≤ 2 ^ 63
   pub quantum : IfSome (point_at present).setup.quantum (λ q. 0 < q)
 
@@ -45,14 +45,14 @@ abbrev pub BeginsAt : Point → Present → Type 0
 BeginsAt start present = moment_at start present.before ≡ Some (beginning (point_at present))
 
 -- Where the segment hasn't begun, the present turn has none.
-abbrev pub IsBegun : Point → Option Running → Type 0
-IsBegun point None = task_at point ≡ None
-IsBegun point (Some running) = Unit {0}
+abbrev pub IsBegun : Point → Option Underway → Type 0
+IsBegun point None = origin_at point ≡ None
+IsBegun point (Some underway) = Unit {0}
 
 -- It is sound, and a segment that its turn has is begun.
 pub record IsReady (present : Present) : Type 0 where
   pub sound : IsSound present
-  pub begun : IsBegun (point_at present) present.running
+  pub begun : IsBegun (point_at present) present.underway
 
 -- It is ready for a step, which can be counted.
 pub record CanStep (present : Present) : Type 0 where
@@ -83,20 +83,20 @@ count_of (Some end) = end.count
 -- The turn's end is what the turn needs, and comes no later than after so many of its steps.
 pub record IsTurnEnd (present : Present) (most : ℕ) (end : Option SegmentEnd) : Type 0 where
   pub needed : IsNeededAt (point_at present) end
-  pub later : steps_of present.running < count_of end
+  pub later : steps_of present.underway < count_of end
   pub within : count_of end ≤ most
   pub leads : (start : Point) → BeginsAt start present → moment_at start (present.before + count_of end) ≡ Some (turned (point_at present) end)
 
 -- It is further in the present turn, it halts there, or the turn ends.
 abbrev pub IsWent : Present → ℕ → Progress → Present → Type 0
-IsWent old most Stays new = IsTurns (point_at new) new.running × (steps_of old.running < steps_of new.running) × (steps_of new.running ≤ most)
-IsWent old most (Halts halt) new = IsTurns (point_at new) new.running × (steps_of old.running ≤ steps_of new.running) × (steps_of new.running < most)
+IsWent old most Stays new = IsTurns (point_at new) new.underway × (steps_of old.underway < steps_of new.underway) × (steps_of new.underway ≤ most)
+IsWent old most (Halts halt) new = IsTurns (point_at new) new.underway × (steps_of old.underway ≤ steps_of new.underway) × (steps_of new.underway < most)
 IsWent old most (Over end) new = IsTurnEnd old most end
 
 -- It stands where it stood, or at its turn's start.
 pub record IsKeptBack (old new : Present) : Type 0 where
   pub before : new.before ≡ old.before
-  pub steps : (steps_of new.running ≡ steps_of old.running) ⊎ (steps_of new.running ≡ 0)
+  pub steps : (steps_of new.underway ≡ steps_of old.underway) ⊎ (steps_of new.underway ≡ 0)
 
 -- It is further, or halts.
 abbrev pub IsStep : Present → ℕ → Option Halt → Present → Type 0

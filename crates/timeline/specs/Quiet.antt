@@ -4,39 +4,39 @@ use Rattle.guest_memory.specs.Memory.{Memory}
 use Rattle.hart.specs.HartState.{HartState}
 use Rattle.hart.specs.declared.trap.Trap.{Trap}
 use Rattle.timeline.specs.Halts.{Wanted, calls_next, instruction_halt}
-use Rattle.timeline.specs.Moment.{Task, state_in}
-use Rattle.timeline.specs.Running.{IsSkipped, halt_in, task_of}
+use Rattle.timeline.specs.Moment.{Origin, state_in}
+use Rattle.timeline.specs.Underway.{IsSkipped, halt_in, origin_of}
 use Rattle.timeline.specs.declared.halt.Halt.{Halt}
 use Rattle.timeline.specs.declared.halt.Halt.TheVariants.{End}
-use Rattle.timeline.specs.declared.running.Progress.{Progress}
-use Rattle.timeline.specs.declared.running.Progress.TheVariants.{Stays, Halts, Over}
-use Rattle.timeline.specs.declared.running.Running.{Running}
+use Rattle.timeline.specs.declared.underway.Progress.{Progress}
+use Rattle.timeline.specs.declared.underway.Progress.TheVariants.{Stays, Halts, Over}
+use Rattle.timeline.specs.declared.underway.Underway.{Underway}
 
 -- It halts at none of these for the instruction, and none is a call.
-pub record IsStill (wanted : Wanted) (task : Task) (from to : ℕ) : Type 0 where
-  pub instructions : (k : ℕ) (hart : HartState) (memory : Memory) → from ≤ k → k < to → state_in task k ≡ Some (hart, memory)
-      → instruction_halt wanted task.work.thread hart memory ≡ None
-  pub calls : (k : ℕ) (hart : HartState) (memory : Memory) → from ≤ k → k < to → state_in task k ≡ Some (hart, memory) → calls_next task.work.segment.left k hart memory ≡ false
+pub record IsStill (wanted : Wanted) (origin : Origin) (from to : ℕ) : Type 0 where
+  pub instructions : (k : ℕ) (hart : HartState) (memory : Memory) → from ≤ k → k < to → state_in origin k ≡ Some (hart, memory)
+      → instruction_halt wanted origin.work.thread hart memory ≡ None
+  pub calls : (k : ℕ) (hart : HartState) (memory : Memory) → from ≤ k → k < to → state_in origin k ≡ Some (hart, memory) → calls_next origin.work.segment.left k hart memory ≡ false
 
 -- It has come further, and halts at none of the instructions on the way.
-pub record IsSkippedStill (wanted : Wanted) (old : Running) (until : ℕ) (new : Running) : Type 0 where
+pub record IsSkippedStill (wanted : Wanted) (old : Underway) (until : ℕ) (new : Underway) : Type 0 where
   pub skipped : IsSkipped old until new
-  pub still : IsStill wanted (task_of old) old.done new.done
+  pub still : IsStill wanted (origin_of old) old.done new.done
 
 -- It halts at none of these for the instruction, and after the first one no call comes next if something is watched.
-pub record IsQuiet (wanted : Wanted) (task : Task) (from to : ℕ) : Type 0 where
-  pub instructions : (k : ℕ) (hart : HartState) (memory : Memory) → from ≤ k → k < to → state_in task k ≡ Some (hart, memory)
-      → instruction_halt wanted task.work.thread hart memory ≡ None
-  pub calls : (k : ℕ) (hart : HartState) (memory : Memory) → from < k → k < to → state_in task k ≡ Some (hart, memory) → wanted.watches ≢ []
-      → calls_next task.work.segment.left k hart memory ≡ false
+pub record IsQuiet (wanted : Wanted) (origin : Origin) (from to : ℕ) : Type 0 where
+  pub instructions : (k : ℕ) (hart : HartState) (memory : Memory) → from ≤ k → k < to → state_in origin k ≡ Some (hart, memory)
+      → instruction_halt wanted origin.work.thread hart memory ≡ None
+  pub calls : (k : ℕ) (hart : HartState) (memory : Memory) → from < k → k < to → state_in origin k ≡ Some (hart, memory) → wanted.watches ≢ []
+      → calls_next origin.work.segment.left k hart memory ≡ false
 
 -- It halts for the instruction, or at the end for a trap.
-abbrev pub HaltsSo : Wanted → Halt → Running → Type 0
-HaltsSo wanted halt running =
-    (halt_in wanted running ≡ Some halt) ⊎ ((halt_in wanted running ≡ None) × (halt ≡ End) × ((trap : Trap) × (running.trap ≡ Some trap)))
+abbrev pub HaltsSo : Wanted → Halt → Underway → Type 0
+HaltsSo wanted halt underway =
+    (halt_in wanted underway ≡ Some halt) ⊎ ((halt_in wanted underway ≡ None) × (halt ≡ End) × ((trap : Trap) × (underway.trap ≡ Some trap)))
 
 -- It doesn't halt on the way.
-abbrev pub IsLooked : Wanted → Running → Progress → Running → Type 0
-IsLooked wanted old Stays new = IsQuiet wanted (task_of old) old.done new.done
-IsLooked wanted old (Halts halt) new = IsQuiet wanted (task_of old) old.done new.done × HaltsSo wanted halt new
-IsLooked wanted old (Over end) new = IfSome end (λ end. IsQuiet wanted (task_of old) old.done end.count)
+abbrev pub IsLooked : Wanted → Underway → Progress → Underway → Type 0
+IsLooked wanted old Stays new = IsQuiet wanted (origin_of old) old.done new.done
+IsLooked wanted old (Halts halt) new = IsQuiet wanted (origin_of old) old.done new.done × HaltsSo wanted halt new
+IsLooked wanted old (Over end) new = IfSome end (λ end. IsQuiet wanted (origin_of old) old.done end.count)

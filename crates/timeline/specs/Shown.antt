@@ -10,7 +10,7 @@ use Rattle.thread_table.specs.declared.thread.Thread.{Thread}
 use Rattle.token.specs.Point.{Point, need_at}
 use Rattle.token.specs.declared.need.Need.{Need}
 use Rattle.token.specs.declared.need.Need.TheVariants as need
-use Rattle.timeline.specs.Moment.{Moment, Task, state_in, task_at}
+use Rattle.timeline.specs.Moment.{Moment, Origin, state_in, origin_at}
 use Rattle.timeline.specs.declared.shown.Sees.{Sees}
 use Rattle.timeline.specs.declared.shown.Sees.TheVariants.{Own, PhaseStart, Shared}
 
@@ -24,12 +24,12 @@ pub record Executing : Type 0 where
   pub hart : HartState
   pub memory : Memory
 
-abbrev pub own_by : Option Task → ℕ → Option Executing
-own_by task steps =
-    option_and_then (λ task. option_map (λ state. record { thread = task.work.thread; hart = state.0; memory = state.1 }) (state_in task steps)) task
+abbrev pub own_by : Option Origin → ℕ → Option Executing
+own_by origin steps =
+    option_and_then (λ origin. option_map (λ state. record { thread = origin.work.thread; hart = state.0; memory = state.1 }) (state_in origin steps)) origin
 
 unfoldable pub own_at : Moment → Option Executing
-own_at moment = own_by (task_at moment.point) moment.steps
+own_at moment = own_by (origin_at moment.point) moment.steps
 
 abbrev pub is_own : Option Executing → ℕ → Bool
 is_own None thread = false

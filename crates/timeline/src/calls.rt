@@ -11,8 +11,8 @@ use crate::access::Access;
 use crate::checkpoint::Checkpoint;
 use crate::halt::Halt;
 use crate::present::Present;
-use crate::running::Running;
 use crate::stops::Stops;
+use crate::underway::Underway;
 use abi::Call;
 use ecalls::call_of;
 use marked_memory::Watch;
@@ -29,10 +29,10 @@ impl Present {
         requires { CanStep self.now }
         ensures { IfOk result (λ halt. halt ≡ calls.call_at stops.now.watches.now (moment_of self.now)) }
     {
-        match &self.running {
-            Some(running) if !stops.watches.is_empty() && running.is_at_call() => {
-                let read = self.read_access(running, stops.watches)?;
-                Ok(self.call_event(running, &read, stops.watches))
+        match &self.underway {
+            Some(underway) if !stops.watches.is_empty() && underway.is_at_call() => {
+                let read = self.read_access(underway, stops.watches)?;
+                Ok(self.call_event(underway, &read, stops.watches))
             }
             _ => Ok(None),
         }
@@ -41,14 +41,14 @@ impl Present {
     /// The first watch of which the call that comes next is an event.
     fn call_event(
         &self,
-        running: &Running,
+        underway: &Underway,
         read: &Option<Access>,
         watches: &[Watch],
     ) -> Option<Halt>
-        ensures { result ≡ calls.call_event watches.now read.now (joint_in self.now running.now) }
+        ensures { result ≡ calls.call_event watches.now read.now (joint_in self.now underway.now) }
     {
         for place in 0..watches.len() {
-            if self.is_event(running, read, &watches[place]) {
+            if self.is_event(underway, read, &watches[place]) {
                 return Some(Halt::Watched(place));
             }
         }
@@ -56,30 +56,34 @@ impl Present {
     }
 
     /// Whether a watch looks for what the call that comes next reads, or for what it joins.
-    fn is_event(&self, running: &Running, read: &Option<Access>, watch: &Watch) -> bool
-        ensures { result ≡ calls.is_event read.now (joint_in self.now running.now) watch.now }
+    fn is_event(&self, underway: &Underway, read: &Option<Access>, watch: &Watch) -> bool
+        ensures { result ≡ calls.is_event read.now (joint_in self.now underway.now) watch.now }
     {
         let is_read = match read {
             Some(access) => access.is_seen_by(watch),
             None => false,
         };
-        is_read || self.joins(running, watch)
+        is_read || self.joins(underway, watch)
     }
 
     /// What the call that comes next stores, if it is a `read` into a watched range.
-    fn read_access(&self, running: &Running, watches: &[Watch]) -> Result<Option<Access>, TurnFault>
+    fn read_access(
+        &self,
+        underway: &Underway,
+        watches: &[Watch],
+    ) -> Result<Option<Access>, TurnFault>
         requires { CanStep self.now }
         ensures { IfOk result
-            (λ read. read ≡ calls.read_by watches.now (request.call_of running.now.hart)
-            (calls.count_read (moment_of self.now) running.now.work.thread)) }
+            (λ read. read ≡ calls.read_by watches.now (request.call_of underway.now.hart)
+            (calls.count_read (moment_of self.now) underway.now.work.thread)) }
     {
-        let Call::Read { address, length } = call_of(&running.hart) else {
+        let Call::Read { address, length } = call_of(&underway.hart) else {
             return Ok(None);
         };
         if !is_looked_for(&Access::stored(address, length), watches) {
             return Ok(None);
         }
-        let count = self.count_read(running.work.thread)?;
+        let count = self.count_read(underway.work.thread)?;
         Ok(Some(Access::stored(address, count)))
     }
 
@@ -98,14 +102,14 @@ impl Present {
 
     /// Whether the commit of a thread makes of a range something else than the thread has itself: it has changed a page of
     /// it, and others changed other bytes of it.
-    fn joins(&self, running: &Running, watch: &Watch) -> bool
-        ensures { result ≡ calls.joins (joint_in self.now running.now) watch.now }
+    fn joins(&self, underway: &Underway, watch: &Watch) -> bool
+        ensures { result ≡ calls.joins (joint_in self.now underway.now) watch.now }
     {
         if !watch.looks_for_stores() {
             return false;
         }
         for offset in 0..watch.len.min(JOIN_LIMIT) {
-            if self.joins_at(running, watch.start, offset) {
+            if self.joins_at(underway, watch.start, offset) {
                 return true;
             }
         }
@@ -113,23 +117,23 @@ impl Present {
     }
 
     /// Whether it does so of the byte at an offset.
-    fn joins_at(&self, running: &Running, start: u32, offset: u32) -> bool
-        ensures { result ≡ calls.joins_at (joint_in self.now running.now) (start + offset) }
+    fn joins_at(&self, underway: &Underway, start: u32, offset: u32) -> bool
+        ensures { result ≡ calls.joins_at (joint_in self.now underway.now) (start + offset) }
     {
         match start.checked_add(offset) {
             Some(address) => {
-                self.is_behind(running, address) && running.has_changed_page_of(address)
+                self.is_behind(underway, address) && underway.has_changed_page_of(address)
             }
             None => false,
         }
     }
 
     /// Whether another thread has changed a byte that this one hasn't.
-    fn is_behind(&self, running: &Running, address: u32) -> bool
-        ensures { result ≡ calls.is_behind (joint_in self.now running.now) address }
+    fn is_behind(&self, underway: &Underway, address: u32) -> bool
+        ensures { result ≡ calls.is_behind (joint_in self.now underway.now) address }
     {
-        running.agrees_with(&running.base, address)
-            && !running.agrees_with(self.serial.now(), address)
+        underway.agrees_with(&underway.base, address)
+            && !underway.agrees_with(self.serial.now(), address)
     }
 }
 
@@ -154,10 +158,10 @@ fn is_looked_for(access: &Access, watches: &[Watch]) -> bool
 fn turn_of(present: &Present) -> Result<Present, AllocError>
     requires { IsReady present.now }
     ensures sound { IfOk result IsSound }
-    ensures begun { IfOk result (λ copy. IsBegun (point_at copy) copy.running) }
+    ensures begun { IfOk result (λ copy. IsBegun (point_at copy) copy.underway) }
     ensures before { IfOk result (λ copy. copy.before ≡ 0) }
     ensures point { IfOk result (λ copy. point_at copy ≡ point_at present.now) }
-    ensures steps { IfOk result (λ copy. steps_of copy.running ≡ steps_of present.now.running) }
+    ensures steps { IfOk result (λ copy. steps_of copy.underway ≡ steps_of present.now.underway) }
 {
     let mut copy = Checkpoint::of(present)?.restored()?;
     copy.before = 0;

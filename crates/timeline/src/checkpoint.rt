@@ -41,8 +41,8 @@ impl Checkpoint {
         ensures point { IfOk result (λ kept. point_of kept.serial.value ≡ point_at present.now) }
         ensures before { IfOk result (λ kept. kept.before ≡ present.now.before) }
     {
-        let begun = match &present.running {
-            Some(running) => Some(running.begun()?),
+        let begun = match &present.underway {
+            Some(underway) => Some(underway.begun()?),
             None => None,
         };
         Ok(Checkpoint {
@@ -75,7 +75,7 @@ impl Checkpoint {
     {
         let mut present = Present {
             serial: copied(&self.serial)?,
-            running: None,
+            underway: None,
             before: self.before,
             last: self.last,
         };

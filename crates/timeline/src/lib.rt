@@ -12,13 +12,13 @@ mod halt;
 mod line;
 mod motion;
 mod present;
-mod running;
 mod scout;
 mod shown;
 mod spacing;
 mod stage;
 mod stops;
 mod timeline;
+mod underway;
 
 pub use halt::Halt;
 pub use marked_memory::{Watch, WatchKind};

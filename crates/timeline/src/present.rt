@@ -8,8 +8,8 @@ ghost use Rattle.timeline.specs.Present.{count_of, IsWent};
 
 use crate::checkpoint::Begun;
 use crate::halt::Halt;
-use crate::running::{Progress, Running};
 use crate::stops::Stops;
+use crate::underway::{Progress, Underway};
 use std::alloc::AllocError;
 use token::{Need, NoRecord, SegmentEnd, Serial, TurnFault};
 
@@ -22,7 +22,7 @@ pub(crate) struct Present {
     /// What stands before the present turn.
     pub(crate) serial: Box<Serial<NoRecord>>,
     /// The segment of the present turn, once it has begun. Where it hasn't, nothing of it is executed.
-    pub(crate) running: Option<Running>,
+    pub(crate) underway: Option<Underway>,
     /// How many steps were made before the present turn.
     pub(crate) before: u64,
     /// The thread of the last turn.
@@ -31,7 +31,7 @@ pub(crate) struct Present {
 
 impl Present {
     ghost use Rattle.token.specs.RunInTurn.{point_of};
-    ghost use Rattle.timeline.specs.Moment.{task_at};
+    ghost use Rattle.timeline.specs.Moment.{origin_at};
     ghost use Rattle.token.specs.Point.{need_at};
     ghost use Rattle.timeline.specs.Halting.{IsPassed, IsPlainWalk, IsWalked, address_at, moves_other, threads_at};
     ghost use Rattle.timeline.specs.Calls.{call_at};
@@ -45,12 +45,12 @@ impl Present {
         ensures sound { IfOk result IsSound }
         ensures point { IfOk result (λ present. point_at present ≡ point_of serial) }
         ensures before { IfOk result (λ present. present.before ≡ 0) }
-        ensures running { IfOk result (λ present. present.running ≡ None) }
+        ensures underway { IfOk result (λ present. present.underway ≡ None) }
     {
         let alloc = serial.now().allocator();
         Ok(Present {
             serial: Box::new(alloc, serial)?,
-            running: None,
+            underway: None,
             before: 0,
             last: 0,
         })
@@ -66,18 +66,18 @@ impl Present {
 
     /// How many instructions of the present turn were executed.
     pub(crate) fn steps(&self) -> u64
-        ensures { result ≡ steps_of self.now.running }
+        ensures { result ≡ steps_of self.now.underway }
     {
-        match &self.running {
-            Some(running) => running.done,
+        match &self.underway {
+            Some(underway) => underway.done,
             None => 0,
         }
     }
 
     /// The thread whose turn it is, at the end that of the last turn.
     pub(crate) fn thread(&self) -> u32 {
-        if let Some(running) = &self.running {
-            return running.work.thread;
+        if let Some(underway) = &self.underway {
+            return underway.work.thread;
         }
         match self.serial.need() {
             Need::Segment(work) | Need::Keeper(work) => work.thread,
@@ -87,26 +87,26 @@ impl Present {
     }
 
     /// Begins the segment of the present turn, if it has one that hasn't begun.
-    #[tactic(auto, unfolding(crate::specs::Moment::task_at))]
+    #[tactic(auto, unfolding(crate::specs::Moment::origin_at))]
     pub(crate) fn begin(&mut self) -> Result<(), AllocError>
         requires { IsSound self.old }
         ensures sound { IsSound self.new }
         ensures turn { SameTurn self.old self.new }
         ensures step { step_of self.new ≡ step_of self.old }
-        ensures begun { OnOk result (IsBegun (point_at self.new) self.new.running) }
+        ensures begun { OnOk result (IsBegun (point_at self.new) self.new.underway) }
     {
-        if self.running.is_some() {
+        if self.underway.is_some() {
             return Ok(());
         }
         match self.serial.need() {
             Need::Segment(work) => {
-                let running = Running::begin(work, self.serial.base())?;
-                self.running = Some(running);
+                let underway = Underway::begin(work, self.serial.base())?;
+                self.underway = Some(underway);
                 Ok(())
             }
             Need::Keeper(work) => {
-                let running = Running::begin(work, self.serial.now())?;
-                self.running = Some(running);
+                let underway = Underway::begin(work, self.serial.now())?;
+                self.underway = Some(underway);
                 Ok(())
             }
             Need::Wake { .. } => Ok(()),
@@ -124,8 +124,8 @@ impl Present {
         ensures step { OnOk result (step_of self.new ≡ self.old.before + begun.now.done) }
     {
         self.begin()?;
-        match &mut self.running {
-            Some(running) => running.resume(begun),
+        match &mut self.underway {
+            Some(underway) => underway.resume(begun),
             None => unreachable!(),
         }
     }
@@ -155,7 +155,7 @@ impl Present {
         until: u64,
     ) -> Result<Option<Halt>, TurnFault>
         requires goes { CanGoOn self.old until }
-        requires begun { IsBegun (point_at self.old) self.old.running }
+        requires begun { IsBegun (point_at self.old) self.old.underway }
         requires call { call_at stops.now.watches.now (moment_of self.old) ≡ None }
         ensures proceeds { Proceeds self.old until result self.new }
         ensures walked { IfOk result (λ halt. IsPlainWalk (halts.wanted_by stops.now) self.old halt self.new) }
@@ -169,7 +169,7 @@ impl Present {
                 Ok(None)
             }
             Err(refused) => {
-                self.running = None;
+                self.underway = None;
                 Err(TurnFault::from(refused))
             }
         }
@@ -191,21 +191,21 @@ impl Present {
     /// What becomes of the present turn within so many of its instructions.
     fn progress(&mut self, stops: &Stops<'_>, most: u64) -> Result<Progress, AllocError>
         requires ready { IsReady self.old }
-        requires further { steps_of self.old.running < most }
+        requires further { steps_of self.old.underway < most }
         requires call { call_at stops.now.watches.now (moment_of self.old) ≡ None }
         ensures turn { SameTurn self.old self.new }
         ensures progress { IfOk result (λ progress. IsWent self.old most progress self.new) }
         ensures passed { IfOk result (λ progress. IsPassed (halts.wanted_by stops.now) self.old progress self.new) }
     {
-        match &mut self.running {
-            Some(running) => {
-                if running.trap.is_some() {
-                    return Ok(Progress::Halts(running.halt_at_trap(stops)));
+        match &mut self.underway {
+            Some(underway) => {
+                if underway.trap.is_some() {
+                    return Ok(Progress::Halts(underway.halt_at_trap(stops)));
                 }
-                if stops.asks_within(running.work.thread) {
-                    running.go_looking(stops, most)
+                if stops.asks_within(underway.work.thread) {
+                    underway.go_looking(stops, most)
                 } else {
-                    running.go_on(most)
+                    underway.go_on(most)
                 }
             }
             None => match self.serial.need() {
@@ -222,14 +222,14 @@ impl Present {
         requires few { self.old.before + count_of (option_map (λ end. end.now) end) ≤ 2 ^ 63 }
         requires quantum { IfSome (point_at self.old).setup.quantum (λ q. 0 < q) }
         ensures sound { IsSound self.new }
-        ensures running { self.new.running ≡ None }
+        ensures underway { self.new.underway ≡ None }
         ensures ok { OnOk result
             ((point_at self.new ≡ moved (point_at self.old) (step_at (point_at self.old) (option_map (λ end. end.now) end.entry)))
             × (self.new.before ≡ self.old.before + count_of (option_map (λ end. end.now) end.entry))) }
         ensures err { OnErr result ((point_at self.new ≡ point_at self.old) × (self.new.before ≡ self.old.before)) }
     {
         let count = count_of(end);
-        self.running = None;
+        self.underway = None;
         match self.serial.turn(end) {
             Ok(turn) => {
                 self.before += count;
@@ -247,8 +247,8 @@ impl Present {
         ensures { result ≡ halts.first_of (address_at (halts.wanted_by stops.now) (own_at (moment_of self.now)))
             (threads_at (halts.wanted_by stops.now) (point_at self.now)) }
     {
-        if let Some(running) = &self.running {
-            if let Some(halt) = running.position_halt(stops) {
+        if let Some(underway) = &self.underway {
+            if let Some(halt) = underway.position_halt(stops) {
                 return Some(halt);
             }
         }

@@ -64,14 +64,14 @@ impl Present {
         if self.moves_other(stops) {
             return Ok(());
         }
-        let skipped = match &mut self.running {
-            Some(running) if !stops.waits_for(running.work.thread) => {
-                running.skip(stops, until - self.before)
+        let skipped = match &mut self.underway {
+            Some(underway) if !stops.waits_for(underway.work.thread) => {
+                underway.skip(stops, until - self.before)
             }
             _ => Ok(()),
         };
         if skipped.is_err() {
-            self.running = None;
+            self.underway = None;
         }
         skipped
     }
@@ -114,8 +114,8 @@ impl Present {
     /// Goes on as far as the turn goes, if nothing is told of its instructions for what they are.
     fn pass_turn(&mut self, stops: &Stops<'_>, until: u64) -> Result<Option<Found>, TurnFault>
         requires can { CanPass self.old until }
-        requires begun { IsBegun (point_at self.old) self.old.running }
-        requires quiet { looks (wanted_by stops.now) self.old.running ≡ false }
+        requires begun { IsBegun (point_at self.old) self.old.underway }
+        requires quiet { looks (wanted_by stops.now) self.old.underway ≡ false }
         ensures { Passes (wanted_by stops.now) self.old until result self.new }
     {
         let moves_other = self.moves_other(stops);
@@ -131,10 +131,10 @@ impl Present {
 
     /// Whether something may be told of the next instruction for what it is.
     fn looks(&self, stops: &Stops<'_>) -> bool
-        ensures { result ≡ looks (wanted_by stops.now) self.now.running }
+        ensures { result ≡ looks (wanted_by stops.now) self.now.underway }
     {
-        match &self.running {
-            Some(running) => stops.asks_within(running.work.thread),
+        match &self.underway {
+            Some(underway) => stops.asks_within(underway.work.thread),
             None => false,
         }
     }
@@ -145,11 +145,11 @@ impl Present {
         requires { CanStep self.now }
         ensures { IfOk result (IsToldOf (wanted_by stops.now) (moment_of self.now) (step_of self.now)) }
     {
-        let Some(running) = &self.running else {
+        let Some(underway) = &self.underway else {
             return Ok(None);
         };
         let here = self.step_number();
-        let event = match running.step_halt(stops) {
+        let event = match underway.step_halt(stops) {
             Some(halt) => Some(halt),
             None => self.call_halt(stops)?,
         };
@@ -160,7 +160,7 @@ impl Present {
             }));
         }
         Ok(
-            running
+            underway
                 .position_halt(stops)
                 .map(|halt| Found { step: here, halt }),
         )

@@ -43,13 +43,13 @@ impl Present {
     }
 
     /// The thread that executes its turn, and its registers.
-    #[tactic(auto, unfolding(crate::specs::Shown::own_at, crate::specs::Moment::task_at, hart::specs::Segment::after))]
+    #[tactic(auto, unfolding(crate::specs::Shown::own_at, crate::specs::Moment::origin_at, hart::specs::Segment::after))]
     fn own(&self) -> Option<(u32, Hart)>
         requires { IsSound self.now }
         ensures { result ≡ option_map (λ own. (own.thread, own.hart)) (shown.own_at (moment_of self.now)) }
     {
-        if let Some(running) = &self.running {
-            return Some((running.work.thread, running.hart));
+        if let Some(underway) = &self.underway {
+            return Some((underway.work.thread, underway.hart));
         }
         match self.serial.need() {
             Need::Segment(work) | Need::Keeper(work) => Some((work.thread, work.segment.hart)),
@@ -132,14 +132,14 @@ impl Present {
     }
 
     /// The byte that the thread sees which executes its turn, none if no thread does.
-    #[tactic(auto, unfolding(crate::specs::Shown::own_at, crate::specs::Moment::task_at, hart::specs::Segment::after))]
+    #[tactic(auto, unfolding(crate::specs::Shown::own_at, crate::specs::Moment::origin_at, hart::specs::Segment::after))]
     fn own_byte(&self, address: u32) -> Option<u8>
         requires { IsSound self.now }
         ensures { result ≡ option_and_then (λ memory. option_map (λ cell. cell.byte) (memory address))
             (shown.memory_by (moment_of self.now) Sees.Own) }
     {
-        match &self.running {
-            Some(running) => running.byte(address),
+        match &self.underway {
+            Some(underway) => underway.byte(address),
             None => match self.serial.need() {
                 Need::Segment(_) => self.serial.base().byte(address),
                 Need::Keeper(_) => self.serial.now().byte(address),

@@ -76,7 +76,7 @@ impl Timeline {
 
     /// How many instructions of the present turn were executed.
     pub fn steps_of_turn(&self) -> u64
-        ensures { result ≡ steps_of self.now.present.running }
+        ensures { result ≡ steps_of self.now.present.underway }
     {
         self.line.present.steps()
     }
@@ -93,10 +93,10 @@ impl Timeline {
 
     /// What the run is about to do. That an instruction traps is known once its step was tried.
     pub fn stage(&self) -> Stage {
-        if let Some(running) = &self.line.present.running {
-            return match running.trap {
+        if let Some(underway) = &self.line.present.underway {
+            return match underway.trap {
                 Some(trap) => Stage::Trap {
-                    pc: running.hart.pc(),
+                    pc: underway.hart.pc(),
                     trap,
                 },
                 None => Stage::Segment,

@@ -14,13 +14,13 @@ settle-requires-clause-desk c =
 
 pub returns : goal.returns
 returns c =
-    let keepers : IsKeepers (point_at c.args.self.now) c.in-Some.running = subst (IsKeeper (point_at c.args.self.now)) c.in-Some.is c.requires.sound.keeper in
+    let keepers : IsKeepers (point_at c.args.self.now) c.in-Some.underway = subst (IsKeeper (point_at c.args.self.now)) c.in-Some.is c.requires.sound.keeper in
     record {
       answer = grind (arith, common_steps);
       does = record {
         sound = c.settle.ensures.sound;
         happens =
-            turn_done c.args.self.now c.settle.new.self c.turn.new.self c.phase-phase.result (Some c.in_ok-end.end) (keeper_needed (point_at c.args.self.now) c.in-Some.running.work c.in_ok-end.end keepers.need (subst (λ (memory : Memory). IsEndOf memory c.in-Some.running.work.segment c.in_ok-end.end) keepers.memory c.in_ok-end.ensures))
+            turn_done c.args.self.now c.settle.new.self c.turn.new.self c.phase-phase.result (Some c.in_ok-end.end) (keeper_needed (point_at c.args.self.now) c.in-Some.underway.work c.in_ok-end.end keepers.need (subst (λ (memory : Memory). IsEndOf memory c.in-Some.underway.work.segment c.in_ok-end.end) keepers.memory c.in_ok-end.ensures))
             c.in_ok-turn.ensures.moved c.in_ok-turn.ensures.longer c.phase-phase.ensures c.settle.ensures.serial c.settle.ensures.keeper c.settle.ensures.counts;
         unchanged = tt;
       };

@@ -37,7 +37,7 @@ returns-clause-seat c =
     let jobs = c.requires.desk.jobs in
     let below : c.args.self.now.drawn < length c.args.self.now.slots.items = grind (arith, common_steps) in
     record {
-      running = c.begin.ensures.running;
+      underway = c.begin.ensures.underway;
       job = omega arith;
       work = c.begin.ensures.work ∙ c.work_of-work.ensures ∙ ap (λ (list : List ℕ). work_of (start_in c.args.self.now) (slice_index list c.args.self.now.drawn)) list;
       memory = c.begin.ensures.memory ∙ ap memory_of_pages c.in_ok-base.ensures.pages ∙ c.base.ensures;

@@ -10,6 +10,6 @@ returns-in_default c =
     let wanted = wanted_by c.args.stops.now in
     let turns = rw c.in_default.is at c.requires.ready.sound.turns in
     let begun = rw c.in_default.is at c.requires.ready.begun in
-    let quiet = silent_turn wanted (point_at self) None (steps_of self.running) turns begun refl in
-    let call = silent_call wanted (point_at self) None (steps_of self.running) begun refl in
+    let quiet = silent_turn wanted (point_at self) None (steps_of self.underway) turns begun refl in
+    let call = silent_call wanted (point_at self) None (steps_of self.underway) begun refl in
     (rw (quiet.1, call) refl, quiet.0)

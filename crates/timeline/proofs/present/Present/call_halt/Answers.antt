@@ -12,14 +12,14 @@ returns-in_ok-read-in-Some c =
     let self = c.args.self.now in
     let watches = c.args.stops.now.watches.now in
     let turns = rw c.in-Some.is at c.requires.ready.sound.turns in
-    c.call_event.ensures ∙ ap (λ read. call_event watches read (joint_in self c.in-Some.running)) c.in_ok-read-in-Some.ensures
-    ∙ sym (at_call watches self c.in-Some.running c.in-Some.is turns (sym c.is_at_call.ensures ∙ c.if-is_at_call.true))
+    c.call_event.ensures ∙ ap (λ read. call_event watches read (joint_in self c.in-Some.underway)) c.in_ok-read-in-Some.ensures
+    ∙ sym (at_call watches self c.in-Some.underway c.in-Some.is turns (sym c.is_at_call.ensures ∙ c.if-is_at_call.true))
 
 pub returns-in_default : goal.returns-in_default
 returns-in_default c =
     let turns = rw c.in-Some.is at c.requires.ready.sound.turns in
     sym
-    (not_at_call c.args.stops.now.watches.now c.args.self.now c.in-Some.running c.in-Some.is turns (sym c.is_at_call.ensures ∙ c.if-is_at_call.false))
+    (not_at_call c.args.stops.now.watches.now c.args.self.now c.in-Some.underway c.in-Some.is turns (sym c.is_at_call.ensures ∙ c.if-is_at_call.false))
 
 pub returns-in_default-2 : goal.returns-in_default-2
 returns-in_default-2 c =
@@ -29,4 +29,4 @@ returns-in_default-2 c =
 pub returns-in_default-3 : goal.returns-in_default-3
 returns-in_default-3 c =
     let begun = rw c.in_default.is at c.requires.ready.begun in
-    sym (call_without c.args.stops.now.watches.now (point_at c.args.self.now) (steps_of c.args.self.now.running) begun)
+    sym (call_without c.args.stops.now.watches.now (point_at c.args.self.now) (steps_of c.args.self.now.underway) begun)

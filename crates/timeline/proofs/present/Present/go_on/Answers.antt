@@ -10,7 +10,7 @@ returns-in-Some-clause-walked c =
     let begun = c.begin.new.self in
     let serial = c.begin.ensures.turn.serial in
     let point : point_at begun ≡ point_at old = cc in
-    let steps : steps_of begun.running ≡ steps_of old.running = omega (arith, c.begin.ensures.turn.before, c.begin.ensures.step) in
+    let steps : steps_of begun.underway ≡ steps_of old.underway = omega (arith, c.begin.ensures.turn.before, c.begin.ensures.step) in
     halts_here (wanted_by c.args.stops.now) old begun c.in-Some.halt point steps c.begin.ensures.step (sym c.halt_here.ensures ∙ c.in-Some.is)
 
 pub returns-clause-walked : goal.returns-clause-walked
@@ -19,7 +19,7 @@ returns-clause-walked c =
     let begun = c.begin.new.self in
     let serial = c.begin.ensures.turn.serial in
     let point : point_at begun ≡ point_at old = cc in
-    let steps : steps_of begun.running ≡ steps_of old.running = omega (arith, c.begin.ensures.turn.before, c.begin.ensures.step) in
+    let steps : steps_of begun.underway ≡ steps_of old.underway = omega (arith, c.begin.ensures.turn.before, c.begin.ensures.step) in
     all_walk (wanted_by c.args.stops.now) old begun _ c.proceed.result point steps c.begin.ensures.step (sym c.halt_here.ensures ∙ c.in_default.is) c.proceed.ensures.walked
 
 pub returns-in-Some-2-clause-walked : goal.returns-in-Some-2-clause-walked

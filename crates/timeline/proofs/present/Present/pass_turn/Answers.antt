@@ -8,7 +8,7 @@ use Rattle.timeline.proofs.present.Present.pass_turn.Goals as goal
 pub proceed-requires-clause-call : goal.proceed-requires-clause-call
 proceed-requires-clause-call c =
     let old = c.args.self.now in
-    silent_call (wanted_by c.args.stops.now) (point_at old) old.running (steps_of old.running) c.requires.begun c.requires.quiet
+    silent_call (wanted_by c.args.stops.now) (point_at old) old.underway (steps_of old.underway) c.requires.begun c.requires.quiet
 
 pub returns-then-moves_other : goal.returns-then-moves_other
 returns-then-moves_other c =

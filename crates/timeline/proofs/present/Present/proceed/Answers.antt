@@ -37,4 +37,4 @@ returns-in_ok-turn-in-Ok-Over-clause-walked c =
     let ok = c.in_ok-turn-in-Ok-Over.ensures.ok in
     let counted = rw c.as_ref.ensures.value at ok.1 in
     let before : c.turn.new.self.before ≡ c.args.self.now.before + count_of c.in-Ok-Over.end = omega (arith, counted, c.progress-progress.ensures.turn.before) in
-    turns (wanted_by c.args.stops.now) c.args.self.now c.turn.new.self (count_of c.in-Ok-Over.end) c.turn.ensures.running before passed
+    turns (wanted_by c.args.stops.now) c.args.self.now c.turn.new.self (count_of c.in-Ok-Over.end) c.turn.ensures.underway before passed

@@ -14,19 +14,19 @@ returns-else-is_err-clause-silent c =
     let wanted = wanted_by c.args.stops.now in
     elim c.match-self.branch [
       | in-Some w ↦
-          let running = w.in-Some.running in
+          let underway = w.in-Some.underway in
           let new = w.skip-skipped.new.self in
           let turns = rw w.in-Some.is at c.requires.sound.turns in
           let to : step_of c.match-self.self ≡ old.before + new.done = ap step_of w.self-is in
           rw w.skipped-is
           (on_ok_weaker w.skip-skipped.result
           (λ is. λ start begins.
-          let plain = skipped_plain wanted old running new _ w.in-Some.is turns is in
+          let plain = skipped_plain wanted old underway new _ w.in-Some.is turns is in
           silent_walk wanted start old (step_of c.match-self.self) begins moves (λ k low high. plain k low (omega (arith, to, low, high))))
           w.skip-skipped.ensures)
       | in_default-2 w ↦
-          let steps : steps_of old.running ≡ w.in-Some.running.done = ap steps_of w.in-Some.is in
-          let there : step_of c.match-self.self ≡ old.before + w.in-Some.running.done = ap step_of w.self-is in
+          let steps : steps_of old.underway ≡ w.in-Some.underway.done = ap steps_of w.in-Some.is in
+          let there : step_of c.match-self.self ≡ old.before + w.in-Some.underway.done = ap step_of w.self-is in
           let to : step_of c.match-self.self ≡ step_of old = omega (arith, steps, there) in
           rw w.skipped-is (λ start begins. λ n low high. absurd (omega (arith, to, low, high)))
       | in_default w ↦
