@@ -2,10 +2,12 @@
 
 It prints a row of a table in Markdown for each. `small` are the samples as they are, measured from trace and report, which are the same on
 each machine. `large` are most of them built anew with more work, and without the part in which one thread works the result out again.
-`times` says how long the large ones take with 1, 2 and 4 workers, as ratios of the least times of some rounds. DTHREADS names the program
-to run them with, or else ./dthreads.
+`times` says how long the large ones take with 1, 2 and 4 workers, and four processes with 1 worker each side by side, which is what the
+machine gives at best: as ratios of the least times of some rounds. The last column is four processes' time over four times that of 4 workers, by
+medians. DTHREADS names the program to run them with, or else ./dthreads.
 """
 import re
+import statistics
 import subprocess
 import tempfile
 import time
@@ -29,7 +31,9 @@ LARGER = {
 # How often a large sample's input has the text of the small one's.
 REPEATED = 300
 COUNTS = ["Sample", "Million instructions", "Turns", "Phases", "Changed pages", "Changes of pages", "Shared", "Clashes", "Side by side"]
-TIMES = ["Sample", "Milliseconds with 1 worker", "Rate with 2", "Rate with 4"]
+TIMES = ["Sample", "Milliseconds with 1 worker", "Rate with 2", "Rate with 4", "Four processes", "Rate with 4 over that of four processes"]
+# What is timed: with how many workers, and how many processes side by side.
+TIMED = [(1, 1), (2, 1), (4, 1), (1, 4)]
 
 
 def arguments(parser):
@@ -51,14 +55,21 @@ class Prepared:
             said = guest_runs.compiled(words, self.program)
             if said is not None:
                 raise SystemExit(f"{sample.name}: doesn't build:\n{said}")
+        with open(f"{room}/input", "wb") as it:
+            it.write(self.given)
+
+    def start(self, *words):
+        command = [guest_runs.program(), "run", self.program, "--bound", BOUND, *words]
+        with open(f"{self.room}/input", "rb") as it:
+            return subprocess.Popen(command, stdin=it, stdout=subprocess.DEVNULL)
 
     def run(self, *words):
-        command = [guest_runs.program(), "run", self.program, "--bound", BOUND, *words]
-        subprocess.run(command, input=self.given, stdout=subprocess.DEVNULL)
+        self.start(*words).wait()
 
-    def seconds(self, workers):
+    def seconds(self, workers, processes=1):
         begun = time.perf_counter()
-        self.run("--workers", str(workers))
+        for started in [self.start("--workers", str(workers)) for _ in range(processes)]:
+            started.wait()
         return time.perf_counter() - begun
 
 
@@ -97,9 +108,11 @@ def counted(prepared, rounds):
 
 def timed(prepared, rounds):
     """Returns the cells of a sample's times."""
-    times = [{it: prepared.seconds(it) for it in (1, 2, 4)} for _ in range(rounds)]
-    least = {it: min(one[it] for one in times) for it in (1, 2, 4)}
-    return [f"{1000 * least[1]:.0f}", f"{least[1] / least[2]:.2f}", f"{least[1] / least[4]:.2f}"]
+    times = [[prepared.seconds(*it) for it in TIMED] for _ in range(rounds)]
+    one, two, four, apart = map(min, zip(*times))
+    _, _, middle, middle_apart = map(statistics.median, zip(*times))
+    rates = [one / two, one / four, 4 * one / apart, middle_apart / (4 * middle)]
+    return [f"{1000 * one:.0f}", *(f"{it:.2f}" for it in rates)]
 
 
 def measure(options):

@@ -46,6 +46,7 @@ GUESTS = [
     Measured("4 threads at one mutex, 100,000 sections each", "MUTEX", 4, 100000, 0),
     Measured("4 threads at a barrier, 100,000 times", "BARRIER", 4, 100000, 0),
     Measured("4 threads that change 2 KiB in each of 64 pages, 100 times", "PAGES", 4, 100, 0),
+    Measured("4 threads that read in 128 pages, 10 million instructions", "READ", 4, 1, 10000000, 1),
 ]
 
 
