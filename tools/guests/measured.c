@@ -44,7 +44,7 @@ static void read_columns(void)
             (void)pages[page][column];
 }
 
-// A byte in each page, so that no two are the same page of zeros.
+// A word in each page, so that no two are the same page of zeros.
 static void fill(void)
 {
     for (uint32_t page = 0; page < READ_PAGES; page++)
