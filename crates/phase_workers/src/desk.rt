@@ -101,7 +101,9 @@ impl<F: EndFacts + Send + Sync> Desk<F> {
     pub fn clear(&mut self)
         ensures { self.new ≡ record self.old { shared = None } }
     {
-        self.board = None;
+        if self.board.is_some() {
+            self.board = None;
+        }
     }
 
     /// Tells the workers that nothing more is wanted of them.

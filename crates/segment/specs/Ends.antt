@@ -1,5 +1,5 @@
 -- How a segment ends.
-use Rattle.std.specs.Prelude.{◌≡◌}
+use Rattle.std.specs.Prelude.{◌≡◌, ℕ, ◌<◌, None}
 use Rattle.guest_memory.specs.Memory.{Memory}
 use Rattle.hart.specs.Segment as of_hart
 use Rattle.commit.specs.Merge.{changes}
@@ -11,3 +11,7 @@ pub record IsEndOf (copy : Memory) (segment : Segment) (end : SegmentEnd) : Type
   pub memory : Memory
   pub patch : end.patch ≡ changes copy memory
   pub segment_is : of_hart.Segment segment.hart copy segment.left segment.quantum end.stop end.count end.hart memory
+
+-- The segment on a copy of a memory has executed so many instructions without a stop.
+abbrev pub GoesOnAt : Memory → Segment → ℕ → Type 0
+GoesOnAt copy segment count = (k : ℕ) → k < count → of_hart.stop_after segment.hart copy segment.left segment.quantum k ≡ None

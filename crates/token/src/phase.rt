@@ -55,20 +55,22 @@ impl Phase {
     }
 
     /// The next phase begins, with these threads and this list, after so many turns.
-    pub(crate) fn begin(&mut self, turns: u64, threads: &Threads, list: ThreadNumbers)
+    pub(crate) fn begin(&mut self, turns: u64, threads: &Threads, list: &ThreadNumbers)
         requires { self.old.number + 1 < 2 ^ 64 }
         ensures number { self.new.number ≡ self.old.number + 1 }
         ensures first { self.new.first ≡ turns }
         ensures base { self.new.base ≡ None }
         ensures threads { self.new.threads ≡ threads.now }
-        ensures list { self.new.list.items ≡ list.items }
+        ensures list { self.new.list.items ≡ list.now.items }
         ensures given { self.new.given ≡ 0 }
     {
         self.number += 1;
         self.first = turns;
         self.base = None;
         self.threads.copy_from(threads);
-        self.list = list;
+        self.list.clear();
+        let added = self.list.try_extend_from_slice(list.as_slice());
+        added.unwrap();
         self.given = 0;
     }
 }

@@ -257,6 +257,6 @@ impl RunInTurn {
             self.outcome = Some(quiet_outcome(&self.shared));
             return;
         }
-        self.phase.begin(self.done, self.shared.threads(), list);
+        self.phase.begin(self.done, self.shared.threads(), &list);
     }
 }

@@ -1,14 +1,9 @@
 -- An end that a host thread made of a phase's job is what the run needs of that thread in that phase.
-use Rattle.std.proofs.Common.{◌≡◌, ◌∙◌, ℕ, ◌<◌, Some, List, [], ◌∷◌, sym, ap, subst, zero, suc}
-use Rattle.std.proofs.lemmas.Option.{slice_get-map}
-use Rattle.std.specs.Option.{option_map}
+use Rattle.std.proofs.Common.{◌≡◌, ◌∙◌, ℕ, Some, List, [], ◌∷◌, sym, ap, subst, zero, suc}
 use Rattle.guest_memory.specs.Memory.{Memory}
 use Rattle.std.specs.Prelude.{map, slice_get}
 use Rattle.phase_jobs.specs.Slices.{IsEndOfJob}
 use Rattle.segment.specs.Ends.{IsEndOf}
-use Rattle.segment.specs.Progress.{IsProgress}
-use Rattle.segment.specs.Stands.{UnderwayState}
-use Rattle.segment.specs.declared.progress.Progress.TheVariants.{GoesOn}
 use Rattle.segment.specs.declared.segment.Segment.{Segment}
 use Rattle.segment.specs.declared.segment_end.SegmentEnd.{SegmentEnd}
 use Rattle.thread_table.specs.declared.thread.Thread.{Thread}
@@ -21,7 +16,7 @@ use Rattle.token.specs.declared.need.Need.TheVariants as need
 use Rattle.token.specs.declared.need.Work.{Work}
 use Rattle.token.proofs.Needs.{segment_is}
 use Rattle.token.proofs.OneBeginning.{one_base}
-use Rattle.worker_pool.specs.Jobs.{AreJobsIn, IsBegunIn, jobs_in}
+use Rattle.worker_pool.specs.Jobs.{AreJobsIn, jobs_in}
 use Rattle.worker_pool.specs.Ends.{IsEndIn}
 
 -- the job at a place
@@ -64,21 +59,3 @@ needed setup point history phase work end stands setup_is phase_is need is =
     let same : segment_in setup point.base_threads work.thread ≡ work.segment =
     ap (λ (s : Setup). segment_in s point.base_threads work.thread) (sym setup_is) ∙ sym (ap (λ (w : Work). w.segment) (segment_is point work need)) in
     subst (λ (s : Segment). IsEndOf point.base s end) same here
-
--- a needed segment that has begun is its thread's in the phase
-pub begun_in : (point : Point) (work : Work) (memory : Memory) (new : UnderwayState) → need_at point ≡ need.Segment work → memory ≡ point.base → IsProgress memory work.segment 0 (GoesOn new)
-    → IsBegunIn point work.thread new
-begun_in point work memory new need memory_is progress =
-    record {
-      segment_is = progress.0 ∙ ap (λ (w : Work). w.segment) (segment_is point work need);
-      memory_is = progress.1 ∙ memory_is;
-      going = subst (λ (s : Segment). new.done < s.left) (sym progress.0) progress.3;
-    }
-
--- and stands at its thread's place
-pub begun_at : (setup : Setup) (point : Point) (threads : List ℕ) (jobs : List Segment) (thread : ℕ) (job : UnderwayState) → point.setup ≡ setup → jobs ≡ jobs_in setup point.base_threads threads
-    → IsBegunIn point thread job → (k : ℕ) → slice_get threads k ≡ Some thread → slice_get jobs k ≡ Some job.segment
-begun_at setup point threads jobs thread job setup_is jobs_are begun k at =
-    let f : ℕ → Segment = segment_in setup point.base_threads in
-    let same : f thread ≡ job.segment = ap (λ (s : Setup). segment_in s point.base_threads thread) (sym setup_is) ∙ sym begun.segment_is in
-    ap (λ (js : List Segment). slice_get js k) jobs_are ∙ slice_get-map f threads k ∙ ap (option_map f) at ∙ ap Some same

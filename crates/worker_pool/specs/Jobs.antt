@@ -1,8 +1,6 @@
 -- A phase of a run as its jobs are shared out, and the caller's host threads.
-use Rattle.std.specs.Prelude.{◌≡◌, ℕ, ◌<◌, List, map}
+use Rattle.std.specs.Prelude.{◌≡◌, ℕ, List, map}
 use Rattle.guest_memory.specs.Memory.{Memory}
-use Rattle.paged_memory.specs.Snapshot.{cells_of}
-use Rattle.segment.specs.Stands.{UnderwayState}
 use Rattle.segment.specs.declared.segment.Segment.{Segment}
 use Rattle.thread_table.specs.declared.thread.Thread.{Thread}
 use Rattle.token.specs.History.{History}
@@ -28,12 +26,6 @@ jobs_in setup rows threads = map (segment_in setup rows) threads
 abbrev pub AreJobsIn : Setup → ℕ → List ℕ → List Segment → Memory → Type 0
 AreJobsIn setup number threads jobs memory =
     (point : Point) (history : History) → StandsAfter point history → point.setup ≡ setup → point.phase ≡ number → (memory ≡ point.base) × (jobs ≡ jobs_in setup point.base_threads threads)
-
--- it is a thread's job in the phase where a run stands, and goes on
-pub record IsBegunIn (point : Point) (thread : ℕ) (job : UnderwayState) : Type 0 where
-  pub segment_is : job.segment ≡ segment_in point.setup point.base_threads thread
-  pub memory_is : cells_of job.base ≡ point.base
-  pub going : job.done < job.segment.left
 
 -- A run of a setup is asked for its next turn.
 pub record IsAsked (given : Setup) (run : RunInTurn) : Type 0 where

@@ -1,18 +1,17 @@
 //! A phase of a run is made ready and shared out.
-ghost use Rattle.std.specs.Prelude.{◌≡◌, ◌<◌, ◌≤◌, ℕ, Some, true, All, length, map, slice_get, vec_len, IfOk, IfSome};
-ghost use Rattle.claim_table.specs.Logs.{most_seats, times};
+ghost use Rattle.std.specs.Prelude.{◌≡◌, ◌<◌, ◌≤◌, All, length, map, vec_len, IfOk};
+ghost use Rattle.claim_table.specs.Logs.{most_seats};
 ghost use Rattle.paged_memory.specs.Snapshot.{cells_of};
-ghost use Rattle.phase_workers.specs.Hands.{IsHeld};
 ghost use Rattle.token.specs.RunInTurn.{point_of};
 ghost use Rattle.token.specs.Segments as segments;
-ghost use Rattle.worker_pool.specs.Jobs.{IsAsked, IsBegunIn, jobs_in};
+ghost use Rattle.worker_pool.specs.Jobs.{IsAsked, jobs_in};
 
 use crate::ends_of_run::EndsOfRun;
 use crate::of_run::OfRun;
 use claim_table::DrawSeat;
 use phase_jobs::SharedJobs;
-use phase_workers::{Desk, Hand, Held, SharedPhase};
-use segment::{Segment, Underway};
+use phase_workers::{Desk, Hand, SharedPhase};
+use segment::Segment;
 use std::alloc::{AllocError, Global};
 use std::sync::Wait;
 use thread_table::Threads;
@@ -63,53 +62,6 @@ fn shared_phase<B: OfRun, K: Recorder>(
     Ok((SharedPhase::new(serial.phase(), threads, phase), seats))
 }
 
-/// Draws up to a job. Whether the seat drew it.
-fn draw_up_to(phase: &SharedJobs, seat: &mut DrawSeat, number: u32) -> bool
-    requires { seat.old.row ≡ phase.now.row }
-    ensures row { seat.new.row ≡ seat.old.row }
-    ensures drawn { result ≡ true → 0 < times number seat.new.log.drawn }
-{
-    for _ in 0..=number {
-        if phase.draw(seat) == Some(number) {
-            return true;
-        }
-    }
-    false
-}
-
-/// The place of a thread among others.
-fn place_of(threads: &[u32], thread: u32) -> Option<u32>
-    ensures { IfSome result (λ place. slice_get threads.now place ≡ Some thread) }
-{
-    for place in 0..threads.len() {
-        if threads[place] == thread {
-            return u32::try_from(place).ok();
-        }
-    }
-    None
-}
-
-/// A thread's job that has begun already, drawn by this seat. None where it can't be drawn.
-fn adopted<B: OfRun>(
-    shared: &SharedPhase<EndsOfRun<B>>,
-    seat: &mut DrawSeat,
-    thread: u32,
-    job: Underway,
-) -> Option<Held>
-    requires row { seat.old.row ≡ shared.now.phase.row }
-    requires job { (k : ℕ) → slice_get shared.now.names k ≡ Some thread → slice_get shared.now.phase.jobs k ≡ Some job.segment }
-    requires base { cells_of job.base ≡ cells_of shared.now.phase.base }
-    requires going { job.done < job.segment.left }
-    ensures row { seat.new.row ≡ seat.old.row }
-    ensures held { IfSome result (IsHeld shared.now.phase seat.new) }
-{
-    let number = place_of(shared.names(), thread)?;
-    if draw_up_to(shared.jobs(), seat, number) {
-        return Some(Held { number, job });
-    }
-    None
-}
-
 /// The seat of the caller, which is the first one.
 fn first_seat<B: OfRun>(shared: &SharedPhase<EndsOfRun<B>>, seats: &mut Vec<DrawSeat>) -> DrawSeat
     requires some { 0 < vec_len seats.old }
@@ -120,8 +72,21 @@ fn first_seat<B: OfRun>(shared: &SharedPhase<EndsOfRun<B>>, seats: &mut Vec<Draw
     seats.remove(0)
 }
 
-/// Shares the present phase of a run out to so many host threads at most, the caller counted. Whether it has two jobs, so
-/// that this could be done. The job is the thread's, if it has begun.
+/// Draws the jobs of the threads below one. They have had their turns, so nobody needs to execute these jobs.
+fn draw_below<B: OfRun>(shared: &SharedPhase<EndsOfRun<B>>, seat: &mut DrawSeat, thread: u32)
+    requires { seat.old.row ≡ shared.now.phase.row }
+    ensures { seat.new.row ≡ seat.old.row }
+{
+    for name in shared.names() {
+        if *name >= thread {
+            return;
+        }
+        let _ = shared.jobs().draw(seat);
+    }
+}
+
+/// Shares the present phase of a run out to so many host threads at most, the caller counted: the jobs of this thread and
+/// of those above it. Whether the phase has two jobs, so that this could be done.
 pub(crate) fn share_out<B: OfRun + Send + Sync, R: Wait, K: Recorder>(
     rt: &R,
     alloc: Global,
@@ -129,11 +94,9 @@ pub(crate) fn share_out<B: OfRun + Send + Sync, R: Wait, K: Recorder>(
     serial: &Serial<K>,
     most: u32,
     thread: u32,
-    job: Option<Underway>,
 ) -> Result<bool, AllocError>
     requires run { IsAsked B.setup serial.now }
     requires most { (0 < most) × (most ≤ most_seats) }
-    requires job { IfSome job (IsBegunIn (point_of serial.now) thread) }
 {
     let jobs = serial.base_threads().ready_list().len();
     if jobs < 2 {
@@ -142,10 +105,7 @@ pub(crate) fn share_out<B: OfRun + Send + Sync, R: Wait, K: Recorder>(
     let hands = most.min(jobs as u32);
     let (shared, mut seats) = shared_phase::<B, K>(alloc, serial, hands)?;
     let mut seat = first_seat(&shared, &mut seats);
-    let held = match job {
-        Some(job) => adopted(&shared, &mut seat, thread, job),
-        None => None,
-    };
-    desk.share(rt, alloc, shared, Hand { seat, held }, seats)?;
+    draw_below(&shared, &mut seat, thread);
+    desk.share(rt, alloc, shared, Hand { seat, held: None }, seats)?;
     Ok(true)
 }

@@ -5,7 +5,7 @@ ghost use Rattle.segment.specs.Ends.{IsEndOf};
 ghost use Rattle.token.specs.Point.{need_at};
 ghost use Rattle.token.specs.RunInTurn.{point_of};
 ghost use Rattle.token.specs.Serial.{IsAskedFor};
-ghost use Rattle.worker_pool.specs.Jobs.{IsAsked, IsBegunIn, NeedsEnd};
+ghost use Rattle.worker_pool.specs.Jobs.{IsAsked, NeedsEnd};
 ghost use Rattle.worker_pool.specs.Ends.{IsEndIn};
 
 use crate::ends_of_run::EndsOfRun;
@@ -13,7 +13,7 @@ use crate::of_run::OfRun;
 use crate::opening::share_out;
 use phase_jobs::Gate;
 use phase_workers::{Crew, Desk};
-use segment::{Progress, SegmentEnd, Underway};
+use segment::SegmentEnd;
 use std::alloc::{AllocError, Global};
 use std::marker::Model;
 use std::sync::Wait;
@@ -122,6 +122,30 @@ impl<B: OfRun + Send + Sync> Pool<B> {
         ensures same { self.new ≡ self.old }
     {
         self.come_to(serial.phase());
+        if self.is_alone(serial) {
+            self.pass(gate);
+            return work.segment.run(serial.base());
+        }
+        self.segment_beside(rt, serial, work, gate)
+    }
+
+    /// Whether nobody but the caller has to do with the present phase.
+    fn is_alone<K: Recorder>(&self, serial: &Serial<K>) -> bool {
+        !self.desk.is_shared_out() && (!self.desk.has_crew() || serial.list().len() < 2)
+    }
+
+    /// The end of the segment that the run needs next, where workers may execute it.
+    fn segment_beside<R: Wait, K: Recorder, G: Gate>(
+        &mut self,
+        rt: &R,
+        serial: &Serial<K>,
+        work: &Work,
+        gate: &G,
+    ) -> Result<SegmentEnd, AllocError>
+        requires { NeedsEnd B.setup serial.now work.now }
+        ensures end { IfOk result (IsEndOf (point_of serial.now).base work.now.segment) }
+        ensures same { self.new ≡ self.old }
+    {
         if !self.desk.is_shared_out() {
             if let Some(end) = self.begin(rt, serial, work, gate)? {
                 return Ok(end);
@@ -165,45 +189,32 @@ impl<B: OfRun + Send + Sync> Pool<B> {
         ensures end { IfOk result (λ end. IfSome end (IsEndOf (point_of serial.now).base work.now.segment)) }
         ensures same { self.new ≡ self.old }
     {
-        if !self.desk.has_crew() || serial.list().len() < 2 {
-            self.pass(gate);
-            return Ok(Some(work.segment.run(serial.base())?));
-        }
         if self.credit > 0 {
             self.credit -= 1;
-            if self.share(rt, serial, work.thread, None) {
+            if self.share(rt, serial, work.thread) {
                 return Ok(None);
             }
             self.pass(gate);
             return Ok(Some(work.segment.run(serial.base())?));
         }
         self.pass(gate);
-        match Underway::begin(work.segment, serial.base(), FIRST)? {
-            Progress::Over(end) => Ok(Some(end)),
-            Progress::GoesOn(job) => {
-                self.credit = CREDIT;
-                if self.share(rt, serial, work.thread, Some(job)) {
-                    return Ok(None);
-                }
-                Ok(Some(work.segment.run(serial.base())?))
-            }
+        if let Some(end) = work.segment.run_within(serial.base(), FIRST)? {
+            return Ok(Some(end));
         }
+        self.credit = CREDIT;
+        if self.share(rt, serial, work.thread) {
+            return Ok(None);
+        }
+        Ok(Some(work.segment.run(serial.base())?))
     }
 
-    /// Shares the present phase out. Whether that could be done. The job is the thread's, where it has begun.
-    fn share<R: Wait, K: Recorder>(
-        &mut self,
-        rt: &R,
-        serial: &Serial<K>,
-        thread: u32,
-        job: Option<Underway>,
-    ) -> bool
-        requires run { IsAsked B.setup serial.now }
-        requires job { IfSome job (IsBegunIn (point_of serial.now) thread) }
+    /// Shares the present phase out, from this thread on. Whether that could be done.
+    fn share<R: Wait, K: Recorder>(&mut self, rt: &R, serial: &Serial<K>, thread: u32) -> bool
+        requires { IsAsked B.setup serial.now }
         ensures { self.new ≡ self.old }
     {
         let desk = &mut self.desk;
-        share_out(rt, self.alloc, desk, serial, self.most, thread, job).unwrap_or(false)
+        share_out(rt, self.alloc, desk, serial, self.most, thread).unwrap_or(false)
     }
 
     /// The end of a thread's segment in a phase, once it is there. None where it doesn't come.

@@ -1,7 +1,9 @@
-use Rattle.segment.proofs.Slices.{progress_more}
+use Rattle.std.proofs.Common.{◌∙◌, ap, sym, subst}
+use Rattle.guest_memory.specs.Memory.{Memory}
+use Rattle.decoded_code.specs.Code.{HasCode}
+use Rattle.paged_memory.specs.PageMap.{memory_of_pages}
 use Rattle.segment.proofs.segment.Segment.run.Goals as goal
 
-pub loop-progress-preserved : goal.loop-progress-preserved
-loop-progress-preserved c =
-    let held = rw c.in-GoesOn.is at c.loop-progress.invariant in
-    progress_more _ _ _ c.in_ok-progress-in-GoesOn.progress held c.in_ok-progress-in-GoesOn.ensures
+pub run_coded-requires : goal.run_coded-requires
+run_coded-requires c =
+    subst (λ (memory : Memory). HasCode c.code-code.result.start c.code-code.result.entries.now memory) (sym (ap memory_of_pages (c.open-view.ensures.pages ∙ c.in_ok-try_clone.ensures.pages))) c.code-code.ensures

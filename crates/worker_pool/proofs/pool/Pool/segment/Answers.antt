@@ -1,8 +1,0 @@
-use Rattle.token.specs.RunInTurn.{point_of}
-use Rattle.worker_pool.proofs.Ends.{needed}
-use Rattle.worker_pool.proofs.pool.Pool.segment.Goals as goal
-
-pub returns-in-Some-awaited-clause-end : goal.returns-in-Some-awaited-clause-end
-returns-in-Some-awaited-clause-end g c =
-    needed g.B.OfRun.setup (point_of c.args.serial.now) c.requires.asked.0 c.phase-2.result c.args.work.now c.in-Some-awaited.end c.requires.asked.1 c.requires.setup c.phase-2.ensures c.requires.need
-    c.in-Some-awaited.ensures.end
