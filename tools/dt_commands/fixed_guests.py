@@ -3,6 +3,8 @@ from dt_commands.random_guests import A0, A7, CODE, CREATE, DATA, EXIT, JOIN, LO
 
 # After so many words come those of the threads.
 FIRST = 1000
+# How many rounds are counted by who works for so long that its phase is shared out.
+LONG = 3000
 TO_ITSELF = [0x0000006F]
 
 
@@ -19,15 +21,32 @@ def endless(threads):
     return file_of(created([0] * threads) + call(SYNC) + TO_ITSELF, FIRST, TO_ITSELF)
 
 
+def meeting(threads):
+    """Thread 0 and so many others call sync without end."""
+    syncs = [*call(SYNC), branch_back(A7, 2)]
+    return file_of(created([0] * threads) + syncs, FIRST, syncs)
+
+
+def counted(rounds):
+    """Counts so many rounds, of two instructions each."""
+    return [*load_number(S0, rounds), imm(S0, S0, -1, 0), branch_back(S0, 1)]
+
+
 def waiting(rounds):
     """Thread 0 counts so many rounds and waits for thread 1, which loops without end in the same phase."""
-    counting = [*load_number(S0, rounds), imm(S0, S0, -1, 0), branch_back(S0, 1)]
-    return file_of(created([0]) + counting + call(JOIN, 1), FIRST, TO_ITSELF)
+    return file_of(created([0]) + counted(rounds) + call(JOIN, 1), FIRST, TO_ITSELF)
+
+
+def racing():
+    """Threads 1 and 2 count for long and store to one byte."""
+    works = [*counted(LONG), *load_number(S0, DATA), store(S0, S0, 0, 0), *call(THREAD_EXIT, 0)]
+    main = created([0, 0]) + call(JOIN, 1) + call(JOIN, 2)
+    return file_of([*main, imm(A0, ZERO, 2, 0), imm(A7, ZERO, EXIT, 0), 0x00000073], FIRST, works)
 
 
 def gaps():
-    """Threads 0, 2 and 4 store and sync some times after threads 1 and 3 have ended."""
-    works = load_number(S0, DATA)
+    """Threads 0, 2 and 4 store and sync some times after threads 1 and 3 have ended. Threads 2 and 4 count for long before."""
+    works = [*counted(LONG), *load_number(S0, DATA)]
     for offset in range(3):
         works += [store(S0, S0, 4 * offset, 2), *call(SYNC)]
     works += call(THREAD_EXIT, 0)

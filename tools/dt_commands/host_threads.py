@@ -11,8 +11,10 @@ import time
 
 from dt_commands import fixed_guests, guest_runs
 
-# Workers, threads of the guest that have work in one phase, and how many host threads there are then.
+# Workers, threads of the guest that have long work in one phase, and how many host threads there are then.
 ROWS = [(1, 5, 1), (2, 2, 2), (2, 5, 2), (3, 5, 3), (4, 3, 3), (64, 1, 1), (64, 2, 2), (64, 5, 5)]
+# With how many workers a guest runs whose threads do nothing but meet, on one host thread.
+MEETING = [2, 64]
 # For how many seconds a run is waited for until it has its host threads, and how often it is looked at.
 PATIENCE, LOOKS = 20, 200
 # How many instructions a thread executes while others wait, and how many seconds of processor time are no wait's.
@@ -43,16 +45,24 @@ def started(file, workers, wanted):
         process.wait()
 
 
+def count_fails_in(room, guest, workers, wanted, what):
+    """Counts host threads of an endless run. Returns whether it has others than it should."""
+    file = f"{room}/guest.elf"
+    with open(file, "wb") as it:
+        it.write(guest)
+    found = started(file, workers, wanted)
+    print(f"{workers} workers, {what}: {found} host threads{'' if found == wanted else f', not {wanted}'}", flush=True)
+    return found != wanted
+
+
 def count_fails(room):
     """Counts host threads of endless runs. Returns how many runs had others than they should."""
     failed = 0
     for workers, busy, wanted in ROWS:
-        file = f"{room}/endless-{busy}.elf"
-        with open(file, "wb") as it:
-            it.write(fixed_guests.endless(busy - 1))
-        found = started(file, workers, wanted)
-        failed += found != wanted
-        print(f"{workers} workers, {busy} threads with work: {found} host threads{'' if found == wanted else f', not {wanted}'}", flush=True)
+        guest = fixed_guests.endless(busy - 1)
+        failed += count_fails_in(room, guest, workers, wanted, f"{busy} threads with work")
+    for workers in MEETING:
+        failed += count_fails_in(room, fixed_guests.meeting(4), workers, 1, "5 threads that meet")
     return failed
 
 
@@ -86,5 +96,5 @@ def test(options):
     """Tests host threads of runs of the program."""
     with tempfile.TemporaryDirectory(prefix="host-threads-") as room:
         failed = count_fails(room) + wait_fails(room)
-    print(f"{len(ROWS) + len(WAITING)} runs, {failed} failed")
+    print(f"{len(ROWS) + len(MEETING) + len(WAITING)} runs, {failed} failed")
     return 1 if failed else 0

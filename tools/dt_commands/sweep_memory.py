@@ -6,8 +6,8 @@ else. `dthreads` runs, lists and records small guests, replays schedules, and de
 then standard output has a prefix of the true output, and no file was written after the first that lacks. `phase_failures` runs phases of
 these guests: each of its lines is the true one or says out of memory, and its draws take no memory.
 
-A run that doesn't end within SECONDS hangs. `--gate` sweeps the runs of two guests by several workers alone, as .ci/run does: of one of them
-the ready threads have gaps in their numbers. And it sweeps a run that is refused, since two of its outputs are one file under two names.
+A run that doesn't end within SECONDS hangs. `--gate` sweeps the runs of two guests by several workers alone, as .ci/run does: their phases are
+shared out, since jobs are long, and of one of them the ready threads have gaps in their numbers. And it sweeps a run that is refused, since two of its outputs are one file under two names.
 
 It needs a C compiler; without one `--gate` says so and passes. DTHREADS names a built program to run the guests with, or else it is built.
 """
@@ -215,17 +215,12 @@ def runs(room, program):
             yield f"run {guest}, {workers} workers, recorded", Sweep(room, recorded, given, RECORDS)
 
 
-def gaps(room):
-    """Writes the guest whose ready threads have gaps in their numbers, and returns its path."""
-    file = f"{room}/gaps.elf"
-    with open(file, "wb") as it:
-        it.write(fixed_guests.gaps())
-    return file
-
-
 def by_workers(room, program):
-    """Yields the sweeps of the gate, each with its name: two guests by two and by four workers."""
-    for guest, file in (("race", f"{TOP}/samples/race.elf"), ("gaps", gaps(room))):
+    """Yields the sweeps of the gate, each with its name: two guests with long jobs by two and by four workers."""
+    for guest, code in (("racing", fixed_guests.racing()), ("gaps", fixed_guests.gaps())):
+        file = f"{room}/{guest}.elf"
+        with open(file, "wb") as it:
+            it.write(code)
         for workers in "24":
             words = [program, "run", file, "--workers", workers]
             yield f"run {guest}, {workers} workers", Sweep(room, words, seconds=GATE_SECONDS)
@@ -308,7 +303,7 @@ def sweep(options):
                 progress.at = name
                 does(room, built(name))
         program = dthreads()
-        every = [*runs(room, program), *list(by_workers(room, program))[2:], *one_file(room, program), *replays(room, program), *debugs(room, program)]
+        every = [*runs(room, program), *by_workers(room, program), *one_file(room, program), *replays(room, program), *debugs(room, program)]
         chosen = [it for it in every if options.word in it[0]]
         progress.total = len(chosen)
         for name, one in progress.each(chosen, lambda it: it[0]):

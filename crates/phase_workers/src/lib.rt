@@ -25,5 +25,4 @@ pub use crew::Crew;
 pub use desk::Desk;
 pub use end_facts::EndFacts;
 pub use hand::Hand;
-pub use held::Held;
 pub use shared_phase::SharedPhase;

@@ -1,5 +1,5 @@
 -- What the need of the next turn says of where the run stands.
-use Rattle.std.proofs.Common.{◌≡◌, ◌∙◌, Option, Some, None, ap, refl, sym}
+use Rattle.std.proofs.Common.{◌≡◌, ◌∙◌, Option, Some, None, Result, Ok, Err, OnErr, ap, refl, sym}
 use Rattle.token.specs.Point.{Point, due_at, need_at, need_by, need_of}
 use Rattle.token.specs.Serial.{IsLonger}
 use Rattle.token.specs.declared.due.Due.{Due}
@@ -33,3 +33,8 @@ end_at point asked is = end_by point.ended (need_of point (due_at point)) (end_o
 pub goes_on : (ends : Option RunOutcome) (old new : Point) → ((outcome : RunOutcome) → ends ≡ Some outcome → ⊥) → Moves ends old new → IsLonger old new
 goes_on (Some outcome) old new none moves = absurd (none outcome refl)
 goes_on None old new none moves = moves
+
+-- what is right anyway is right after an error
+pub on_err : {T E : Type 0} → (answer : Result T E) (Is : Type 0) → Is → OnErr answer Is
+on_err (Ok given) Is is = tt
+on_err (Err fault) Is is = is

@@ -37,9 +37,9 @@ prefix_more start old new before fresh whole is sent prefix =
     (before ++ prefix.0, starts_more before fresh prefix.0 prefix.1, appends_more start old new before prefix.0 sent prefix.2)
 
 -- a turn was done, and the sink failed at what it wrote
-pub unsent : {S : Type 0} (writes : Type 0) (taken : S → Option (List ℕ)) (failed : S → ℕ) (run run' : RunInTurn) (sink sink' : S) (fresh : List ℕ)
+pub unsent : {T S : Type 0} {outcome_in : T → Option RunOutcome} (writes : Type 0) (taken : S → Option (List ℕ)) (failed : S → ℕ) (run run' : RunInTurn) (sink sink' : S) (fresh : List ℕ)
     → IsLonger (point_of run) (point_of run') → fresh ≡ fresh_at (point_of run') → AppendsPrefix fresh (taken sink) (taken sink') → failed sink' ≡ failed sink + 1
-    → GoesOn {T = Option RunOutcome} writes taken failed (λ ends. ends) (Err WriteFailed) run run' sink sink'
+    → GoesOn {T = T} writes taken failed outcome_in (Err WriteFailed) run run' sink sink'
 unsent writes taken failed run run' sink sink' fresh longer is prefix once =
     let before : List ℕ = (point_of run).state.output in
     record {

@@ -7,6 +7,9 @@ use Rattle.token.specs.Setup.{Setup}
 use Rattle.token.specs.declared.outcome.RunOutcome.{RunOutcome}
 use Rattle.token.specs.declared.run_in_turn.RunInTurn.{RunInTurn}
 use Rattle.runtime.specs.Sending.{CountsFailures, SendsOn}
+use Rattle.worker_pool.specs.Jobs.{PoolState}
+use Rattle.runtime.specs.declared.look.Look.{Look}
+use Rattle.runtime.specs.declared.look.Look.TheVariants as look
 use Rattle.runtime.specs.declared.interruption.Interruption.{Interruption}
 use Rattle.runtime.specs.declared.interruption.Interruption.TheVariants.{WriteFailed, RecordFailed}
 
@@ -14,6 +17,22 @@ use Rattle.runtime.specs.declared.interruption.Interruption.TheVariants.{WriteFa
 abbrev pub Moves : Option RunOutcome → Point → Point → Type 0
 Moves (Some ends) old new = (old.ended ≡ Some ends) × (new ≡ old)
 Moves None old new = IsLonger old new
+
+-- what comes of it beside workers: the same, or the run is as it was
+abbrev pub MovesBeside : Look → Point → Point → Type 0
+MovesBeside (look.Ended ends) old new = Moves (Some ends) old new
+MovesBeside look.Turned old new = Moves None old new
+MovesBeside look.WantsWorker old new = new ≡ old
+
+-- how the run had ended, if it had
+abbrev pub found_end : Look → Option RunOutcome
+found_end (look.Ended ends) = Some ends
+found_end look.Turned = None
+found_end look.WantsWorker = None
+
+-- a worker more is wanted only if there may be one
+abbrev pub WantsOnly : {E : Type 0} → Result Look E → PoolState → Type 0
+WantsOnly result pool = IfOk result (λ found. found ≡ look.WantsWorker → pool.hands < pool.most)
 
 -- a run of this setup may go on with a sink: its count of failures has room
 pub record MayGoOn {S : Type 0} (failed : S → ℕ) (setup : Setup) (run : RunInTurn) (sink : S) : Type 0 where

@@ -4,6 +4,7 @@
 mod all_taken;
 mod config;
 mod interruption;
+mod look;
 mod open_fault;
 mod opening;
 mod recorded_run;

@@ -9,6 +9,7 @@ mod every_way;
 mod listings;
 mod phases;
 mod recorded;
+mod sharing_gate;
 mod turn_by_turn;
 mod walked;
 mod whole_runs;

@@ -1,8 +1,9 @@
 //! Whole runs by the run time, with few and with many workers.
 
 use crate::case::{Case, ending_text};
+use crate::sharing_gate::SharingGate;
 use anyhow::{Result, anyhow};
-use runtime::{Config, OpenGate, Report, run};
+use runtime::{Config, Gate, OpenGate, Report, run};
 use sharing_report::report_text;
 use std::alloc::{AllocError, Global};
 use std::sync::Wait;
@@ -13,7 +14,7 @@ use tracer::trace_text;
 /// The numbers of workers that each run is made with.
 const WORKERS: [u32; 5] = [1, 2, 3, 4, 64];
 
-/// Compares the report of a run with each number of workers.
+/// Compares the report of a run with each number of workers, and with four that share no short phase.
 pub fn compare(
     rt: &(impl Threads + Wait + Sync),
     alloc: Global,
@@ -21,11 +22,12 @@ pub fn compare(
     found: &mut Differences,
 ) -> Result<()> {
     for workers in WORKERS {
-        let report = report_of(rt, alloc, case, workers)?;
+        let report = report_of(rt, alloc, case, workers, &SharingGate)?;
         let how = format!(in alloc; "with {workers} workers")?;
         compare_report(alloc, case, &report, how.as_str(), found)?;
     }
-    Ok(())
+    let report = report_of(rt, alloc, case, 4, &OpenGate)?;
+    Ok(compare_report(alloc, case, &report, "with 4 workers on call", found)?)
 }
 
 /// Compares the report of a run with four workers.
@@ -35,7 +37,7 @@ pub fn compare_once(
     case: Case<'_>,
     found: &mut Differences,
 ) -> Result<()> {
-    let report = report_of(rt, alloc, case, 4)?;
+    let report = report_of(rt, alloc, case, 4, &SharingGate)?;
     Ok(compare_report(alloc, case, &report, "with 4 workers", found)?)
 }
 
@@ -45,13 +47,14 @@ fn report_of(
     alloc: Global,
     case: Case<'_>,
     workers: u32,
+    gate: &(impl Gate + Sync),
 ) -> Result<Report> {
     let config = Config {
         bound: case.bound(),
         quantum: case.quantum(),
         workers,
     };
-    match run(rt, alloc, case.file, &case.run.input, &config, &OpenGate) {
+    match run(rt, alloc, case.file, &case.run.input, &config, gate) {
         Ok(report) => Ok(report),
         Err(fault) => Err(anyhow!("{fault}")),
     }

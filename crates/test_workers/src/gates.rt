@@ -54,10 +54,11 @@ struct Listening {
     turns: AtomicU64,
     /// Of each turn its thread.
     threads: [AtomicU64; KEPT],
+    first_shared: u32,
 }
 
 impl Listening {
-    fn new() -> Self {
+    fn of(first_shared: u32) -> Self {
         Listening {
             passes: AtomicU64::new(0),
             workers: std::array::from_fn(|_| AtomicU64::new(0)),
@@ -65,6 +66,7 @@ impl Listening {
             turns_at: std::array::from_fn(|_| AtomicU64::new(0)),
             turns: AtomicU64::new(0),
             threads: std::array::from_fn(|_| AtomicU64::new(0)),
+            first_shared,
         }
     }
 }
@@ -81,6 +83,10 @@ impl Gate for Listening {
         let place = self.turns.fetch_add(1, Ordering::SeqCst);
         keep(&self.threads, place, u64::from(thread));
     }
+
+    fn first_shared(&self) -> u32 {
+        self.first_shared
+    }
 }
 
 /// Keeps a number at its place, where there is room.
@@ -96,21 +102,32 @@ fn kept(list: &[AtomicU64], place: usize) -> u64 {
         .map_or(0, |kept| kept.load(Ordering::SeqCst))
 }
 
-/// Asserts what a gate is told of the run of a program by so many workers.
+/// The host threads of a run.
+#[derive(Clone, Copy)]
+struct Hands {
+    /// How many there may be.
+    workers: u32,
+    /// How many phases are shared out from the beginning on.
+    first_shared: u32,
+    /// How many take jobs at most.
+    working: u32,
+}
+
+/// Asserts what a gate is told of the run of a program by such host threads.
 fn assert_told(
     rt: &(impl Abort + Threads + Wait + Sync),
     alloc: Global,
     program: &Program,
     passes: &[Pass],
     turns: &[u64],
-    workers: u32,
+    hands: Hands,
 ) -> Result<(), Fail> {
     let config = Config {
         bound: MAX_BOUND,
         quantum: None,
-        workers,
+        workers: hands.workers,
     };
-    let gate = Listening::new();
+    let gate = Listening::of(hands.first_shared);
     run(rt, alloc, &program.file(alloc)?, &[], &config, &gate)?;
     let counts = [
         gate.passes.load(Ordering::SeqCst),
@@ -122,7 +139,7 @@ fn assert_told(
         "{}",
         program.name
     );
-    assert_passes(rt, &gate, passes, workers, program.name);
+    assert_passes(rt, &gate, passes, hands.working, program.name);
     for (place, thread) in turns.iter().enumerate() {
         assert_eq!(rt;
             kept(&gate.threads, place),
@@ -134,13 +151,13 @@ fn assert_told(
     Ok(())
 }
 
-/// Asserts that a gate was told of each of these passes, by one of so many workers. One worker makes them in this order.
-fn assert_passes(rt: &impl Abort, gate: &Listening, passes: &[Pass], workers: u32, name: &str) {
+/// Asserts that a gate was told of each of these passes, by one of so many host threads. One makes them in this order.
+fn assert_passes(rt: &impl Abort, gate: &Listening, passes: &[Pass], working: u32, name: &str) {
     for (place, pass) in passes.iter().enumerate() {
-        let is_told = if workers == 1 {
-            is_pass(gate, place, pass, workers)
+        let is_told = if working == 1 {
+            is_pass(gate, place, pass, working)
         } else {
-            is_among(gate, passes.len(), pass, workers)
+            is_among(gate, passes.len(), pass, working)
         };
         assert!(rt; is_told, "{name} {place}");
     }
@@ -168,9 +185,26 @@ fn is_pass(gate: &Listening, place: usize, (job, least, most): &Pass, workers: u
 #[test]
 fn a_gate_is_told_of_each_job_and_turn(rt: HostRuntime) -> Result<(), Fail> {
     for workers in [1, 2, 3] {
+        let hands = Hands {
+            workers,
+            first_shared: u32::MAX,
+            working: workers,
+        };
         let alloc = rt.alloc();
-        assert_told(&rt, alloc, &RACE, &RACE_PASSES, &RACE_TURNS, workers)?;
-        assert_told(&rt, alloc, &SIGNAL, &SIGNAL_PASSES, &SIGNAL_TURNS, workers)?;
+        assert_told(&rt, alloc, &RACE, &RACE_PASSES, &RACE_TURNS, hands)?;
+        assert_told(&rt, alloc, &SIGNAL, &SIGNAL_PASSES, &SIGNAL_TURNS, hands)?;
     }
     Ok(())
+}
+
+#[test]
+fn the_caller_takes_each_job_while_all_are_short(rt: HostRuntime) -> Result<(), Fail> {
+    let hands = Hands {
+        workers: 3,
+        first_shared: 0,
+        working: 1,
+    };
+    let alloc = rt.alloc();
+    assert_told(&rt, alloc, &RACE, &RACE_PASSES, &RACE_TURNS, hands)?;
+    assert_told(&rt, alloc, &SIGNAL, &SIGNAL_PASSES, &SIGNAL_TURNS, hands)
 }

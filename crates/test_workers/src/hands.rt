@@ -20,13 +20,18 @@ const TIMES: u32 = 100;
 /// The number of the caller among the workers.
 const CALLER: u32 = 0;
 
-/// How many turns of `late-work` come before phase 22. So many phases with two jobs were short by then that the caller
-/// executes the beginning of a long job alone.
+/// How many turns of `late-work` come before phase 22. If no phase is shared out from the beginning on, or sixteen are,
+/// the caller executes the beginning of its long job alone.
 const BEFORE_LATE: u64 = 45;
 
 /// What host threads do once some turns are done, before each job that they have drawn.
 trait Holding {
     fn hold<R: Clock>(&self, seen: &Seen<'_, R>, worker: u32, job: u32);
+
+    /// How many phases are shared out from the beginning on.
+    fn first_shared(&self) -> u32 {
+        u32::MAX
+    }
 }
 
 /// A gate that counts turns, and holds host threads once so many are done.
@@ -56,6 +61,10 @@ impl<'a, R: Clock, H: Holding> Gate for Held<'a, R, H> {
 
     fn turned(&self, _thread: u32) {
         self.seen.count_turn();
+    }
+
+    fn first_shared(&self) -> u32 {
+        self.holding.first_shared()
     }
 }
 
@@ -155,13 +164,19 @@ impl Holding for EndlessCaller {
 
 /// Sees whether the worker takes a job of phase 22 of `late-work` beside the first one, whose turn comes first there.
 #[derive(Drop)]
-struct LateWork;
+struct LateWork {
+    first_shared: u32,
+}
 
 impl Holding for LateWork {
     fn hold<R: Clock>(&self, seen: &Seen<'_, R>, worker: u32, _job: u32) {
         if worker != CALLER && seen.has_done(BEFORE_LATE) && !seen.has_done(BEFORE_LATE + 1) {
             reach(&seen.first);
         }
+    }
+
+    fn first_shared(&self) -> u32 {
+        self.first_shared
     }
 }
 
@@ -240,15 +255,18 @@ fn a_keeper_exits_beside_an_endless_job_of_the_caller(rt: HostRuntime) -> Result
     assert_runs(&rt, rt.alloc(), case, 2, &EndlessCaller)
 }
 
-/// The worker has the milliseconds of one job to come in, and has to in one run at least.
-#[test]
-fn a_phase_whose_first_job_the_caller_began_alone_is_shared_out(
-    rt: HostRuntime,
+/// Asserts that a worker comes in at the long jobs of `late-work`, if so many phases are shared out from the beginning on.
+/// It has the milliseconds of one job for that, and has to in one run at least.
+fn assert_late_work(
+    rt: &(impl Abort + Clock + Threads + Wait + Sync),
+    alloc: Global,
+    first_shared: u32,
 ) -> Result<(), Fail> {
+    let holding = LateWork { first_shared };
     let mut is_shared = false;
     for _ in 0..TIMES {
-        let gate = Held::by(&rt, BEFORE, &LateWork)?;
-        let report = report_of(&rt, rt.alloc(), &LATE_WORK, 2, &gate)?;
+        let gate = Held::by(rt, BEFORE, &holding)?;
+        let report = report_of(rt, alloc, &LATE_WORK, 2, &gate)?;
         assert_eq!(rt; report.outcome, RunOutcome::Exit(0));
         if is_reached(&gate.seen.first) {
             is_shared = true;
@@ -256,4 +274,16 @@ fn a_phase_whose_first_job_the_caller_began_alone_is_shared_out(
     }
     assert!(rt; is_shared);
     Ok(())
+}
+
+#[test]
+fn a_phase_whose_first_job_the_caller_began_alone_is_shared_out(
+    rt: HostRuntime,
+) -> Result<(), Fail> {
+    assert_late_work(&rt, rt.alloc(), 16)
+}
+
+#[test]
+fn a_worker_is_started_once_a_job_is_long(rt: HostRuntime) -> Result<(), Fail> {
+    assert_late_work(&rt, rt.alloc(), 0)
 }

@@ -1,5 +1,5 @@
 //! The caller's side of the pool: gives the end of the needed segment, whoever executed it. May wait for a worker.
-ghost use Rattle.std.specs.Prelude.{◌≡◌, ◌+◌, ◌<◌, ◌≤◌, true, IfOk, IfSome};
+ghost use Rattle.std.specs.Prelude.{◌≡◌, ◌+◌, ◌<◌, ◌≤◌, true, IfOk, IfSome, IfNone};
 ghost use Rattle.claim_table.specs.Logs.{most_seats};
 ghost use Rattle.segment.specs.Ends.{IsEndOf};
 ghost use Rattle.token.specs.Point.{need_at};
@@ -22,10 +22,10 @@ use token::{Need, Recorder, Serial, Work};
 /// The number of the caller among the host threads of a run.
 const CALLER: u32 = 0;
 
-/// How many instructions of a job the caller executes alone before it shares its phase out.
+/// How many instructions of a job the caller executes alone before it shares its phase out. A job with so many is long.
 const FIRST: u64 = 4096;
 
-/// How many phases are shared out at once after a job of `FIRST` instructions or more.
+/// How many phases are shared out at once after a long job.
 const CREDIT: u32 = 16;
 
 /// The host threads of a run, as the caller has them: it gives the end of each segment that the run needs next,
@@ -42,6 +42,7 @@ pub struct Pool<B: OfRun> {
     phase: u64,
     /// How many of its jobs the caller took without sharing it out.
     taken: u32,
+    /// How many phases more are shared out at once.
     credit: u32,
 }
 
@@ -58,8 +59,9 @@ impl<B: OfRun> Model for Pool<B> {
 }
 
 impl<B: OfRun + Send + Sync> Pool<B> {
-    /// The caller alone, who may hire workers up to so many host threads in all, 1 to 64.
-    pub fn new(alloc: Global, most: u32) -> Self
+    /// The caller alone, who may hire workers up to so many host threads in all, 1 to 64. So many phases are shared out
+    /// at once, however short their jobs are.
+    pub fn new(alloc: Global, most: u32, credit: u32) -> Self
         requires { (0 < most) × (most ≤ most_seats) }
         ensures { result ≡ record { most = most; hands = 1 } }
     {
@@ -70,16 +72,17 @@ impl<B: OfRun + Send + Sync> Pool<B> {
             desk: Desk::new(),
             phase: 0,
             taken: 0,
-            credit: CREDIT,
+            credit,
         }
     }
 
-    /// Whether the present phase has work for one host thread more, and there may be one.
-    pub fn wants_worker<K: Recorder>(&self, serial: &Serial<K>) -> bool
+    /// Whether the present phase is to be shared out, has work for one host thread more, and there may be one.
+    fn wants_worker<K: Recorder>(&self, serial: &Serial<K>) -> bool
         ensures { result ≡ true → self.now.hands < self.now.most }
     {
         let hands = self.hands as usize;
-        self.hands < self.most
+        self.credit > 0
+            && self.hands < self.most
             && serial.list().len() > hands
             && serial.base_threads().ready_list().len() > hands
     }
@@ -106,54 +109,83 @@ impl<B: OfRun + Send + Sync> Pool<B> {
         self.desk.dismiss();
     }
 
-    /// The end of the segment that a run needs next, on the memory that its phase began with. The caller works at
-    /// jobs of the phase until it is there.
+    /// Comes to the phase of a run, and answers whether nobody but the caller has to do with it: there may be no worker, or
+    /// there is no second job.
+    pub fn is_alone<K: Recorder>(&mut self, serial: &Serial<K>) -> bool
+        ensures { self.new ≡ self.old }
+    {
+        self.come_to(serial.phase());
+        !self.desk.is_shared_out() && (self.most < 2 || serial.list().len() < 2)
+    }
+
+    /// The end of the segment that a run needs next, on the memory that its phase began with. The caller executes it.
+    pub fn segment_alone<K: Recorder, G: Gate>(
+        &mut self,
+        serial: &Serial<K>,
+        work: &Work,
+        gate: &G,
+    ) -> Result<SegmentEnd, AllocError>
+        ensures end { IfOk result (IsEndOf (point_of serial.now).base work.now.segment) }
+        ensures same { self.new ≡ self.old }
+    {
+        self.tell(gate);
+        self.count();
+        work.segment.run(serial.base())
+    }
+
+    /// The end of the segment that a run needs next, on the memory that its phase began with. The caller works at jobs of
+    /// the phase until it is there. None if a worker is wanted first: the segment is long, and the phase has work for one
+    /// host thread more.
     pub fn segment<R: Wait, K: Recorder, G: Gate>(
         &mut self,
         rt: &R,
         serial: &Serial<K>,
         work: &Work,
         gate: &G,
-    ) -> Result<SegmentEnd, AllocError>
+    ) -> Result<Option<SegmentEnd>, AllocError>
         requires setup { (point_of serial.now).setup ≡ B.setup }
         requires asked { IsAskedFor serial.now }
         requires need { need_at (point_of serial.now) ≡ Need.Segment work.now }
-        ensures end { IfOk result (IsEndOf (point_of serial.now).base work.now.segment) }
+        ensures end { IfOk result (λ end. IfSome end (IsEndOf (point_of serial.now).base work.now.segment)) }
+        ensures wants { IfOk result (λ end. IfNone end (self.old.hands < self.old.most)) }
         ensures same { self.new ≡ self.old }
     {
-        self.come_to(serial.phase());
-        if self.is_alone(serial) {
-            self.pass(gate);
-            return work.segment.run(serial.base());
+        if self.credit > 0 || self.desk.is_shared_out() {
+            return self.segment_beside(rt, serial, work, gate);
         }
+        self.tell(gate);
+        let end = work.segment.run_within(serial.base(), FIRST)?;
+        if end.is_some() {
+            self.count();
+            return Ok(end);
+        }
+        self.credit = CREDIT;
         self.segment_beside(rt, serial, work, gate)
     }
 
-    /// Whether nobody but the caller has to do with the present phase.
-    fn is_alone<K: Recorder>(&self, serial: &Serial<K>) -> bool {
-        !self.desk.is_shared_out() && (!self.desk.has_crew() || serial.list().len() < 2)
-    }
-
-    /// The end of the segment that the run needs next, where workers may execute it.
+    /// The end of the segment that the run needs next, with its phase shared out. None if a worker is wanted first.
+    #[inline(never)]
     fn segment_beside<R: Wait, K: Recorder, G: Gate>(
         &mut self,
         rt: &R,
         serial: &Serial<K>,
         work: &Work,
         gate: &G,
-    ) -> Result<SegmentEnd, AllocError>
+    ) -> Result<Option<SegmentEnd>, AllocError>
         requires { NeedsEnd B.setup serial.now work.now }
-        ensures end { IfOk result (IsEndOf (point_of serial.now).base work.now.segment) }
+        ensures end { IfOk result (λ end. IfSome end (IsEndOf (point_of serial.now).base work.now.segment)) }
+        ensures wants { IfOk result (λ end. IfNone end (self.old.hands < self.old.most)) }
         ensures same { self.new ≡ self.old }
     {
         if !self.desk.is_shared_out() {
-            if let Some(end) = self.begin(rt, serial, work, gate)? {
-                return Ok(end);
+            if self.wants_worker(serial) {
+                return Ok(None);
             }
+            self.share_on_credit(rt, serial, gate, work.thread);
         }
         match self.awaited(rt, gate, serial.phase(), work.thread) {
-            Some(end) => Ok(end),
-            None => work.segment.run(serial.base()),
+            Some(end) => Ok(Some(end)),
+            None => Ok(Some(work.segment.run(serial.base())?)),
         }
     }
 
@@ -168,53 +200,35 @@ impl<B: OfRun + Send + Sync> Pool<B> {
         }
     }
 
-    /// Passes the gate with the next job, which the caller takes without sharing its phase out.
-    fn pass<G: Gate>(&mut self, gate: &G)
-        ensures { self.new ≡ self.old }
-    {
-        let job = self.taken;
-        self.taken = job.saturating_add(1);
-        gate.pass(CALLER, job);
+    /// Tells the gate of the next job that the caller takes without sharing its phase out.
+    fn tell<G: Gate>(&self, gate: &G) {
+        gate.pass(CALLER, self.taken);
     }
 
-    /// The end of the segment that the run needs next, where its phase isn't shared out. None where from now on it is.
-    fn begin<R: Wait, K: Recorder, G: Gate>(
+    /// Counts that job.
+    fn count(&mut self)
+        ensures { self.new ≡ self.old }
+    {
+        self.taken = self.taken.saturating_add(1);
+    }
+
+    /// Shares the present phase out, from this thread on. If that can't be done, the caller takes the thread's job.
+    fn share_on_credit<R: Wait, K: Recorder, G: Gate>(
         &mut self,
         rt: &R,
         serial: &Serial<K>,
-        work: &Work,
         gate: &G,
-    ) -> Result<Option<SegmentEnd>, AllocError>
-        requires { NeedsEnd B.setup serial.now work.now }
-        ensures end { IfOk result (λ end. IfSome end (IsEndOf (point_of serial.now).base work.now.segment)) }
-        ensures same { self.new ≡ self.old }
-    {
-        if self.credit > 0 {
-            self.credit -= 1;
-            if self.share(rt, serial, work.thread) {
-                return Ok(None);
-            }
-            self.pass(gate);
-            return Ok(Some(work.segment.run(serial.base())?));
-        }
-        self.pass(gate);
-        if let Some(end) = work.segment.run_within(serial.base(), FIRST)? {
-            return Ok(Some(end));
-        }
-        self.credit = CREDIT;
-        if self.share(rt, serial, work.thread) {
-            return Ok(None);
-        }
-        Ok(Some(work.segment.run(serial.base())?))
-    }
-
-    /// Shares the present phase out, from this thread on. Whether that could be done.
-    fn share<R: Wait, K: Recorder>(&mut self, rt: &R, serial: &Serial<K>, thread: u32) -> bool
+        thread: u32,
+    )
         requires { IsAsked B.setup serial.now }
         ensures { self.new ≡ self.old }
     {
+        self.credit = self.credit.saturating_sub(1);
         let desk = &mut self.desk;
-        share_out(rt, self.alloc, desk, serial, self.most, thread).unwrap_or(false)
+        if !share_out(rt, self.alloc, desk, serial, self.most, thread).unwrap_or(false) {
+            self.tell(gate);
+            self.count();
+        }
     }
 
     /// The end of a thread's segment in a phase, once it is there. None where it doesn't come.

@@ -1,11 +1,9 @@
-use Rattle.std.proofs.Common.{Option, Result, Ok, Err, OnErr, refl, sym, subst}
+use Rattle.std.proofs.Common.{refl, sym, subst}
 use Rattle.guest_memory.specs.Memory.{Memory}
 use Rattle.segment.specs.Ends.{IsEndOf}
 use Rattle.token.specs.RunInTurn.{point_of}
 use Rattle.token.proofs.Needs.{segment_needed, keeper_needed}
-use Rattle.token.specs.declared.outcome.RunOutcome.{RunOutcome}
-use Rattle.token.specs.declared.turn_fault.TurnFault.{TurnFault}
-use Rattle.runtime.proofs.Needs.{end_at}
+use Rattle.runtime.proofs.Needs.{end_at, on_err}
 use Rattle.runtime.proofs.turns.take_turn.Goals as goal
 
 pub turn-requires : goal.turn-requires
@@ -21,10 +19,6 @@ pub returns-in-Ended-clause-moved : goal.returns-in-Ended-clause-moved
 returns-in-Ended-clause-moved g c = (end_at (point_of c.args.serial.now) _ c.in-Ended.ensures.need, refl)
 
 -- ---- a turn that failed was one of a run that goes on
-
-on_err : (answer : Result (Option RunOutcome) TurnFault) (Is : Type 0) → Is → OnErr answer Is
-on_err (Ok ends) Is is = tt
-on_err (Err fault) Is is = is
 
 pub returns-in_err-end-in-Segment-clause-unended : goal.returns-in_err-end-in-Segment-clause-unended
 returns-in_err-end-in-Segment-clause-unended g c = on_err _ _ (end_at (point_of c.args.serial.now) _ c.in-Segment.ensures.need)
