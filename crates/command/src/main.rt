@@ -28,8 +28,6 @@ fn main(rt: HostRuntime) -> ExitCode {
 }
 
 /// Says why the arguments can't be read, and answers the status for it.
-#[cold]
-#[inline(never)]
 fn refused<W: Write>(failure: Failure<'_>, stderr: &mut W) -> ExitCode {
     ExitCode::from(conclude(Err(failure), stderr))
 }
