@@ -38,8 +38,8 @@ def waiting(rounds):
 
 
 def racing():
-    """Threads 1 and 2 count for long and store to one byte."""
-    works = [*counted(LONG), *load_number(S0, DATA), store(S0, S0, 0, 0), *call(THREAD_EXIT, 0)]
+    """Threads 1 and 2 count for long and change one word."""
+    works = [*counted(LONG), *load_number(S0, DATA), store(S0, S0, 0, 2), *call(THREAD_EXIT, 0)]
     main = created([0, 0]) + call(JOIN, 1) + call(JOIN, 2)
     return file_of([*main, imm(A0, ZERO, 2, 0), imm(A7, ZERO, EXIT, 0), 0x00000073], FIRST, works)
 

@@ -7,7 +7,8 @@ then standard output has a prefix of the true output, and no file was written af
 these guests: each of its lines is the true one or says out of memory, and its draws take no memory.
 
 A run that doesn't end within SECONDS hangs. `--gate` sweeps the runs of two guests by several workers alone, as .ci/run does: their phases are
-shared out, since jobs are long, and of one of them the ready threads have gaps in their numbers. And it sweeps a run that is refused, since two of its outputs are one file under two names.
+shared out, since jobs are long, and of one of them the ready threads have gaps in their numbers. And it sweeps a run that is refused, since
+two of its outputs are one file under two names.
 
 It needs a C compiler; without one `--gate` says so and passes. DTHREADS names a built program to run the guests with, or else it is built.
 """
