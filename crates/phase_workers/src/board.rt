@@ -108,7 +108,8 @@ impl<F: EndFacts + Send + Sync> Board<F> {
     fn step<G: Gate>(&mut self, gate: &G) -> bool
         ensures { StepsOn self.old self.new result }
     {
-        match self.hand.step(self.shared.jobs(), gate) {
+        let gate = self.shared.telling(gate);
+        match self.hand.step(self.shared.jobs(), &gate) {
             Stepped::NoneLeft => return false,
             Stepped::GoesOn => {}
             Stepped::Over { number, told } => {

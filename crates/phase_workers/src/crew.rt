@@ -53,11 +53,12 @@ impl<F: EndFacts + Send + Sync> Crew<F> {
     fn work_at<R: Wait, G: Gate>(&self, rt: &R, gate: &G, shared: &SharedPhase<F>, hand: &mut Hand)
         requires { Has shared.now.phase hand.old }
     {
+        let gate = shared.telling(gate);
         for _ in rt.forever() {
             if self.signals.stop_word.is_said() {
                 return;
             }
-            match hand.step(shared.jobs(), gate) {
+            match hand.step(shared.jobs(), &gate) {
                 Stepped::NoneLeft => return,
                 Stepped::GoesOn => {}
                 Stepped::Over { number, told } => {

@@ -14,6 +14,7 @@ mod hand;
 mod held;
 mod line;
 mod offer;
+mod once_told;
 mod post;
 mod shared_phase;
 mod signals;

@@ -4,9 +4,10 @@ ghost use Rattle.phase_workers.specs.Hands.{IsTold};
 ghost use Rattle.phase_workers.specs.Sharing.{IsShared};
 
 use crate::end_facts::EndFacts;
+use crate::once_told::OnceTold;
 use crate::post::Post;
 use crate::told::Told;
-use phase_jobs::SharedJobs;
+use phase_jobs::{Gate, SharedJobs};
 use std::marker::{Model, PhantomData};
 
 /// A phase whose jobs several host threads draw.
@@ -16,6 +17,8 @@ pub struct SharedPhase<F: EndFacts> {
     /// The name of each job, in their order.
     names: Vec<u32>,
     jobs: SharedJobs,
+    /// The number of the job of which the gate was told before the phase was shared out.
+    told: Option<u32>,
     of: PhantomData<F>,
 }
 
@@ -39,8 +42,21 @@ impl<F: EndFacts> SharedPhase<F> {
             number,
             names,
             jobs,
+            told: None,
             of: PhantomData,
         }
+    }
+
+    /// The same phase, of which the gate was told of this job before.
+    pub fn with_told(self, told: Option<u32>) -> Self
+        ensures { result ≡ self }
+    {
+        SharedPhase { told, ..self }
+    }
+
+    /// The gate that is told of the jobs of which it wasn't told before.
+    pub(crate) fn telling<'a, G: Gate>(&self, gate: &'a G) -> OnceTold<'a, G> {
+        OnceTold::new(gate, self.told)
     }
 
     /// The names of its jobs, in their order.

@@ -89,6 +89,39 @@ impl<'a, R: Clock> Gate for Tie<'a, R> {
     }
 }
 
+/// The gate of two jobs and two workers: job 0 waits until job 1 was drawn, so the other worker has that.
+#[derive(Drop)]
+pub struct Waiting<'a, R> {
+    patience: Patience<'a, R>,
+    second: Flag,
+    late: Flag,
+}
+
+impl<'a, R: Clock> Waiting<'a, R> {
+    pub fn new(rt: &'a R) -> Result<Self> {
+        Ok(Waiting {
+            patience: Patience::new(rt)?,
+            second: Flag::new(),
+            late: Flag::new(),
+        })
+    }
+
+    /// Whether job 0 waited in vain.
+    pub fn has_failed(&self) -> bool {
+        self.late.is_up()
+    }
+}
+
+impl<'a, R: Clock> Gate for Waiting<'a, R> {
+    fn pass(&self, _worker: u32, job: u32) {
+        if job > 0 {
+            self.second.raise();
+        } else if !self.patience.wait_for(&self.second) {
+            self.late.raise();
+        }
+    }
+}
+
 /// A gate at which all workers meet at their first jobs, and one of them is then held until all jobs were drawn.
 #[derive(Drop)]
 pub struct Holding<'a, R> {

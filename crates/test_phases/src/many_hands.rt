@@ -3,12 +3,12 @@
 ghost use Rattle.std.specs.Prelude.{◌<◌, ◌≤◌, length};
 ghost use Rattle.claim_table.specs.Logs.{most_jobs, most_seats};
 
-use crate::fates::{Fate, are_all};
+use crate::fates::{Fate, are, are_all};
 use crate::fixtures::{base_of, job_at};
-use crate::gates::{Holding, Tie};
-use crate::shown::show_at;
+use crate::gates::{Holding, Tie, Waiting};
+use crate::shown::{show, show_at};
 use anyhow::Result;
-use data_guest_programs::BAD_WRITE;
+use data_guest_programs::{BAD_WRITE, ENDLESS};
 use hart::Stop;
 use paged_memory::Snapshot;
 use parallel_phase::{Job, run_phase};
@@ -25,7 +25,13 @@ pub fn show_many_hands<R: Clock + Print + Threads + Sync>(rt: &R, alloc: Global)
     let base = base_of(alloc, &BAD_WRITE)?;
     show_held_jobs(rt, alloc, &base)?;
     show_held_workers(rt, alloc, &base)?;
-    show_many_jobs(rt, alloc, &base)
+    show_many_jobs(rt, alloc, &base)?;
+    let is_so = an_endless_job_is_given_up(rt, alloc)?;
+    show(
+        rt,
+        "an endless job is given up beside one that exits",
+        is_so,
+    )
 }
 
 /// Prints the rows of three jobs of which one is held.
@@ -104,4 +110,15 @@ fn a_worker_is_held<R: Clock + Threads + Sync>(
     let gate = Holding::new(rt, 4, 8, held)?;
     let jobs = [job_at(0, 0); 8];
     Ok(all_write(rt, alloc, base, &jobs, 4, &gate)? && !gate.has_failed())
+}
+
+/// Job 0 exits once the other worker has come to job 1, which has no end. So that worker gives its job up only if it sees
+/// what the first one noted.
+fn an_endless_job_is_given_up<R: Clock + Threads + Sync>(rt: &R, alloc: Global) -> Result<bool> {
+    let base = base_of(alloc, &ENDLESS)?;
+    let jobs = [job_at(4, 0), job_at(7, 0)];
+    let wanted = [Fate::Ran(Stop::Ecall, 3, 0x0001_0018), Fate::Skipped];
+    let gate = Waiting::new(rt)?;
+    let outcomes = run_phase(rt, alloc, &jobs, 2, &gate, &base)?;
+    Ok(are(&outcomes, &wanted) && !gate.has_failed())
 }

@@ -83,10 +83,6 @@ impl<'a, R: Clock> Gate for Timing<'a, R> {
         }
         seen.count_turn();
     }
-
-    fn first_shared(&self) -> u32 {
-        1
-    }
 }
 
 #[test]

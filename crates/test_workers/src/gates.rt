@@ -1,6 +1,6 @@
 //! What a gate is told of a run: each job before its first instruction, and each turn once it is done.
 
-use data_guest_programs::{Program, RACE, SIGNAL};
+use data_guest_programs::{LATE_WORK, Program, RACE, SIGNAL};
 use runtime::{Config, Gate, MAX_BOUND, run};
 use std::alloc::Global;
 use std::process::Abort;
@@ -40,6 +40,10 @@ static SIGNAL_PASSES: [Pass; 7] = [
 ];
 
 static SIGNAL_TURNS: [u64; 10] = [0, 0, 1, 1, 0, 0, 1, 1, 1, 0];
+
+/// How many jobs `late-work` has: of the main thread one in each of phases 1, 2, 23 and 24, and of its two threads one each
+/// in phases 2 to 22. In phase 22 the caller finds that a job is long once it has begun it alone.
+const LATE_JOBS: u64 = 46;
 
 /// A gate that keeps what it is told, in order.
 #[derive(Drop)]
@@ -207,4 +211,23 @@ fn the_caller_takes_each_job_while_all_are_short(rt: HostRuntime) -> Result<(), 
     let alloc = rt.alloc();
     assert_told(&rt, alloc, &RACE, &RACE_PASSES, &RACE_TURNS, hands)?;
     assert_told(&rt, alloc, &SIGNAL, &SIGNAL_PASSES, &SIGNAL_TURNS, hands)
+}
+
+#[test]
+fn no_job_is_told_twice(rt: HostRuntime) -> Result<(), Fail> {
+    let file = LATE_WORK.file(rt.alloc())?;
+    for workers in [1, 2, 3] {
+        let config = Config {
+            bound: MAX_BOUND,
+            quantum: None,
+            workers,
+        };
+        for first_shared in [0, 16, u32::MAX] {
+            let gate = Listening::of(first_shared);
+            run(&rt, rt.alloc(), &file, &[], &config, &gate)?;
+            let passes = gate.passes.load(Ordering::SeqCst);
+            assert_eq!(rt; passes, LATE_JOBS, "{workers} {first_shared}");
+        }
+    }
+    Ok(())
 }

@@ -27,14 +27,10 @@ const BEFORE_LATE: u64 = 45;
 /// What host threads do once some turns are done, before each job that they have drawn.
 trait Holding {
     fn hold<R: Clock>(&self, seen: &Seen<'_, R>, worker: u32, job: u32);
-
-    /// How many phases are shared out from the beginning on.
-    fn first_shared(&self) -> u32 {
-        u32::MAX
-    }
 }
 
-/// A gate that counts turns, and holds host threads once so many are done.
+/// A gate that counts turns, and holds host threads once so many are done. It says nothing of phases, so each is shared
+/// out.
 #[derive(Drop)]
 struct Held<'a, R, H> {
     seen: Seen<'a, R>,
@@ -62,9 +58,26 @@ impl<'a, R: Clock, H: Holding> Gate for Held<'a, R, H> {
     fn turned(&self, _thread: u32) {
         self.seen.count_turn();
     }
+}
+
+/// A gate by which so many phases are shared out from the beginning on.
+#[derive(Drop)]
+struct SharingFirst<'a, G> {
+    gate: &'a G,
+    phases: u32,
+}
+
+impl<'a, G: Gate> Gate for SharingFirst<'a, G> {
+    fn pass(&self, worker: u32, job: u32) {
+        self.gate.pass(worker, job);
+    }
+
+    fn turned(&self, thread: u32) {
+        self.gate.turned(thread);
+    }
 
     fn first_shared(&self) -> u32 {
-        self.holding.first_shared()
+        self.phases
     }
 }
 
@@ -164,19 +177,13 @@ impl Holding for EndlessCaller {
 
 /// Sees whether the worker takes a job of phase 22 of `late-work` beside the first one, whose turn comes first there.
 #[derive(Drop)]
-struct LateWork {
-    first_shared: u32,
-}
+struct LateWork;
 
 impl Holding for LateWork {
     fn hold<R: Clock>(&self, seen: &Seen<'_, R>, worker: u32, _job: u32) {
         if worker != CALLER && seen.has_done(BEFORE_LATE) && !seen.has_done(BEFORE_LATE + 1) {
             reach(&seen.first);
         }
-    }
-
-    fn first_shared(&self) -> u32 {
-        self.first_shared
     }
 }
 
@@ -260,15 +267,18 @@ fn a_keeper_exits_beside_an_endless_job_of_the_caller(rt: HostRuntime) -> Result
 fn assert_late_work(
     rt: &(impl Abort + Clock + Threads + Wait + Sync),
     alloc: Global,
-    first_shared: u32,
+    phases: u32,
 ) -> Result<(), Fail> {
-    let holding = LateWork { first_shared };
     let mut is_shared = false;
     for _ in 0..TIMES {
-        let gate = Held::by(rt, BEFORE, &holding)?;
+        let held = Held::by(rt, BEFORE, &LateWork)?;
+        let gate = SharingFirst {
+            gate: &held,
+            phases,
+        };
         let report = report_of(rt, alloc, &LATE_WORK, 2, &gate)?;
         assert_eq!(rt; report.outcome, RunOutcome::Exit(0));
-        if is_reached(&gate.seen.first) {
+        if is_reached(&held.seen.first) {
             is_shared = true;
         }
     }

@@ -5,6 +5,7 @@
 #![tactic(auto)]
 
 mod ends_of_run;
+mod first_job;
 mod of_run;
 mod opening;
 mod pool;

@@ -7,6 +7,7 @@ ghost use Rattle.token.specs.Segments as segments;
 ghost use Rattle.worker_pool.specs.Jobs.{IsAsked, jobs_in};
 
 use crate::ends_of_run::EndsOfRun;
+use crate::first_job::FirstJob;
 use crate::of_run::OfRun;
 use claim_table::DrawSeat;
 use phase_jobs::SharedJobs;
@@ -85,15 +86,15 @@ fn draw_below<B: OfRun>(shared: &SharedPhase<EndsOfRun<B>>, seat: &mut DrawSeat,
     }
 }
 
-/// Shares the present phase of a run out to so many host threads at most, the caller counted: the jobs of this thread and
-/// of those above it. Whether the phase has two jobs, so that this could be done.
+/// Shares the present phase of a run out to so many host threads at most, the caller counted: this job and those after
+/// it. Whether the phase has two jobs, so that this could be done.
 pub(crate) fn share_out<B: OfRun + Send + Sync, R: Wait, K: Recorder>(
     rt: &R,
     alloc: Global,
     desk: &mut Desk<EndsOfRun<B>>,
     serial: &Serial<K>,
     most: u32,
-    thread: u32,
+    from: FirstJob,
 ) -> Result<bool, AllocError>
     requires run { IsAsked B.setup serial.now }
     requires most { (0 < most) × (most ≤ most_seats) }
@@ -105,7 +106,8 @@ pub(crate) fn share_out<B: OfRun + Send + Sync, R: Wait, K: Recorder>(
     let hands = most.min(jobs as u32);
     let (shared, mut seats) = shared_phase::<B, K>(alloc, serial, hands)?;
     let mut seat = first_seat(&shared, &mut seats);
-    draw_below(&shared, &mut seat, thread);
+    draw_below(&shared, &mut seat, from.thread);
+    let shared = shared.with_told(from.told);
     desk.share(rt, alloc, shared, Hand { seat, held: None }, seats)?;
     Ok(true)
 }

@@ -9,6 +9,7 @@ ghost use Rattle.worker_pool.specs.Jobs.{IsAsked, NeedsEnd};
 ghost use Rattle.worker_pool.specs.Ends.{IsEndIn};
 
 use crate::ends_of_run::EndsOfRun;
+use crate::first_job::FirstJob;
 use crate::of_run::OfRun;
 use crate::opening::share_out;
 use phase_jobs::Gate;
@@ -42,6 +43,8 @@ pub struct Pool<B: OfRun> {
     phase: u64,
     /// How many of its jobs the caller took without sharing it out.
     taken: u32,
+    /// Whether the gate was told of the job after them.
+    is_told: bool,
     /// How many phases more are shared out at once.
     credit: u32,
 }
@@ -72,6 +75,7 @@ impl<B: OfRun + Send + Sync> Pool<B> {
             desk: Desk::new(),
             phase: 0,
             taken: 0,
+            is_told: false,
             credit,
         }
     }
@@ -135,7 +139,7 @@ impl<B: OfRun + Send + Sync> Pool<B> {
 
     /// The end of the segment that a run needs next, on the memory that its phase began with. The caller works at jobs of
     /// the phase until it is there. None if a worker is wanted first: the segment is long, and the phase has work for one
-    /// host thread more.
+    /// host thread more. `is_alone` has been asked at this turn.
     pub fn segment<R: Wait, K: Recorder, G: Gate>(
         &mut self,
         rt: &R,
@@ -196,13 +200,19 @@ impl<B: OfRun + Send + Sync> Pool<B> {
         if self.phase != phase {
             self.phase = phase;
             self.taken = 0;
+            self.is_told = false;
             self.desk.clear();
         }
     }
 
-    /// Tells the gate of the next job that the caller takes without sharing its phase out.
-    fn tell<G: Gate>(&self, gate: &G) {
-        gate.pass(CALLER, self.taken);
+    /// Tells the gate of the next job that the caller takes without sharing its phase out, unless it was told of it.
+    fn tell<G: Gate>(&mut self, gate: &G)
+        ensures { self.new ≡ self.old }
+    {
+        if !self.is_told {
+            self.is_told = true;
+            gate.pass(CALLER, self.taken);
+        }
     }
 
     /// Counts that job.
@@ -210,6 +220,7 @@ impl<B: OfRun + Send + Sync> Pool<B> {
         ensures { self.new ≡ self.old }
     {
         self.taken = self.taken.saturating_add(1);
+        self.is_told = false;
     }
 
     /// Shares the present phase out, from this thread on. If that can't be done, the caller takes the thread's job.
@@ -224,8 +235,12 @@ impl<B: OfRun + Send + Sync> Pool<B> {
         ensures { self.new ≡ self.old }
     {
         self.credit = self.credit.saturating_sub(1);
+        let from = FirstJob {
+            thread,
+            told: self.is_told.then_some(self.taken),
+        };
         let desk = &mut self.desk;
-        if !share_out(rt, self.alloc, desk, serial, self.most, thread).unwrap_or(false) {
+        if !share_out(rt, self.alloc, desk, serial, self.most, from).unwrap_or(false) {
             self.tell(gate);
             self.count();
         }
