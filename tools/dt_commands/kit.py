@@ -20,6 +20,8 @@ OF_RTLIB = ("Crate", "guarded", "PARTS")
 
 # What a try of one edit comes to.
 REFUSED, LIMIT, BAD, UNSURE, MISSED = "refused", "limit", "bad", "not tried", "not refused"
+# What gives a check more room than it has by itself, which is half of this number of terms; there is no such word for steps and stack.
+MORE_ROOM = ("--arena-nodes", "1073741824")
 # How the files of kept work end that hold what was checked.
 CHECKED = ".oantt"
 
@@ -100,10 +102,11 @@ def check(made, texts, kept, jobs=1):
     return ran.stdout, ran.returncode
 
 
-def try_alone(made, file, kept):
-    """Returns what `rt must-fail` makes of one edit: its kind, what it says of it, and what its check printed."""
+def try_alone(made, file, kept, more=()):
+    """Returns what `rt must-fail` makes of one edit: its kind, what it says of it, and what its check printed. `more` are further words
+    for the check."""
     LAST.said, LAST.status = "", None
-    answer, text = loaded().must_fail(made, file, ["--jobs", "1"], kept)
+    answer, text = loaded().must_fail(made, file, ["--jobs", "1", *more], kept)
     text = text.partition(": ")[2] or text
     return kind_of(loaded(), answer, text), text, LAST.said
 

@@ -11,9 +11,15 @@ import time
 
 from dt_commands import kit
 from dt_commands.kit import BAD, LIMIT, MISSED, REFUSED, UNSURE
-from dt_mutants import verdicts
+from dt_mutants import verdicts, weak
 from dt_mutants.edits import made
 from dt_mutants.rounds import plan
+
+# What an edit comes to, beside the kinds of kit: no goal of the function that it changes refuses it; or one does, and the list of those
+# that none refuses has it all the same.
+WEAK, LISTED = "weak", "listed in vain"
+# The function and the goal of an edit that no goal refuses.
+NOWHERE = ("-", "by_names_alone")
 
 
 def parts_of(edits, spoiling):
@@ -26,16 +32,19 @@ def parts_of(edits, spoiling):
 
 
 class Trial:
-    """The try of all edits of a crate. Each step returns the steps that it makes needed; `results` has what each edit came to."""
+    """The try of all edits of a crate. Each step returns the steps that it makes needed; `results` has what each edit came to, and
+    `verdicts` by what each is refused."""
 
-    def __init__(self, crate, edits, note):
-        """`note` is told of each round its edits, what came of it, what is tried again, what the check printed and its seconds."""
-        self.crate, self.note, self.room, self.files = crate, note, None, {}
+    def __init__(self, crate, edits, note, is_proved=False):
+        """`note` is told of each round its edits, what came of it, what is tried again, what the check printed and its seconds.
+        `is_proved` says that a check just proved the crate, and that what it kept is in the crate's out/."""
+        self.crate, self.note, self.room, self.files, self.is_proved = crate, note, None, {}, is_proved
         self.edits = edits
         self.results = {it: (BAD, it.why) for it in edits if it.why}
         self.rounds = plan([it for it in edits if not it.why])
-        # those that are refused, but by no goal of the function that they change
-        self.failure, self.weak = None, []
+        # whether it came to its end, and what keeps it from saying anything
+        self.is_over, self.failure = False, None
+        self.verdicts, self.listed = [], weak.listed(crate.name)
 
     def begin(self):
         return self.safely(self.make_seed)
@@ -56,7 +65,7 @@ class Trial:
             if os.path.isdir(kept):
                 kit.linked(kept, self.seed)
         os.makedirs(self.seed, exist_ok=True)
-        said, status = kit.check(self.crate, {}, self.seed)
+        said, status = ("", 0) if self.is_proved and os.listdir(self.seed) else kit.check(self.crate, {}, self.seed)
         if status:
             self.failure = f"it isn't proved as it stands, so none of its edits was tried:\n{said[-1500:]}"
             return []
@@ -87,9 +96,10 @@ class Trial:
         with self.over_the_seed() as over:
             said, status = kit.check(self.crate, texts, over)
         is_spoilt = status != 0 and (not verdicts.has_verdict(said, status) or self.has_unread(said, texts))
-        refused = [] if is_spoilt else verdicts.refused_by(edits, said, status)
+        found = [] if is_spoilt else verdicts.refused_by(edits, said, status)
+        refused = {it.edit for it in found}
         for it in refused:
-            self.results[it] = (REFUSED, "refused")
+            self.conclude(it, REFUSED, "refused", [one for one in found if one.edit is it])
         left = [it for it in edits if it not in refused]
         again = parts_of(left, verdicts.blamed(left, said)) if is_spoilt else [[it] for it in left]
         self.note(self, edits, f"{len(refused)} refused", again, said, time.time() - begun)
@@ -99,27 +109,41 @@ class Trial:
         return any(kit.is_unread(line, texts) for line in said.split("\n"))
 
     def try_alone(self, edit):
-        """Tries an edit as `rt must-fail` does: what isn't refused over the seed is tried once more from nothing."""
+        """Tries an edit as `rt must-fail` does: what meets a limit is tried once more with more room, and what isn't refused over the seed
+        once more from nothing."""
         begun = time.time()
-        with self.over_the_seed() as over:
-            kind, text, said = kit.try_alone(self.crate, edit.file, over)
+        kind, text, said = self.tried_over_the_seed(edit)
+        if kind == LIMIT:
+            kind, text, said = self.tried_over_the_seed(edit, kit.MORE_ROOM)
         if kind in (MISSED, UNSURE):
             whole = kit.try_alone(self.crate, edit.file, None)
             kind, text, said = (kind, text, said) if kind == MISSED and whole[0] == UNSURE else whole
-        self.results[edit] = (kind, text)
-        if kind == REFUSED and edit.places and not verdicts.refused_by([edit], said, 1):
-            self.weak.append(edit)
-        self.note(self, [edit], f"{edit.name} alone: {kind}", [], said, time.time() - begun)
+        self.conclude(edit, kind, text, verdicts.refused_alone(edit, said) if kind == REFUSED else [])
+        self.note(self, [edit], f"{edit.name} alone: {self.results[edit][0]}", [], said, time.time() - begun)
         return []
+
+    def tried_over_the_seed(self, edit, more=()):
+        with self.over_the_seed() as over:
+            return kit.try_alone(self.crate, edit.file, over, more)
+
+    def conclude(self, edit, kind, text, found):
+        """Notes what an edit came to. One that no goal refuses has to be listed, and no other may be."""
+        if kind == REFUSED and not found:
+            kind, found = (REFUSED, [verdicts.Verdict(edit, *NOWHERE)]) if edit.name in self.listed else (WEAK, [])
+        elif kind == REFUSED and edit.name in self.listed:
+            kind, text, found = LISTED, "a goal of the function that it changes refuses it, so tools/weak-mutants may not have it", []
+        self.results[edit] = (kind, text)
+        self.verdicts += found
 
     def end(self):
         """Ends the try: looks whether a check wrote into what the others read, and removes the copies."""
         if not self.failure and kit.listing(self.seed) != self.files:
             self.failure = "what its own check left was changed meanwhile: try it again"
         shutil.rmtree(self.room or "", ignore_errors=True)
+        self.is_over = True
 
     @property
     def failed(self):
         """Returns the edits that aren't refused, each with its kind and what is said of it."""
         lost = [(it, *self.results.get(it, (UNSURE, "not tried"))) for it in self.edits]
-        return [it for it in lost if it[1] not in (REFUSED, LIMIT)]
+        return [it for it in lost if it[1] != REFUSED]

@@ -1,5 +1,9 @@
 """Reads what a check printed, and says which edits of its round it refused, each by a goal of the very function that it changes."""
+import collections
 import re
+
+# By which function an edit is refused, and by which goal of it; the goal is the first that the check named.
+Verdict = collections.namedtuple("Verdict", "edit function goal")
 
 NOTE = re.compile(r"note: (?:\./)?(\S+?\.rt):(\d+):\d+: it is not proved ")
 FN = re.compile(r"fn (\S+): (no proof|not proved)\b(.*)")
@@ -14,28 +18,35 @@ COMPILES_NOT = re.compile(r"(?m)^error\[[\w-]+\]|\berror\[[\w-]+\]")
 
 
 class Unproved:
-    """A function that a check says isn't proved: its path, the lines of its notes, and whether the refusal is its own."""
+    """A function that a check says isn't proved: its path, the lines of its notes, and its own goal that wasn't proved, if there is one."""
 
-    def __init__(self, path, notes, is_own):
-        self.path, self.notes, self.is_own = path, notes, is_own
+    def __init__(self, path, notes, goal):
+        self.path, self.notes, self.goal = path, notes, goal
 
 
 def unproved_in(said):
     """Returns the functions that the output names as not proved. A function's notes come right before its own line."""
-    found, notes, refused = [], [], set()
+    found, notes, refused = [], [], {}
     for line in said.split("\n"):
         note, fn, refusal = NOTE.match(line), FN.match(line), REFUSAL.match(line)
         if note:
             notes.append((note[1], int(note[2])))
         elif refusal and not NAMES.search(refusal[2]):
-            refused.add(refusal[1].replace("/", "::"))
+            refused.setdefault(refusal[1].replace("/", "::"), first_name(refusal[2]))
         elif fn:
-            path = fn[1].partition("::")[2]
-            found.append(Unproved(path, notes, bool(GOALS.search(fn[3])) or fn[2] == "not proved" and path in refused))
+            path, goals = fn[1].partition("::")[2], GOALS.search(fn[3])
+            goal = first_name(goals[1]) if goals else refused.get(path) if fn[2] == "not proved" else None
+            found.append(Unproved(path, notes, goal))
             notes = []
         elif line.startswith("fn "):
             notes = []
     return found
+
+
+def first_name(text):
+    """Returns the first name that stands in backquotes, in one word."""
+    found = re.search(r"`([^`]+)`", text)
+    return "_".join(found[1].split()) if found else "a_proof_file"
 
 
 def is_of(path, function):
@@ -55,11 +66,12 @@ def module_of(file):
     return steps[:-1] if steps[-1] in ("lib", "main", "mod") else steps
 
 
-def is_refused(function, found):
-    """Returns whether one of these is the function, refused by a goal of its own or in its own proof files. If the crate has another
-    function of its label, a note must be at its lines."""
+def goal_of(function, found):
+    """Returns the goal by which one of these, which must be the function, is refused, or None. If the crate has another function of its
+    label, a note must be at its lines."""
     is_inside = lambda it: any(file == function.file and function.first <= line <= function.last for file, line in it.notes)
-    return any(it.is_own and is_of(it.path, function) and (function.is_unique or is_inside(it)) for it in found)
+    goals = (it.goal for it in found if it.goal and is_of(it.path, function) and (function.is_unique or is_inside(it)))
+    return next(goals, None)
 
 
 def has_verdict(said, status):
@@ -68,11 +80,21 @@ def has_verdict(said, status):
 
 
 def refused_by(edits, said, status):
-    """Returns those of a round's edits that the check refuses by a goal of each function that they change."""
+    """Returns the verdicts on those of a round's edits that the check refuses by a goal of a function that they change."""
     if not has_verdict(said, status):
         return []
     found = unproved_in(said)
-    return [it for it in edits if it.places and any(is_refused(place, found) for place in it.places)]
+    goals = [(it, place, goal_of(place, found)) for it in edits for place in it.places or ()]
+    return [Verdict(it, place.label, goal) for it, place, goal in goals if goal]
+
+
+def refused_alone(edit, said):
+    """Returns the verdicts on an edit that was refused alone: by the functions that it changes, or, if it changes something else than
+    bodies, by the first function that has a goal which wasn't proved."""
+    if edit.places:
+        return refused_by([edit], said, 1)
+    found = sorted((it.path, it.goal) for it in unproved_in(said) if it.goal)
+    return [Verdict(edit, *it) for it in found[:1]]
 
 
 def blamed(edits, said):

@@ -4,6 +4,7 @@ import re
 import unittest
 
 from dt_commands.repository import TOP
+from dt_mutants import weak
 from dt_mutants.edits import edits_of
 
 
@@ -15,6 +16,13 @@ class Edits(unittest.TestCase):
     def test_each_can_be_made(self):
         edits = [it for at in folders() for kind in ("mutants", "must-fail") for it in edits_of(os.path.basename(at), at, kind)]
         self.assertEqual([f"{it}: {it.why}" for it in edits if it.why], [])
+
+    def test_each_that_may_be_refused_by_no_goal_is_there_and_says_why(self):
+        with open(weak.LIST, encoding="utf-8") as it:
+            count = sum(1 for line in it if line.strip() and not line.startswith("#"))
+        listed = {os.path.basename(at): weak.listed(os.path.basename(at)) for at in folders()}
+        there = [why for at in folders() for it in edits_of(os.path.basename(at), at, "mutants") for why in [listed[it.crate].get(it.name)] if why]
+        self.assertEqual(len(there), count)
 
     def test_must_fail_has_wrong_bodies_with_a_name_alone(self):
         with open(f"{TOP}/docs/CONFORMANCE.md", encoding="utf-8") as it:

@@ -143,10 +143,18 @@ KINDS = "impl CallKind {\n" + "\n" * 57 + "".join(
 class Judging(WithCrate):
     def refused(self, text, status=1, source=KINDS):
         edits = self.edits({"a": [("100", "7")], "b": [("200", "7")], "c": [("300", "7")]}, "src/call_kind.rt", source)
-        return [it.name for it in verdicts.refused_by(list(edits.values()), text, status)]
+        self.verdicts = verdicts.refused_by(list(edits.values()), text, status)
+        return [it.edit.name for it in self.verdicts]
 
     def test_each_edit_is_judged_by_its_own_function(self):
         self.assertEqual(self.refused(said("four_functions")), ["a", "b", "c"])
+        goals = [("CallKind::from_number", "returns-then-number-eq15"), ("CallKind::number", "returns-in-Write-clause-number"), ("CallKind::name", "returns-in-ThreadExit")]
+        self.assertEqual([it[1:] for it in self.verdicts], goals)
+
+    def test_an_edit_of_more_than_bodies_is_judged_by_the_first_function_with_a_goal(self):
+        edit = self.edits({"a": [("impl CallKind", "impl Other")]}, "src/call_kind.rt", KINDS)["a"]
+        self.assertEqual([it[1:] for it in verdicts.refused_alone(edit, said("four_functions"))], [("call_kind::CallKind::from_number", "returns-then-number-eq15")])
+        self.assertEqual(verdicts.refused_alone(edit, "fn small::one: not proved\nlogic=not-proved\n"), [])
 
     def test_a_function_that_only_calls_what_is_not_proved_is_not_refused(self):
         text = said("four_functions").replace("`search` did not prove `returns-then-number-eq15`; ", "")
@@ -174,10 +182,12 @@ class Judging(WithCrate):
     def digits(self, text):
         source = "fn write_hexadecimal() -> u32 {\n    100\n}\nfn other() -> u32 {\n    200\n}\n"
         edits = self.edits({"a": [("100", "7")], "b": [("200", "7")]}, "src/digits.rt", source)
-        return [it.name for it in verdicts.refused_by(list(edits.values()), text, 1)]
+        self.verdicts = verdicts.refused_by(list(edits.values()), text, 1)
+        return [it.edit.name for it in self.verdicts]
 
     def test_a_refusal_in_the_functions_own_proof_files_counts(self):
         self.assertEqual(self.digits(said("proof_file")), ["a"])
+        self.assertEqual([it[1:] for it in self.verdicts], [("write_hexadecimal", "loop-place-preserved")])
 
     def test_a_proof_file_that_names_what_the_edit_took_away_does_not_count(self):
         for words in ("`c` has no field `place`", "`place` is not in scope", "`lemma` was not admitted"):

@@ -18,13 +18,16 @@ def source():
 
 
 class FakeKit:
-    """Judges a text: 'bad' doesn't compile, 'same' is proved, 'hidden' is refused without a word of its function, any other is refused."""
+    """Judges a text: 'bad' doesn't compile, 'same' is proved, 'hidden' is refused without a word of its function, 'long' and 'endless' meet
+    a limit, the first only without more room, any other is refused."""
+
+    MORE_ROOM = ("--room",)
 
     def __init__(self):
         self.checks, self.is_seed_changed = [], False
 
     def linked(self, folder, to):
-        os.makedirs(to, exist_ok=True)
+        os.makedirs(f"{to}/kept", exist_ok=True)
 
     def listing(self, folder):
         return {"changed": self.is_seed_changed and len(self.checks) > 1}
@@ -39,15 +42,19 @@ class FakeKit:
         for at, (_, body) in enumerate(bodies):
             if body == "bad":
                 return f"src/lib.rt:{3 * at + 2}:5: error[unresolved-name]: no `bad`\n", 1
+        if any(body in ("long", "endless") for _, body in bodies):
+            return "rattle: no verdict: out of steps\n", 3
         changed = [(at, name) for at, (name, body) in enumerate(bodies) if body not in (f"{at + 1}00", "same", "hidden")]
         lines = [f"note: src/lib.rt:{3 * at + 1}:1: it is not proved that x (`g`)\nfn small::{name}: no proof: `search` did not prove `g`" for at, name in changed]
         is_proved = not changed and "hidden" not in text
         return "\n".join([*lines, "logic=proved" if is_proved else "logic=not-proved", ""]), 0 if is_proved else 1
 
-    def try_alone(self, crate, file, kept):
+    def try_alone(self, crate, file, kept, more=()):
         edit = next(it for it in edits_of("small", crate.folder) if it.file == file)
-        said, status = self.check(crate, edit.changes, kept)
-        kind = kit.BAD if "error[" in said else kit.MISSED if status == 0 else kit.REFUSED
+        texts = {path: text.replace("long", "x") if more else text for path, text in edit.changes.items()}
+        said, status = self.check(crate, texts, kept)
+        kind = {0: kit.MISSED, 1: kit.REFUSED, 3: kit.LIMIT}[status]
+        kind = kit.BAD if "error[" in said else kind
         return kind, "told", said
 
 
@@ -84,7 +91,7 @@ class Trials(unittest.TestCase):
     def tried(self, bodies, **how):
         """Tries one edit a function, each by its new body, and returns what each came to, how many checks there were, and the trial."""
         with tempfile.TemporaryDirectory() as folder:
-            for part in ("src", "mutants"):
+            for part in ("src", "mutants", *(["out/incremental"] if how.get("keeps") else [])):
                 os.makedirs(f"{folder}/{part}")
             with open(f"{folder}/src/lib.rt", "w", encoding="utf-8") as it:
                 it.write(source())
@@ -93,9 +100,9 @@ class Trials(unittest.TestCase):
                     it.write(f"file: src/lib.rt\nold: {at}00\nnew: {body}\n")
             fake = FakeKit()
             fake.is_seed_changed = how.get("is_seed_changed", False)
-            with mock.patch.object(trials, "kit", fake):
+            with mock.patch.object(trials, "kit", fake), mock.patch.object(trials.weak, "listed", lambda _: how.get("listed", {})):
                 crate = types.SimpleNamespace(folder=folder, name="small")
-                trial = trials.Trial(crate, edits_of("small", folder), lambda *_: None)
+                trial = trials.Trial(crate, edits_of("small", folder), lambda *_: None, how.get("is_proved", False))
                 steps = trial.begin()
                 while steps:
                     steps = steps[1:] + steps[0]()
@@ -129,9 +136,32 @@ class Trials(unittest.TestCase):
         self.assertEqual(sorted(found), ["bad", *["refused"] * 4])
         self.assertEqual((checks, [it[0].name for it in trial.failed]), (2, ["one"]))
 
-    def test_one_that_no_goal_of_its_own_refuses_is_told(self):
-        found, _, trial = self.tried(["x", "hidden", "x", "x", "x"])
-        self.assertEqual((found, [it.name for it in trial.weak]), (["refused"] * 5, ["two"]))
+    def came_to(self, bodies, **how):
+        """Returns the edits that failed with their kinds, and the verdicts, by the edits' names."""
+        trial = self.tried(bodies, **how)[2]
+        return [(it.name, kind) for it, kind, _ in trial.failed], {it.edit.name: it[1:] for it in trial.verdicts}
+
+    def test_each_verdict_has_a_function_and_a_goal(self):
+        self.assertEqual(self.came_to(["x"] * 5), ([], {it: (it, "g") for it in NAMES}))
+
+    def test_one_that_no_goal_of_its_own_refuses_fails_unless_it_is_listed(self):
+        failed, verdicts = self.came_to(["x", "hidden", "x", "x", "x"])
+        self.assertEqual((failed, "two" in verdicts), ([("two", trials.WEAK)], False))
+        failed, verdicts = self.came_to(["x", "hidden", "x", "x", "x"], listed={"two": "a table of names"})
+        self.assertEqual((failed, verdicts["two"]), ([], trials.NOWHERE))
+
+    def test_one_that_is_listed_and_that_a_goal_refuses_fails(self):
+        failed, _ = self.came_to(["x"] * 5, listed={"two": "a table of names"})
+        self.assertEqual(failed, [("two", trials.LISTED)])
+
+    def test_one_at_a_limit_is_tried_with_more_room_or_fails(self):
+        self.assertEqual(self.came_to(["x", "long", "x", "x", "x"])[0], [])
+        failed, verdicts = self.came_to(["x", "endless", "x", "x", "x"])
+        self.assertEqual((failed, "two" in verdicts), ([("two", kit.LIMIT)], False))
+
+    def test_what_a_check_just_proved_is_not_checked_again(self):
+        self.assertEqual(self.tried(["x"] * 5, is_proved=True, keeps=True)[1], 1)
+        self.assertEqual(self.tried(["x"] * 5, is_proved=True)[1], 2)
 
     def test_a_check_that_writes_into_the_seed_fails_the_trial(self):
         self.assertIn("changed meanwhile", self.tried(["x"] * 5, is_seed_changed=True)[2].failure)
