@@ -128,8 +128,10 @@ class Trial:
 
     def conclude(self, edit, kind, text, found):
         """Notes what an edit came to. One that no goal refuses has to be listed, and no other may be."""
-        if kind == REFUSED and not found:
-            kind, found = (REFUSED, [verdicts.Verdict(edit, *NOWHERE)]) if edit.name in self.listed else (WEAK, [])
+        if kind == REFUSED and not found and edit.name in self.listed:
+            found = [verdicts.Verdict(edit, *NOWHERE)]
+        elif kind == REFUSED and not found:
+            kind, text = WEAK, f"no goal of the function that it changes refuses it: choose another change, or list it in tools/weak-mutants: {text}"
         elif kind == REFUSED and edit.name in self.listed:
             kind, text, found = LISTED, "a goal of the function that it changes refuses it, so tools/weak-mutants may not have it", []
         self.results[edit] = (kind, text)
