@@ -45,6 +45,9 @@ static SIGNAL_TURNS: [u64; 10] = [0, 0, 1, 1, 0, 0, 1, 1, 1, 0];
 /// in phases 2 to 22. In phase 22 the caller finds that a job is long once it has begun it alone.
 const LATE_JOBS: u64 = 46;
 
+/// How many phases of `late-work` are shared out from the beginning on.
+const SHARED: [u32; 3] = [0, 16, u32::MAX];
+
 /// A gate that keeps what it is told, in order.
 #[derive(Drop)]
 struct Listening {
@@ -216,18 +219,16 @@ fn the_caller_takes_each_job_while_all_are_short(rt: HostRuntime) -> Result<(), 
 #[test]
 fn no_job_is_told_twice(rt: HostRuntime) -> Result<(), Fail> {
     let file = LATE_WORK.file(rt.alloc())?;
-    for workers in [1, 2, 3] {
-        let config = Config {
-            bound: MAX_BOUND,
-            quantum: None,
-            workers,
-        };
-        for first_shared in [0, 16, u32::MAX] {
-            let gate = Listening::of(first_shared);
-            run(&rt, rt.alloc(), &file, &[], &config, &gate)?;
-            let passes = gate.passes.load(Ordering::SeqCst);
-            assert_eq!(rt; passes, LATE_JOBS, "{workers} {first_shared}");
-        }
+    let config = Config {
+        bound: MAX_BOUND,
+        quantum: None,
+        workers: 2,
+    };
+    for first_shared in SHARED {
+        let gate = Listening::of(first_shared);
+        run(&rt, rt.alloc(), &file, &[], &config, &gate)?;
+        let passes = gate.passes.load(Ordering::SeqCst);
+        assert_eq!(rt; passes, LATE_JOBS, "{first_shared}");
     }
     Ok(())
 }
