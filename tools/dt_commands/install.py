@@ -1,20 +1,21 @@
 """Installs the program, the kit for programs in C, the samples and the pages below a prefix.
 
-Below PREFIX, bin/ has dthreads, and dthreads-cc, dthreads-c++, dthreads-exec, dthreads-gdb and dthreads-lines as links to the kit;
-share/dthreads/ has the kit (guest/) and the samples, share/doc/dthreads the pages, and share/man/man1 the manual page. All of it works
-without the checkout, from any folder, and may be moved as a whole. What an earlier call left below share/dthreads and share/doc/dthreads
-is replaced.
+Below PREFIX, bin/ has dthreads, dthreads-cc, dthreads-c++, dthreads-exec, dthreads-gdb and dthreads-lines as links to the kit, and
+dthreads-picture; share/dthreads/ has the kit (guest/), the samples and what draws pictures (tools/), share/doc/dthreads the pages, as
+they speak of what is installed, and share/man/man1 the manual page. All of it works without the checkout, from any folder, and may be
+moved as a whole. What an earlier call left below share/dthreads and share/doc/dthreads is replaced.
 
 The program is the one built here from the sources as they are, or the release if it is theirs; else build it first. If the compiler of
 guest programs is there, the C library is built, since a user may not write below PREFIX; what the checkout has built of it serves if no
 source of it changed since.
 """
+import glob
 import os
 import shutil
 import subprocess
 import sys
 
-from dt_commands import built_from, executable, release
+from dt_commands import built_from, executable, installed_pages, release
 from dt_commands.progress import Progress
 from dt_commands.repository import TOP
 
@@ -23,9 +24,10 @@ BIN, SHARE, DOC, MAN = "bin", "share/dthreads", "share/doc/dthreads", "share/man
 # What of guest/ isn't the kit: its tests, the lists that a page is made from, and what was built.
 NOT_KIT = ("tests", "reference", "out")
 COMMANDS = ("dthreads-cc", "dthreads-c++", "dthreads-exec", "dthreads-gdb", "dthreads-lines")
+PICTURE = "dthreads-picture"
 # C++'s library, if guest/build-libstdcxx was done, and C's, if a program was compiled here.
 LIBSTDCXX, LIBRARY = "guest/out/libstdcxx", "guest/out/libdthreads.a"
-PAGES = ("README.md", "LICENSE-APACHE", "LICENSE-MIT")
+PAGES = ("README.md", "CONTRIBUTING.md", "LICENSE-APACHE", "LICENSE-MIT")
 
 
 def arguments(parser):
@@ -84,10 +86,33 @@ def install_kit(prefix):
     link(f"{prefix}/{BIN}/dthreads", f"{prefix}/{SHARE}/dthreads")
 
 
+def install_picture(prefix):
+    """Installs the command that draws timelines."""
+    folder = f"{prefix}/{SHARE}/tools"
+    if os.path.isdir(folder):
+        shutil.rmtree(folder)
+    os.makedirs(f"{folder}/dt_commands")
+    shutil.copy2(f"{TOP}/tools/{PICTURE}", folder)
+    for it in [f"{TOP}/tools/dt_commands/__init__.py", *glob.glob(f"{TOP}/tools/dt_commands/picture*.py")]:
+        shutil.copy2(it, f"{folder}/dt_commands")
+    link(f"{folder}/{PICTURE}", f"{prefix}/{BIN}/{PICTURE}")
+
+
+def write_installed(page, file):
+    """Writes a page as it is installed in place of a copy of it."""
+    with open(file, encoding="utf-8") as it:
+        text = it.read()
+    with open(file, "w", encoding="utf-8") as it:
+        it.write(installed_pages.installed(page, text))
+
+
 def install_pages(prefix):
     copy_folder(f"{TOP}/docs", f"{prefix}/{DOC}/docs")
     for it in PAGES:
         shutil.copyfile(f"{TOP}/{it}", f"{prefix}/{DOC}/{it}")
+    for top in (f"{prefix}/{DOC}", f"{prefix}/{SHARE}"):
+        for file in glob.glob(f"{top}/**/*.md", recursive=True):
+            write_installed(os.path.relpath(file, top), file)
     shutil.copyfile(f"{TOP}/man/dthreads.1", f"{prefix}/{MAN}/dthreads.1")
 
 
@@ -108,7 +133,8 @@ def run(options):
         os.makedirs(f"{prefix}/{it}", exist_ok=True)
     put(data, f"{prefix}/{BIN}/dthreads")
     install_kit(prefix)
+    install_picture(prefix)
     install_pages(prefix)
     build_library(prefix)
-    print(f"installed below {prefix}: {BIN}/dthreads, {', '.join(COMMANDS)}, {SHARE}, {DOC}, {MAN}/dthreads.1")
+    print(f"installed below {prefix}: {BIN}/dthreads, {', '.join((*COMMANDS, PICTURE))}, {SHARE}, {DOC}, {MAN}/dthreads.1")
     return 0

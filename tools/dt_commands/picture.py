@@ -9,6 +9,10 @@ import sys
 
 from dt_commands import picture_page, picture_run, picture_svg
 
+# What the user called: this command of the tools, or the installed program of this name.
+INSTALLED = "dthreads-picture"
+CALLED = INSTALLED if os.path.basename(sys.argv[0]) == INSTALLED else "tools/dt picture"
+
 
 def arguments(parser):
     parser.add_argument("timeline", metavar="TIMELINE", help="what `dthreads run --timeline` wrote")
@@ -24,7 +28,7 @@ def read(file):
         with open(file, encoding="utf-8") as it:
             return it.read()
     except OSError as why:
-        raise SystemExit(f"tools/dt picture: cannot read {file}: {why.strerror}") from None
+        raise SystemExit(f"{CALLED}: cannot read {file}: {why.strerror}") from None
 
 
 def told(file, what, of):
@@ -32,7 +36,7 @@ def told(file, what, of):
     try:
         return of(read(file))
     except (ValueError, KeyError, TypeError, AttributeError):
-        raise SystemExit(f"tools/dt picture: {file} is no {what}") from None
+        raise SystemExit(f"{CALLED}: {file} is no {what}") from None
 
 
 def run_of(options):
@@ -41,7 +45,7 @@ def run_of(options):
     if options.phases:
         first, _, last = options.phases.partition("-")
         if not (first.isdecimal() and (last or first).isdecimal()):
-            raise SystemExit(f"tools/dt picture: --phases takes two numbers, as in 10-20, and not {options.phases}")
+            raise SystemExit(f"{CALLED}: --phases takes two numbers, as in 10-20, and not {options.phases}")
         run.within(int(first), int(last or first))
     return run
 

@@ -1,11 +1,13 @@
 """Tests of what is installed: it works without the checkout, and in another place than it was installed to."""
+import glob
 import os
+import re
 import shutil
 import subprocess
 import tempfile
 import unittest
 
-from dt_commands import install, man_page, release
+from dt_commands import install, installed_pages, man_page, release
 from dt_commands.repository import TOP
 
 HAS_COMPILER = subprocess.run([f"{TOP}/guest/dthreads-cc", "--version"], stdout=subprocess.DEVNULL, stderr=subprocess.DEVNULL).returncode == 0
@@ -46,6 +48,38 @@ class ManPage(unittest.TestCase):
     def test_groff_has_no_warning(self):
         ran = subprocess.run(["groff", "-man", "-ww", "-Tutf8", "-z", f"{TOP}/man/dthreads.1"], stderr=subprocess.PIPE)
         self.assertEqual(ran.stderr, b"")
+
+
+README = """# Name
+
+## Install, build, first run
+
+In the clone.
+
+## The commands
+
+```
+$ ./dthreads run samples/race.elf
+guest/dthreads-c++ program.cc
+tools/dt test         runs every test
+.ci/run               the gate
+```
+
+`../dthreads` and `tools/dt picture`, [samples](samples/README.md).
+"""
+
+
+class Pages(unittest.TestCase):
+    def test_a_page_has_the_installed_names_and_nothing_of_a_clone_alone(self):
+        found = installed_pages.installed("README.md", README)
+        wanted = README.replace("## Install, build, first run\n\nIn the clone.\n\n", "").replace("./dthreads run", "dthreads run")
+        wanted = wanted.replace("guest/dthreads-c++", "dthreads-c++").replace("tools/dt test         runs every test\n.ci/run               the gate\n", "")
+        wanted = wanted.replace("../dthreads` and `tools/dt picture`", "dthreads` and `dthreads-picture`").replace("(samples/", "(../../dthreads/samples/")
+        self.assertEqual(found, wanted.replace("# Name\n", f"# Name\n\n{installed_pages.WHERE}"))
+
+    def test_a_section_that_is_left_out_must_be_there(self):
+        with self.assertRaises(SystemExit):
+            installed_pages.installed("README.md", "# Name\n")
 
 
 class OfACopy(unittest.TestCase):
@@ -150,6 +184,23 @@ class Installed(OfACopy):
         self.assertTrue(os.path.exists(f"{self.prefix}/share/dthreads/guest/dthreads.gdb"))
         self.executes_a_linked_sample()
         self.compiles()
+
+    def test_the_pages_speak_of_what_is_installed(self):
+        pages = glob.glob(f"{self.prefix}/share/**/*.md", recursive=True)
+        self.assertGreater(len(pages), 15)
+        for page in pages:
+            with open(page, encoding="utf-8") as it:
+                text = it.read()
+            self.assertEqual(re.findall(r"(?<![\w/.])\.\.?/dthreads\b|tools/dt picture|guest/dthreads-", text), [], page)
+            for link in re.findall(r"\]\(([^)\s]+)\)", re.sub(r"^```.*?^```$", "", text, flags=re.M | re.S)):
+                if not re.match(r"[a-z]+:|#", link):
+                    self.assertTrue(os.path.exists(os.path.join(os.path.dirname(page), link.partition("#")[0])), f"{page}: {link}")
+
+    def test_a_timeline_is_drawn(self):
+        timeline = f"{self.prefix}/race.timeline"
+        self.called("dthreads", "run", self.share("samples/race.elf"), "--timeline", timeline)
+        self.assertIn(b"<svg", self.called("dthreads-picture", timeline).stdout)
+        self.assertEqual(self.called("dthreads-picture", "none").stderr, b"dthreads-picture: cannot read none: No such file or directory\n")
 
     def executes_a_linked_sample(self):
         ran = self.called("dthreads-exec", self.share("samples/c/counter.elf"), "--workers", "2")
