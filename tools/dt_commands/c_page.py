@@ -1,9 +1,11 @@
-"""The examples of the page docs/C.md.
+"""The examples of the pages docs/C.md and docs/CLEAN-RUNS.md.
 
-The commands are the lines of the page's blocks that begin with `$ `. They run in a folder of their own, as if at the top of the
-repository. DTHREADS names the program to run the guests with, or else ./dthreads.
+The commands are the lines of a page's blocks that begin with `$ `. They run in a folder of their own, as if at the top of the
+repository, which has a file of each block of C that begins with its name as a comment. DTHREADS names the program to run the guests with,
+or else ./dthreads.
 """
 import os
+import re
 import subprocess
 import sys
 import tempfile
@@ -13,7 +15,7 @@ from dt_commands.progress import Progress
 from dt_commands.repository import TOP
 from dt_commands.texts import first_difference
 
-PAGE = "docs/C.md"
+PAGES = ("docs/C.md", "docs/CLEAN-RUNS.md")
 
 
 def shown_in(text):
@@ -28,20 +30,41 @@ def shown_in(text):
     return shown
 
 
-def test(options):
-    """Runs each command of the examples in docs/C.md, and compares what is printed with the lines below it."""
-    with open(f"{TOP}/{PAGE}", encoding="utf-8") as it:
-        wanted = shown_in(it.read())
-    commands, got = [it for it in wanted if it.startswith("$ ")], []
-    with tempfile.TemporaryDirectory() as room, Progress("commands", len(commands)) as progress:
+def files_in(text):
+    """Returns the files that a page has: of each its name and its text."""
+    return re.findall(r"^```c\n(/\* (\S+) \*/\n.*?)^```$", text, re.M | re.S)
+
+
+def printed(text, room, progress):
+    """Runs the commands of a page in a folder, and returns their lines, each with what was printed below it."""
+    for contents, name in files_in(text):
+        with open(f"{room}/{name}", "w", encoding="utf-8") as it:
+            it.write(contents)
+    got = []
+    for line in progress.each([it for it in shown_in(text) if it.startswith("$ ")]):
+        how = {"stdin": subprocess.DEVNULL, "stdout": subprocess.PIPE, "stderr": subprocess.STDOUT}
+        ran = subprocess.run(["bash", "-c", line[2:]], cwd=room, errors="replace", **how)
+        got += [line, *ran.stdout.splitlines()]
+    return got
+
+
+def is_as_told(page):
+    """Returns whether the commands of a page print what the page says. If not, prints where that begins."""
+    with open(f"{TOP}/{page}", encoding="utf-8") as it:
+        text = it.read()
+    wanted = shown_in(text)
+    count = sum(it.startswith("$ ") for it in wanted)
+    with tempfile.TemporaryDirectory() as room, Progress("commands", count) as progress:
         for name, target in (("guest", guest_runs.KIT), ("samples", f"{TOP}/samples"), ("dthreads", guest_runs.program())):
             os.symlink(target, f"{room}/{name}")
-        for line in progress.each(commands):
-            how = {"stdin": subprocess.DEVNULL, "stdout": subprocess.PIPE, "stderr": subprocess.STDOUT}
-            ran = subprocess.run(["bash", "-c", line[2:]], cwd=room, errors="replace", **how)
-            got += [line, *ran.stdout.splitlines()]
+        got = printed(text, room, progress)
     if got != wanted:
-        print(first_difference("\n".join(got).encode(), "\n".join(wanted).encode()), "the page says something else", sep="\n", file=sys.stderr)
-        return 1
-    print(f"{len(commands)} commands of {PAGE}: what the page says")
-    return 0
+        print(first_difference("\n".join(got).encode(), "\n".join(wanted).encode()), f"{page} says something else", sep="\n", file=sys.stderr)
+        return False
+    print(f"{count} commands of {page}: what the page says")
+    return True
+
+
+def test(options):
+    """Runs each command of the examples in docs/C.md and docs/CLEAN-RUNS.md, and compares what is printed with the lines below it."""
+    return 0 if all([is_as_told(it) for it in PAGES]) else 1

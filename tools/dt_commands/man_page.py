@@ -25,7 +25,7 @@ dthreads \- run multithreaded RV32IM programs with the same result each time
 .SH DESCRIPTION
 .B dthreads
 runs multithreaded RV32IM programs deterministically:
-the result depends on the file and its input alone,
+the result depends on the file, its input, the bound and the quantum alone,
 never on the host's scheduling.
 '''
 FOOT = r'''.SH SEE ALSO

@@ -1,7 +1,7 @@
 """Measures the debugger: what a run in it takes, as multiples of the plain run's time, and the memory that it needs.
 
 It speaks gdb's remote protocol with `dthreads debug`, so that gdb's own time isn't in it. DTHREADS names the program, or else
-./dthreads. The guests are of tools/guests/debugged.c. A line has the least of three rounds.
+./dthreads. The guests are of tools/guests/debugged.c. A number is the least of three rounds.
 """
 import os
 import re
@@ -15,6 +15,8 @@ from dt_commands.repository import TOP
 
 SOURCE = f"{TOP}/tools/guests/debugged.c"
 ROUNDS = 3
+# Four threads that synchronise every 1,800 instructions, also with much code beside them.
+SHORT = ["-DTURNS", "-DSECTIONS=1000"]
 # How many instructions the first guest executes before the position in whose neighbourhood steps back are made.
 MIDDLE = 50_000_000
 PACKET = re.compile(rb"\$([^#]*)#..")
@@ -103,6 +105,15 @@ def with_points(elf, names):
     return forward, watched, back
 
 
+def with_a_point(elf):
+    """Returns the seconds of continue with a breakpoint that is never hit, as a multiple of the plain run's."""
+    debugged = Debugged(elf)
+    debugged.ask(f"Z0,{symbols(elf)['never']:x},4")
+    seconds = debugged.go("vCont;c")
+    debugged.end()
+    return seconds / plain(elf)
+
+
 def steps_back(elf):
     """Returns the seconds of 1,000 steps back in the middle."""
     debugged = Debugged(elf)
@@ -130,11 +141,13 @@ def measure(options):
     """Measures the debugger: its times as multiples of the plain run's, and its memory."""
     with tempfile.TemporaryDirectory(prefix="dthreads-measure-") as room, Progress("rounds", ROUNDS) as progress:
         long, turns = built("long", [], room), built("turns", ["-DTURNS"], room)
+        short, large = built("short", SHORT, room), built("large", [*SHORT, "-DLARGE"], room)
         memory, names, rows = beside(turns), symbols(long), []
         for _ in progress.each(range(1, ROUNDS + 1)):
-            rows.append([plain(long), *with_points(long, names), steps_back(long)])
-    run, forward, watched, back, steps = (min(column) for column in zip(*rows))
+            rows.append([plain(long), *with_points(long, names), steps_back(long), with_a_point(short), with_a_point(large)])
+    run, forward, watched, back, steps, of_short, of_large = (min(column) for column in zip(*rows))
     print(f"continue with a breakpoint that is never hit: {forward / run:.2f} times the plain run")
+    print(f"the same in a program of short turns: {of_short:.2f} times; with 512 KiB of code beside it: {of_large:.2f} times")
     print(f"continue with a watched word of a page that is stored to all the time: {watched / run:.2f} times")
     print(f"reverse-continue from the end to a breakpoint at the start: {back / run:.2f} times")
     print(f"1,000 steps back in the middle: {steps:.2f} s")

@@ -5,17 +5,18 @@ each crate root; the limits in docs/GUEST.md, from the definitions; the list of 
 needs in docs/LAW.md, from the contracts of run, run_into and run_recorded; the transcripts in docs/DEBUGGING.md, from the
 sessions of guest/tests/gdb; and man/dthreads.1, from docs/CLI.md. Besides,
 each line of a block marked `antt` must be in the sources, so that no page quotes what isn't there, each link must lead to a file
-and a heading, and the pages that are read as a whole have a size that they don't exceed.
+and a heading, the picture of the layers in docs/ARCHITECTURE.md must show what crates.txt has, and the pages that are read as a whole
+have a size that they don't exceed.
 """
 import os
 import re
 
-from . import conformance_page, crate_pages, debugging_page, definitions, man_page, page_links
+from . import conformance_page, crate_pages, debugging_page, definitions, layer_picture, man_page, page_links
 from .repository import TOP
 
 
 # The pages that are read as a whole, and how many bytes each may have.
-LIMITS = {"README.md": 9_500, "docs/C.md": 7_168, "docs/DEBUGGING.md": 7_168, "docs/TIMELINE.md": 5_120}
+LIMITS = {"README.md": 9_500, "docs/C.md": 7_168, "docs/CLEAN-RUNS.md": 4_096, "docs/DEBUGGING.md": 7_168, "docs/TIMELINE.md": 5_120}
 
 
 def read(page):
@@ -71,8 +72,9 @@ def differing():
 
 
 def told_wrong():
-    """Prints each wrong quotation, each broken link and each page that is too long, and returns how many there are."""
-    wrong = [f"{it}: no source has this line" for it in misquoted()] + page_links.broken() + too_long(LIMITS)
+    """Prints each wrong quotation, each broken link, each page that is too long and what the picture of the layers shows wrongly, and
+    returns how many there are."""
+    wrong = [f"{it}: no source has this line" for it in misquoted()] + page_links.broken() + too_long(LIMITS) + layer_picture.found()
     for line in wrong:
         print(line)
     return len(wrong)

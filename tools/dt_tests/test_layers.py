@@ -1,7 +1,7 @@
 """Tests of the check of layers, on small lists of crates."""
 import unittest
 
-from dt_commands import layers
+from dt_commands import layer_picture, layers
 
 HEADS = {name: f"# {name}: what it holds." for name in layers.SECTIONS}
 
@@ -37,6 +37,37 @@ class Layers(unittest.TestCase):
 
     def test_the_sections_keep_their_order(self):
         self.assertEqual(1, len(layers.complaints("# law: one.\n# ground: two.", [])))
+
+
+def picture(**sections):
+    """Returns a page with a picture of the layers, whose sections have these lines."""
+    lines = []
+    for name in layers.PRODUCT[::-1]:
+        lines += [f"{name}   what it is for", *(f"    {it}" for it in sections.get(name, []))]
+    return "# Page\n\n```\n" + "\n".join(lines) + "\n```\n"
+
+
+def told(page, **sections):
+    return layer_picture.complaints(page, listed(**sections))
+
+
+class Picture(unittest.TestCase):
+    ROWS = {"machine": ["decoder:", "code: decoder", "hart: code decoder"], "ground": ["abi:"]}
+
+    def test_one_that_shows_crates_txt_is_well(self):
+        self.assertEqual([], told(picture(machine=["hart > code > decoder, hart", "hart > decoder"], ground=["abi"]), **self.ROWS))
+
+    def test_a_crate_that_is_left_out_is_told(self):
+        self.assertEqual(["machine: code is left out", "ground: abi is left out"], told(picture(machine=["hart > decoder"]), **self.ROWS))
+
+    def test_a_crate_of_another_section_is_told(self):
+        self.assertEqual(["machine: abi is not of this section"], told(picture(machine=["hart, code, decoder, abi"], ground=["abi"]), **self.ROWS))
+
+    def test_an_arrow_without_a_dependency_is_told(self):
+        self.assertEqual(["machine: decoder doesn't depend on code"], told(picture(machine=["hart, decoder > code"], ground=["abi"]), **self.ROWS))
+
+    def test_a_section_that_is_left_out_is_told(self):
+        self.assertEqual(1, len(told(picture().replace("debugging   what it is for\n", ""))))
 
 
 if __name__ == "__main__":

@@ -1,8 +1,15 @@
-/* What tools/dt measure debugger debugs: one thread that executes 100 million instructions, or four that take a million turns. */
+/* What tools/dt measure debugger debugs: one thread that executes 100 million instructions, or four that take a million turns, or as many
+ * as SECTIONS says; with LARGE there are 512 KiB of code beside it, which nobody calls. */
 #include <pthread.h>
 #include <stdint.h>
 
+#ifndef SECTIONS
 #define SECTIONS 125000
+#endif
+
+#ifdef LARGE
+__asm__(".section .text.unused, \"axR\"\n.rept 131072\nnop\n.endr\n.previous");
+#endif
 
 volatile uint32_t word;
 uint32_t many[1024];
