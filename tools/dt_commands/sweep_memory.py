@@ -6,15 +6,17 @@ else. `dthreads` runs, lists and records small guests, replays schedules, and de
 then standard output has a prefix of the true output, and no file was written after the first that lacks. `phase_failures` runs phases of
 these guests: each of its lines is the true one or says out of memory, and its draws take no memory.
 
-A run that doesn't end within SECONDS hangs. `--gate` sweeps the runs of two guests by several workers alone, as .ci/run does: their phases are
-shared out, since jobs are long, and of one of them the ready threads have gaps in their numbers. And it sweeps a run that is refused, since
-two of its outputs are one file under two names.
+A sweep counts only if its refusals reached the program: at least one answer is out of memory, and of the requests of an undisturbed run
+all were refused in turn but for SPREAD, if it has several host threads, and nine tenths of those of the longest run. A run that doesn't
+end within SECONDS hangs.
 
-It needs a C compiler; without one `--gate` says so and passes. DTHREADS names a built program to run the guests with, or else it is built.
+`--gate` sweeps the runs of two guests by several workers alone, as .ci/run does: their phases are shared out, since jobs are long, and of
+one of them the ready threads have gaps in their numbers. And it sweeps a run that is refused, since two of its outputs are one file under
+two names.
+
+It needs a C compiler. DTHREADS names a built program to run the guests with, or else it is built.
 """
-import itertools
 import os
-import shutil
 import subprocess
 import sys
 import tempfile
@@ -27,6 +29,8 @@ from dt_commands.texts import contents
 OUT_OF_MEMORY = (125, b"out of memory\n")
 # How much of a wrong answer is shown.
 SHOWN = 2000
+# By how many requests two runs of several host threads can differ.
+SPREAD = 20
 # For how many seconds a run may go on, and one of the gate's, which take milliseconds.
 SECONDS, GATE_SECONDS = 600, 60
 
@@ -122,30 +126,38 @@ class Sweep:
         files = [contents(it) or b"" for it in self.records]
         return Answer(ran.returncode, ran.stdout, ran.stderr, files, requests, refusals)
 
-    def in_turn(self):
-        """Refuses one request after another, until a run makes fewer. Yields the number of each, and the answer."""
-        for number in itertools.count(1):
+    def in_turn(self, wanted):
+        """Refuses one request after another, up to the last of the longest run. Yields the number of each, and the answer."""
+        number, longest = 1, wanted.requests
+        while number <= longest:
             answer = self.run(REFUSE=number)
-            if not answer.refusals:
-                return
             yield number, answer
+            number, longest = number + 1, max(longest, answer.requests)
 
     def each(self, name):
         """Sees that each answer is the true one or out of memory."""
         wanted = self.run(REFUSE=0)
-        refusals = ended = 0
-        for refusals, answer in self.in_turn():
+        longest, refusals, ended = wanted.requests, 0, 0
+        for number, answer in self.in_turn(wanted):
             ends = answer.is_out_of_memory(wanted)
-            ended += ends
             if not ends and not answer.is_true(wanted):
-                sys.exit(f"{name}: another answer with request {refusals} refused: {str(answer.said)[:SHOWN]}")
-        if refusals < wanted.requests - self.spread():
-            sys.exit(f"{name}: {refusals} requests were refused, and an undisturbed run makes {wanted.requests}")
-        print(f"{name}: {refusals} requests refused in turn, {ended} times out of memory", flush=True)
+                sys.exit(f"{name}: another answer with request {number} refused: {str(answer.said)[:SHOWN]}")
+            longest, refusals, ended = max(longest, answer.requests), refusals + answer.refusals, ended + ends
+        see_swept(name, refusals, wanted.requests - self.spread(), longest, ended)
+        print(f"{name}: {refusals} of {longest} requests refused in turn, {ended} times out of memory", flush=True)
 
     def spread(self):
         """Returns by how many requests two runs can differ: host threads may be started or not."""
-        return 200 if self.words[1] == "debug" or self.words[1:2] == ["run"] and "1" not in self.words else 0
+        return SPREAD if self.words[1] == "debug" or self.words[1:2] == ["run"] and "1" not in self.words else 0
+
+
+def see_swept(name, refusals, least, longest, ended):
+    """Ends with what a sweep lacks, if its refusals didn't reach the program: fewer requests were refused than must be, or a tenth of the
+    longest run's were not, or no answer was out of memory."""
+    if refusals < least or 10 * refusals < 9 * longest:
+        sys.exit(f"{name}: {refusals} requests were refused, not {least}, and the longest run makes {longest}")
+    if not ended:
+        sys.exit(f"{name}: no answer was out of memory, with {refusals} requests refused in turn")
 
 
 def calls(room, program):
@@ -158,10 +170,11 @@ def calls(room, program):
     if marks != [b"a request before them: given", b"a request after them: given"]:
         sys.exit(f"alloc_failures: no two requests round the quiet calls: {marks}")
     refusals = 0
-    for refusals, answer in sweep.in_turn():
+    for number, answer in sweep.in_turn(wanted):
+        refusals += answer.refusals
         text = answer.said[1].replace(b"them: refused", b"them: given")
         if (answer.said[0], text) != (0, wanted.said[1]):
-            sys.exit(f"alloc_failures: another text with request {refusals} refused")
+            sys.exit(f"alloc_failures: another text with request {number} refused")
     if refusals < wanted.requests:
         sys.exit(f"alloc_failures: {refusals} requests were refused of {wanted.requests}")
     quiet = sweep.run(REFUSE_FROM=wanted.requests - 1)
@@ -183,19 +196,20 @@ def phases(room, program):
     lines = contents(f"{TOP}/crates/test_phase_failures/stdout").splitlines()
     if wanted.said[1].splitlines() != lines:
         sys.exit("phase_failures: another text than its file stdout")
-    refusals = short = 0
-    before = None
-    for refusals, answer in sweep.in_turn():
+    longest, refusals, short, before = wanted.requests, 0, 0, None
+    for number, answer in sweep.in_turn(wanted):
+        longest, refusals = max(longest, answer.requests), refusals + answer.refusals
         text = answer.said[1].replace(b"them: refused", b"them: given").splitlines()
         if b"a request before them: refused" in answer.said[1].splitlines():
-            before = refusals
+            before = number
         if text[0] == b"draws: out of memory":
             text[0:1] = lines[0:3]
         if answer.said[0] != 0 or len(text) != len(lines) or not all(map(is_line_of, text, lines)):
-            sys.exit(f"phase_failures: another text with request {refusals} refused: {answer.said}")
+            sys.exit(f"phase_failures: another text with request {number} refused: {answer.said}")
         short += text != lines
-    if before is None or refusals < wanted.requests - 200:
-        sys.exit(f"phase_failures: {refusals} requests were refused of {wanted.requests}")
+    see_swept("phase_failures", refusals, wanted.requests - SPREAD, longest, short)
+    if before is None:
+        sys.exit("phase_failures: the request before the draws was never refused")
     quiet = sweep.run(REFUSE_FROM=before).said[1].splitlines()
     if quiet[:3] != [lines[0].replace(b"given", b"refused"), lines[1], lines[2].replace(b"given", b"refused")]:
         sys.exit(f"phase_failures: the draws answer otherwise, or take memory: {quiet[:3]}")
@@ -277,9 +291,6 @@ def dthreads():
 
 def sweep_gate():
     """Sweeps runs by several workers."""
-    if not shutil.which("cc"):
-        print("not swept: there is no C compiler")
-        return 0
     with tempfile.TemporaryDirectory(prefix="sweep-memory-") as room:
         library(room)
         program = dthreads()
