@@ -63,6 +63,12 @@ class Debugged:
         with open(f"/proc/{self.process.pid}/status", encoding="utf-8") as it:
             return int(re.search(r"VmHWM:\s+(\d+)", it.read())[1])
 
+    def processor_seconds(self):
+        """Returns how much processor time it took so far."""
+        with open(f"/proc/{self.process.pid}/stat", encoding="utf-8") as it:
+            fields = it.read().rpartition(")")[2].split()
+        return (int(fields[11]) + int(fields[12])) / os.sysconf("SC_CLK_TCK")
+
     def end(self):
         self.process.kill()
         self.process.wait()
@@ -85,7 +91,7 @@ def symbols(elf):
 def plain(elf):
     """Returns the seconds of a plain run."""
     begun = time.time()
-    subprocess.run([guest_runs.program(), "run", elf], check=True)
+    subprocess.run([guest_runs.program(), "run", elf], stdin=subprocess.DEVNULL, check=True)
     return time.time() - begun
 
 
@@ -106,12 +112,15 @@ def with_points(elf, names):
 
 
 def with_a_point(elf):
-    """Returns the seconds of continue with a breakpoint that is never hit, as a multiple of the plain run's."""
+    """Returns the processor time of continue with a breakpoint that is never hit, as a multiple of the plain run's."""
     debugged = Debugged(elf)
     debugged.ask(f"Z0,{symbols(elf)['never']:x},4")
-    seconds = debugged.go("vCont;c")
+    debugged.go("vCont;c")
+    taken = debugged.processor_seconds()
     debugged.end()
-    return seconds / plain(elf)
+    process = subprocess.Popen([guest_runs.program(), "run", elf], stdin=subprocess.DEVNULL)
+    run = os.wait4(process.pid, 0)[2]
+    return taken / (run.ru_utime + run.ru_stime)
 
 
 def steps_back(elf):

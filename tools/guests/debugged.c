@@ -54,6 +54,8 @@ int main(void)
         pthread_create(&threads[i], NULL, take_turns, NULL);
     for (int i = 0; i < 4; i++)
         pthread_join(threads[i], NULL);
+    if (counter == 0)
+        never();
     return counter != 4 * SECTIONS;
 #else
     compute();
