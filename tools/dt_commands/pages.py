@@ -5,8 +5,8 @@ each crate root; the limits in docs/GUEST.md, from the definitions; the list of 
 needs in docs/LAW.md, from the contracts of run, run_into and run_recorded; the transcripts in docs/DEBUGGING.md, from the
 sessions of guest/tests/gdb; and man/dthreads.1, from docs/CLI.md. Besides,
 each line of a block marked `antt` must be in the sources, so that no page quotes what isn't there, each link must lead to a file
-and a heading, the picture of the layers in docs/ARCHITECTURE.md must show what crates.txt has, and the pages that are read as a whole
-have a size that they don't exceed.
+and a heading, the picture of the layers in docs/ARCHITECTURE.md must show what crates.txt has, what README.md says of speed must be in
+docs/BENCH.md, and the pages that are read as a whole have a size that they don't exceed.
 """
 import os
 import re
@@ -66,15 +66,23 @@ def too_long(limits, top=TOP):
     return [f"{page}: it has {size:,} bytes, and its limit is {limits[page]:,}: {size - limits[page]:,} too many" for page, size in over.items()]
 
 
+def unmeasured(readme, bench):
+    """Returns the ranges of numbers in the section on speed of one page that the page of measurements doesn't have."""
+    section = re.search(r"^## Speed\n(.*?)(?=^## |\Z)", readme, re.M | re.S)
+    ranges = re.findall(r"\d+(?:\.\d+)? to \d+(?:\.\d+)?", section[1] if section else "")
+    return [f"README.md: docs/BENCH.md has no {it}" for it in ranges if not re.search(rf"\b{re.escape(it)}\b", bench)]
+
+
 def differing():
     """Returns the pages whose generated parts differ from what they must be, with what they must be."""
     return {page: text for page, text in pages().items() if not os.path.exists(f"{TOP}/{page}") or read(page) != text}
 
 
 def told_wrong():
-    """Prints each wrong quotation, each broken link, each page that is too long and what the picture of the layers shows wrongly, and
-    returns how many there are."""
-    wrong = [f"{it}: no source has this line" for it in misquoted()] + page_links.broken() + too_long(LIMITS) + layer_picture.found()
+    """Prints each wrong quotation, each broken link, each page that is too long, what the picture of the layers shows wrongly and each
+    number that no measurement has, and returns how many there are."""
+    wrong = [f"{it}: no source has this line" for it in misquoted()] + page_links.broken() + too_long(LIMITS)
+    wrong += layer_picture.found() + unmeasured(read("README.md"), read("docs/BENCH.md"))
     for line in wrong:
         print(line)
     return len(wrong)

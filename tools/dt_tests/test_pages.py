@@ -46,6 +46,12 @@ class Sizes(unittest.TestCase):
         self.assertEqual(found, ["two.md: it has 1,001 bytes, and its limit is 1,000: 1 too many"])
 
 
+class Speed(unittest.TestCase):
+    def test_a_number_that_no_measurement_has_is_told(self):
+        readme = "# Name\n\n10 to 20\n\n## Speed\n\n- It takes 2.4 to 2.5 nanoseconds, and gains 3.4 to 3.7.\n\n## More\n\n5 to 6\n"
+        self.assertEqual(pages.unmeasured(readme, "| one | 2.4 to 2.5 ns |\n| four | 3.6 to 3.8 |\n| 13.4 to 3.75 |"), ["README.md: docs/BENCH.md has no 3.4 to 3.7"])
+
+
 class Links(unittest.TestCase):
     def test_anchors_are_those_of_code_hosts(self):
         self.assertEqual(page_links.anchors("# A\n## `run`, and more!\n"), {"a", "run-and-more"})
