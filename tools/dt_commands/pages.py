@@ -2,7 +2,8 @@
 
 Generated are docs/CONFORMANCE.md as a whole, from tools/changes; docs/CRATES.md as a whole, from crates.txt and the first sentence of
 each crate root; the limits in docs/GUEST.md, from the definitions; the list of the definitions that the headline
-needs in docs/LAW.md, from the contracts of run, run_into and run_recorded; the transcripts in docs/DEBUGGING.md, from the
+needs in docs/LAW.md, from the contracts of run, run_into and run_recorded; how many public functions have no `ensures` in
+docs/PROVED.md; the transcripts in docs/DEBUGGING.md, from the
 sessions of guest/tests/gdb; and man/dthreads.1, from docs/CLI.md. Besides,
 each line of a block marked `antt` must be in the sources, so that no page quotes what isn't there, each link must lead to a file
 and a heading, the picture of the layers in docs/ARCHITECTURE.md must show what crates.txt has, what README.md says of speed must be in
@@ -11,7 +12,7 @@ docs/BENCH.md, and the pages that are read as a whole have a size that they don'
 import os
 import re
 
-from . import conformance_page, crate_pages, debugging_page, definitions, layer_picture, man_page, page_links
+from . import conformance_page, crate_pages, debugging_page, definitions, layer_picture, man_page, page_links, uncontracted
 from .repository import TOP
 
 
@@ -42,6 +43,7 @@ def pages():
         debugging_page.PAGE: debugging_page.page(),
         "docs/GUEST.md": with_part("docs/GUEST.md", "limits", crate_pages.limits()),
         "docs/LAW.md": with_part("docs/LAW.md", "definitions", definitions.listed()),
+        "docs/PROVED.md": with_part("docs/PROVED.md", "functions without ensures", uncontracted.listed()),
         man_page.FILE: man_page.page(),
     }
 

@@ -2,7 +2,7 @@
 import tempfile
 import unittest
 
-from dt_commands import changes, crate_pages, definitions, page_links, pages
+from dt_commands import changes, crate_pages, definitions, page_links, pages, uncontracted
 
 
 class Definitions(unittest.TestCase):
@@ -44,6 +44,42 @@ class Sizes(unittest.TestCase):
                     it.write("." * size)
             found = pages.too_long({"one.md": 1000, "two.md": 1000, "none.md": 1}, top)
         self.assertEqual(found, ["two.md: it has 1,001 bytes, and its limit is 1,000: 1 too many"])
+
+
+SOURCE = """impl Table {
+    /// Has the one clause.
+    pub fn first(&self) -> u32
+        requires { 0 < 1 }
+        ensures { result ≡ 1 }
+    {
+        1
+    }
+
+    /// Has no clause that says what it answers.
+    pub const fn second(&self) -> u32
+        requires { 0 < 1 }
+    {
+        2
+    }
+
+    pub(crate) fn third(&self) {}
+}
+
+pub fn fourth() {
+    fifth()
+}
+
+fn fifth() {}
+"""
+
+
+class Uncontracted(unittest.TestCase):
+    def test_public_functions_without_ensures_are_counted(self):
+        self.assertEqual(uncontracted.counted("table.rt", SOURCE), (3, 2))
+
+    def test_crates_without_such_functions_are_not_listed(self):
+        self.assertIn("Of 8 public functions of the product 2 have no `ensures`: `one` (2).", uncontracted.told({"one": (5, 2), "two": (3, 0)}))
+        self.assertIn("All 3 public functions", uncontracted.told({"two": (3, 0)}))
 
 
 class Speed(unittest.TestCase):
