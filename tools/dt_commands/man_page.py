@@ -31,6 +31,7 @@ never on the host's scheduling.
 FOOT = r'''.SH SEE ALSO
 The pages in share/doc/dthreads/docs:
 GUEST.md on the guest machine, C.md on programs in C,
+CLEAN-RUNS.md on what a run without faults doesn't tell,
 DEBUGGING.md on debugging in gdb, PROVED.md on what is proved.
 .PP
 .BR dthreads\-cc ,
@@ -39,7 +40,11 @@ and
 .B dthreads\-exec
 compile and run programs in C and C++;
 .B dthreads\-gdb
-debugs them.
+debugs them,
+.B dthreads\-lines
+names the lines of a list of races, and
+.B dthreads\-picture
+draws a timeline.
 '''
 
 

@@ -178,9 +178,9 @@ class Installed(OfACopy):
         ran = self.called("dthreads", "run", f"{race}.elf", "--trace", "-")
         with open(f"{race}.trace", "rb") as it:
             self.assertEqual((ran.returncode, ran.stdout), (2, it.read()))
-        self.assertEqual(self.called("dthreads-exec", "--help").returncode, 0)
-        self.assertEqual(self.called("dthreads-gdb", "--help").returncode, 0)
-        self.assertEqual(self.called("dthreads-lines", "--help").returncode, 0)
+        for name in (*install.COMMANDS, install.PICTURE):
+            helped = self.called(name, "--help")
+            self.assertEqual((helped.returncode, re.findall(rb"guest/dthreads\S*|tools/dt \S*", helped.stdout)), (0, []), name)
         self.assertTrue(os.path.exists(f"{self.prefix}/share/dthreads/guest/dthreads.gdb"))
         self.executes_a_linked_sample()
         self.compiles()
