@@ -1,4 +1,5 @@
-"""Host threads of runs: how many there are, and that those without work take no processor time.
+"""Host threads of runs: how many there are, and that those without work take no processor time. The standard streams of the program
+too, since the gate calls this for the one that it built.
 
 DTHREADS names the program to run the guests with, or else ./dthreads.
 """
@@ -9,7 +10,7 @@ import subprocess
 import tempfile
 import time
 
-from dt_commands import fixed_guests, guest_runs
+from dt_commands import closed_streams, fixed_guests, guest_runs
 
 # Workers, threads of the guest that have long work in one phase, and how many host threads there are then.
 ROWS = [(1, 5, 1), (2, 2, 2), (2, 5, 2), (3, 5, 3), (4, 3, 3), (64, 1, 1), (64, 2, 2), (64, 5, 5)]
@@ -93,8 +94,8 @@ def arguments(parser):
 
 
 def test(options):
-    """Tests host threads of runs of the program."""
+    """Tests host threads of runs of the program, and its standard streams."""
     with tempfile.TemporaryDirectory(prefix="host-threads-") as room:
         failed = count_fails(room) + wait_fails(room)
     print(f"{len(ROWS) + len(MEETING) + len(WAITING)} runs, {failed} failed")
-    return 1 if failed else 0
+    return closed_streams.test(options) or (1 if failed else 0)

@@ -17,7 +17,7 @@ use Rattle.token.specs.declared.outcome.RunOutcome.{RunOutcome}
 use Rattle.token.specs.declared.turn.Turn.{Turn}
 use Rattle.trace_events.specs.Timeline.{timeline_text}
 use Rattle.tracer.specs.TraceText.{text_of as trace_text_of}
-use Rattle.command_requests.specs.Destination.{Carries, CanPrint, IsApart, IsFileOf, IsFiled, IsPartFor, IsTargetOf, KeepsButFileOf, Prints, printed_to}
+use Rattle.command_requests.specs.Destination.{Carries, CanPrint, IsApart, IsFileOf, IsFiled, IsPartFor, IsPartTargetOf, IsTargetOf, KeepsButFileOf, Prints, printed_to}
 use Rattle.command_requests.specs.declared.destination.Destination.{Destination}
 use Rattle.command_requests.specs.declared.destination.Destination.TheVariants.{StandardOutput}
 use Rattle.command_requests.specs.declared.failure.Failure.{Failure}
@@ -37,12 +37,18 @@ IsUnwrittenTo destination (CannotWrite target) = IsTargetOf destination target
 IsUnwrittenTo destination OutOfMemory = Unit {0}
 IsUnwrittenTo destination other = ⊥
 
--- why one of the texts didn't get to its destination
-abbrev pub IsUnwritten : Records → Failure → Type 0
-IsUnwritten records failure =
-    IsUnwrittenTo records.trace failure
-    ⊎ (IsUnwrittenTo records.timeline failure
-    ⊎ (IsUnwrittenTo records.report failure ⊎ (IsUnwrittenTo records.races failure ⊎ (IsUnwrittenTo records.core failure ⊎ IsUnwrittenTo records.digest failure))))
+-- why no output was begun for a text: its destination can't be written, or something is in the way of its file's part
+abbrev pub IsUnbegunFor : Option Destination → Failure → Type 0
+IsUnbegunFor destination (CannotWrite target) = IsTargetOf destination target ⊎ IsPartTargetOf destination target
+IsUnbegunFor destination OutOfMemory = Unit {0}
+IsUnbegunFor destination other = ⊥
+
+-- why no output was begun for one of the texts
+abbrev pub IsUnbegun : Records → Failure → Type 0
+IsUnbegun records failure =
+    IsUnbegunFor records.trace failure
+    ⊎ (IsUnbegunFor records.timeline failure
+    ⊎ (IsUnbegunFor records.report failure ⊎ (IsUnbegunFor records.races failure ⊎ (IsUnbegunFor records.core failure ⊎ IsUnbegunFor records.digest failure))))
 
 -- an output was begun for each text that is made at the end and wanted, and holds nothing yet
 abbrev pub AreBegunMade : {O : Type 0} → (O → Option (List ℕ)) → Records → MadeOutputs O → Type 0

@@ -1,7 +1,7 @@
 //! The outputs of a run's texts, begun before its first turn.
 ghost use Rattle.std.specs.Prelude.{◌≡◌, ◌⊎◌, ℕ, List, [], IfErr, IfOk, IsNone};
 ghost use Rattle.command_requests.specs.Destination.{Carries, IsPartFor, KeepsButPartFor};
-ghost use Rattle.command_outputs.specs.Records.{AreBegun, AreBegunMade, IsUnwritten, IsUnwrittenTo, KeepsButParts, NamesNone, StaysBut};
+ghost use Rattle.command_outputs.specs.Records.{AreBegun, AreBegunMade, IsUnbegun, IsUnbegunFor, KeepsButParts, NamesNone, StaysBut};
 
 use crate::made_outputs::MadeOutputs;
 use command_requests::{Destination, Failure, Records, Target};
@@ -27,7 +27,7 @@ pub fn begin<'a, F: Files>(
     ensures begun { IfOk result (λ outputs. AreBegun F.Output.contents records.now outputs) }
     ensures kept { KeepsButParts records.now (F.content files.old) (F.content files.new) }
     ensures unnamed { NamesNone records.now → files.new ≡ files.old }
-    ensures failed { IfErr result (IsUnwritten records.now) }
+    ensures failed { IfErr result (IsUnbegun records.now) }
 {
     let trace = begin_output(alloc, records.trace, files)?;
     match begin_timed(alloc, records, files) {
@@ -52,9 +52,9 @@ fn begin_timed<'a, F: Files>(
     ensures begun { IfOk result (λ timed. Carries F.Output.contents records.now.timeline timed.0 []
         × AreBegunMade F.Output.contents records.now timed.1) }
     ensures left { StaysBut F.content (KeepsButParts records.now) records.now files.old files.new }
-    ensures failed { IfErr result (λ failure. IsUnwrittenTo records.now.timeline failure ⊎ (IsUnwrittenTo records.now.report failure
-        ⊎ (IsUnwrittenTo records.now.races failure
-        ⊎ (IsUnwrittenTo records.now.core failure ⊎ IsUnwrittenTo records.now.digest failure)))) }
+    ensures failed { IfErr result (λ failure. IsUnbegunFor records.now.timeline failure ⊎ (IsUnbegunFor records.now.report failure
+        ⊎ (IsUnbegunFor records.now.races failure
+        ⊎ (IsUnbegunFor records.now.core failure ⊎ IsUnbegunFor records.now.digest failure)))) }
 {
     let timeline = begin_output(alloc, records.timeline, files)?;
     match begin_made(alloc, records, files) {
@@ -74,8 +74,8 @@ fn begin_made<'a, F: Files>(
 ) -> Result<MadeOutputs<F::Output>, Failure<'a>>
     ensures begun { IfOk result (λ made. AreBegunMade F.Output.contents records.now made) }
     ensures left { StaysBut F.content (KeepsButParts records.now) records.now files.old files.new }
-    ensures failed { IfErr result (λ failure. IsUnwrittenTo records.now.report failure
-        ⊎ (IsUnwrittenTo records.now.races failure ⊎ (IsUnwrittenTo records.now.core failure ⊎ IsUnwrittenTo records.now.digest failure))) }
+    ensures failed { IfErr result (λ failure. IsUnbegunFor records.now.report failure
+        ⊎ (IsUnbegunFor records.now.races failure ⊎ (IsUnbegunFor records.now.core failure ⊎ IsUnbegunFor records.now.digest failure))) }
 {
     let report = begin_output(alloc, records.report, files)?;
     match begin_rest(alloc, records, files) {
@@ -101,8 +101,8 @@ fn begin_rest<'a, F: Files>(
     ensures begun { IfOk result (λ rest. Carries F.Output.contents records.now.races rest.0 []
         × Carries F.Output.contents records.now.core rest.1.0 [] × Carries F.Output.contents records.now.digest rest.1.1 []) }
     ensures left { StaysBut F.content (KeepsButParts records.now) records.now files.old files.new }
-    ensures failed { IfErr result (λ failure. IsUnwrittenTo records.now.races failure
-        ⊎ (IsUnwrittenTo records.now.core failure ⊎ IsUnwrittenTo records.now.digest failure)) }
+    ensures failed { IfErr result (λ failure. IsUnbegunFor records.now.races failure
+        ⊎ (IsUnbegunFor records.now.core failure ⊎ IsUnbegunFor records.now.digest failure)) }
 {
     let races = begin_output(alloc, records.races, files)?;
     match begin_last(alloc, records, files) {
@@ -123,7 +123,7 @@ fn begin_last<'a, F: Files>(
     ensures begun { IfOk result (λ last. Carries F.Output.contents records.now.core last.0 []
         × Carries F.Output.contents records.now.digest last.1 []) }
     ensures left { StaysBut F.content (KeepsButParts records.now) records.now files.old files.new }
-    ensures failed { IfErr result (λ failure. IsUnwrittenTo records.now.core failure ⊎ IsUnwrittenTo records.now.digest failure) }
+    ensures failed { IfErr result (λ failure. IsUnbegunFor records.now.core failure ⊎ IsUnbegunFor records.now.digest failure) }
 {
     let core = begin_output(alloc, records.core, files)?;
     match begin_output(alloc, records.digest, files) {
@@ -178,7 +178,7 @@ fn begin_output<'a, F: Files>(
     ensures begun { IfOk result (λ output. Carries F.Output.contents destination.entry output []) }
     ensures kept { KeepsButPartFor destination.entry (F.content files.old) (F.content files.new) }
     ensures unnamed { IsNone destination.entry → files.new ≡ files.old }
-    ensures failed { IfErr result (IsUnwrittenTo destination.entry) }
+    ensures failed { IfErr result (IsUnbegunFor destination.entry) }
 {
     match destination {
         None => Ok(None),
@@ -188,7 +188,7 @@ fn begin_output<'a, F: Files>(
         },
         Some(Destination::File(path)) => match files.begin(alloc, path) {
             Ok(output) => Ok(Some(output)),
-            Err(fault) => Err(Failure::of_write(Target::Path(path), fault)),
+            Err(fault) => Err(Failure::of_begin(path, fault)),
         },
     }
 }

@@ -24,6 +24,12 @@ abbrev pub IsTargetOf : Option Destination → Target → Type 0
 IsTargetOf None target = ⊥
 IsTargetOf (Some destination) target = target ≡ target_of destination
 
+-- a target is the part of a destination's file
+abbrev pub IsPartTargetOf : Option Destination → Target → Type 0
+IsPartTargetOf None to = ⊥
+IsPartTargetOf (Some StandardOutput) to = ⊥
+IsPartTargetOf (Some (File path)) to = to ≡ target.PartOf path
+
 -- the output that was begun for a destination was given these bytes
 abbrev pub Carries : {O : Type 0} → (O → Option (List ℕ)) → Option Destination → Option O → List ℕ → Type 0
 Carries contents None None bytes = Unit {0}

@@ -3,11 +3,12 @@ use Rattle.std.specs.Prelude.{◌≡◌, ◌⊎◌, ℕ, ◌+◌, Option, List, 
 use Rattle.command_requests.specs.declared.failure.Failure.{Failure}
 use Rattle.command_requests.specs.declared.failure.Failure.TheVariants.{CannotRead, OutOfMemory}
 use Rattle.command_requests.specs.declared.target.Target.{Target}
-use Rattle.command_requests.specs.declared.target.Target.TheVariants.{Path, StandardInput, StandardOutput}
+use Rattle.command_requests.specs.declared.target.Target.TheVariants.{Path, PartOf, StandardInput, StandardOutput}
 
 -- whether a target is the file at a path
 abbrev pub IsAt : List ℕ → Target → Type 0
 IsAt path (Path other) = other.now ≡ path
+IsAt path (PartOf other) = ⊥
 IsAt path StandardInput = ⊥
 IsAt path StandardOutput = ⊥
 

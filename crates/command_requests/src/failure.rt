@@ -3,7 +3,7 @@ ghost use Rattle.std.specs.Prelude.{◌≡◌};
 
 use crate::target::Target;
 use elf32_reader::ElfFault;
-use output_files::{FileName, ReadFault, WriteFault};
+use output_files::{BeginFault, FileName, ReadFault, WriteFault};
 use std::alloc::AllocError;
 use thiserror::Error;
 
@@ -53,6 +53,18 @@ impl<'a> Failure<'a> {
         match fault {
             WriteFault::WriteFailed => Failure::CannotWrite(target),
             WriteFault::OutOfMemory => Failure::OutOfMemory,
+        }
+    }
+
+    /// The failure that a fault is for which no output was begun for the file at a path.
+    pub fn of_begin(path: &'a str, fault: BeginFault) -> Self
+        ensures blocked { fault ≡ BeginFault.PartBlocked → result ≡ Failure.CannotWrite (Target.PartOf path.entry) }
+        ensures failed { fault ≡ BeginFault.Write WriteFault.WriteFailed → result ≡ Failure.CannotWrite (Target.Path path.entry) }
+        ensures memory { fault ≡ BeginFault.Write WriteFault.OutOfMemory → result ≡ Failure.OutOfMemory }
+    {
+        match fault {
+            BeginFault::PartBlocked => Failure::CannotWrite(Target::PartOf(path)),
+            BeginFault::Write(fault) => Failure::of_write(Target::Path(path), fault),
         }
     }
 }

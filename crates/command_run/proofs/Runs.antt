@@ -26,7 +26,7 @@ use Rattle.token.specs.Setup.{Setup}
 use Rattle.token.specs.declared.outcome.RunOutcome.{RunOutcome}
 use Rattle.token.specs.declared.turn.Turn.{Turn}
 use Rattle.command_run.specs.Failure.{IsStoppedBy}
-use Rattle.command_outputs.specs.Records.{AreTextsOf, AreUnwritten, AreWritten, IsUnwritten, IsUnwrittenTo, KeepsButParts, Left, Texts}
+use Rattle.command_outputs.specs.Records.{AreTextsOf, AreUnwritten, AreWritten, IsUnbegun, IsUnwrittenTo, KeepsButParts, Left, Texts}
 use Rattle.command_outputs.specs.Recorders.{AreFor, AreSame, Writes}
 use Rattle.symbols.specs.Symbol.{SymbolLists}
 use Rattle.symbols.specs.Symbols.{symbols_of}
@@ -185,7 +185,7 @@ but_parts_twice records old now new first second = λ path trace timeline report
 
 -- the output of a text couldn't be begun, and nothing was put out
 pub concludes_unbegun : (tells : Type 0) (records : Records) (symbols : SymbolLists) (setup : Setup) (files now : Content) (out : Option (List ℕ)) (failures : ℕ) (failure : Failure)
-    (answer : Result RunOutcome Failure) → KeepsButParts records files now → IsUnwritten records failure → IsErrAnd answer (λ given. given ≡ failure)
+    (answer : Result RunOutcome Failure) → KeepsButParts records files now → IsUnbegun records failure → IsErrAnd answer (λ given. given ≡ failure)
     → Concludes tells records symbols (record { files = files; output = out; failures = failures }) (record { files = now; output = out; failures = failures }) setup answer
 concludes_unbegun tells records symbols setup files now out failures failure answer kept unwritten given =
     handed_on

@@ -21,7 +21,7 @@ use Rattle.token.specs.declared.outcome.RunOutcome.{RunOutcome}
 use Rattle.token.specs.declared.run_in_turn.RunInTurn.{RunInTurn}
 use Rattle.command_requests.specs.Names.{AreTwins, Sameness, names_of}
 use Rattle.command_requests.specs.Reading.{AreRead, IsUnread}
-use Rattle.command_outputs.specs.Records.{AreFiled, AreTextsOf, AreUnwritten, CanPrintAll, IsUnwritten, IsUnwrittenTo, KeepsButParts, Left, Texts, placed, printed}
+use Rattle.command_outputs.specs.Records.{AreFiled, AreTextsOf, AreUnwritten, CanPrintAll, IsUnbegun, IsUnwrittenTo, KeepsButParts, Left, Texts, placed, printed}
 use Rattle.command_requests.specs.declared.destination.Destination.{Destination}
 use Rattle.command_requests.specs.declared.failure.Failure.{Failure}
 use Rattle.command_requests.specs.declared.failure.Failure.TheVariants.{OneFile, CannotWrite, OutOfMemory}
@@ -123,7 +123,7 @@ IsStopped trace timeline setup before after failure =
 -- was stopped.
 abbrev pub IsHalted : Records → (before after : Host) → Failure → Setup → Type 0
 IsHalted records before after failure setup =
-    (IsUnwritten records failure × (after.output ≡ before.output)) ⊎ IsStopped records.trace records.timeline setup before after failure
+    (IsUnbegun records failure × (after.output ≡ before.output)) ⊎ IsStopped records.trace records.timeline setup before after failure
 
 -- the text is that of the run's races, if they are wanted
 abbrev pub AreWantedRaces : Records → SymbolLists → Setup → List ℕ → Type 0

@@ -53,8 +53,10 @@ impl fmt::Display for FileName<'_> {
         match self {
             FileName::At(path) => f.write_str(path),
             FileName::PartOf(path) => {
-                f.write_str(path)?;
-                f.write_str(PART)
+                f.write_str("the ")?;
+                f.write_str(PART)?;
+                f.write_str(" of ")?;
+                f.write_str(path)
             }
         }
     }

@@ -1,5 +1,6 @@
 //! The host's files behind the trait. Touches the file system below the named paths.
 use crate::access::Files;
+use crate::begin_fault::BeginFault;
 use crate::file_name::{FileName, PART};
 use crate::host_output::{End, HostOutput, copy_text};
 use crate::identity::Identity;
@@ -29,24 +30,27 @@ impl<'r, R: rt::Files + rt::Env + AllocGlobal> HostFiles<'r, R> {
         HostFiles { host }
     }
 
-    /// Begins the output for a regular file, which is there where it has permissions.
+    /// Begins the output for the regular file at a place, which is there where it has permissions. The path is the one that
+    /// leads to it.
     fn begin_part(
         &self,
+        path: &str,
         place: String,
         old: Option<Permissions>,
-    ) -> Result<HostOutput<R::File>, WriteFault> {
+    ) -> Result<HostOutput<R::File>, BeginFault> {
         if Path::new(place.as_str()).file_name().is_none() {
-            return Err(WriteFault::WriteFailed);
+            return Err(BeginFault::Write(WriteFault::WriteFailed));
         }
         let mut part = place.clone()?;
         part.push_str(PART)?;
-        let file = match old {
+        let made = match old {
             Some(permissions) => {
                 open_to_write(self.host, place.as_str())?;
-                new_file_with(self.host, part.as_str(), permissions)?
+                new_file_with(self.host, part.as_str(), permissions)
             }
-            None => new_file(self.host, part.as_str())?,
+            None => new_file(self.host, part.as_str()),
         };
+        let file = made.map_err(|error| part_fault(error, place.as_str() == path))?;
         Ok(HostOutput {
             file,
             end: End::Replace { part, place },
@@ -54,7 +58,7 @@ impl<'r, R: rt::Files + rt::Env + AllocGlobal> HostFiles<'r, R> {
     }
 
     /// Begins the output for what isn't a regular file.
-    fn begin_copy(&self, path: &str) -> Result<HostOutput<R::File>, WriteFault> {
+    fn begin_copy(&self, path: &str) -> Result<HostOutput<R::File>, BeginFault> {
         let target = open_to_write(self.host, path)?;
         Ok(HostOutput {
             file: nameless_file(self.host)?,
@@ -63,11 +67,14 @@ impl<'r, R: rt::Files + rt::Env + AllocGlobal> HostFiles<'r, R> {
     }
 
     /// Begins the output for the file at a path.
-    fn begin_at(&self, path: &str) -> Result<HostOutput<R::File>, WriteFault> {
+    fn begin_at(&self, path: &str) -> Result<HostOutput<R::File>, BeginFault> {
         match fs::metadata(self.host, path) {
             Ok(old) if !old.is_file() => self.begin_copy(path),
-            Ok(old) => self.begin_part(followed(self.host, path)?, Some(old.permissions())),
-            Err(_) => self.begin_part(followed(self.host, path)?, None),
+            Ok(old) => {
+                let place = followed(self.host, path)?;
+                self.begin_part(path, place, Some(old.permissions()))
+            }
+            Err(_) => self.begin_part(path, followed(self.host, path)?, None),
         }
     }
 }
@@ -97,7 +104,7 @@ impl<R: rt::Files + rt::Env + AllocGlobal> Files for HostFiles<'_, R> {
         }
     }
 
-    fn begin(&mut self, _alloc: Global, path: &str) -> Result<Self::Output, WriteFault> {
+    fn begin(&mut self, _alloc: Global, path: &str) -> Result<Self::Output, BeginFault> {
         let output = self.begin_at(path)?;
         Ok(output)
     }
@@ -146,6 +153,15 @@ fn is_same_identity<R: rt::Files + AllocGlobal>(
     other: FileName<'_>,
 ) -> io::Result<bool> {
     Ok(Identity::of(host, one)? == Identity::of(host, other)?)
+}
+
+/// Why a part couldn't be made. What is in its way is told only of a part that is beside the named path: one beside the target
+/// of a link has no name that the user gave.
+fn part_fault(error: io::Error, is_beside: bool) -> BeginFault {
+    if is_beside && error.kind() == ErrorKind::AlreadyExists {
+        return BeginFault::PartBlocked;
+    }
+    BeginFault::from(error)
 }
 
 /// Opens a file that is there, and leaves what it holds.

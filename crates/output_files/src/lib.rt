@@ -1,8 +1,10 @@
-//! Files by their paths: reading them, and outputs that take a file's place once they are whole.
+//! Files by their paths: reading them, and outputs that take a file's place once they are whole. Standard streams that are closed.
 #![tactic(auto)]
 
 mod access;
+mod begin_fault;
 mod file_name;
+mod held_streams;
 mod host_files;
 mod host_output;
 mod identity;
@@ -12,7 +14,9 @@ mod reading;
 mod write_fault;
 
 pub use access::Files;
-pub use file_name::FileName;
+pub use begin_fault::BeginFault;
+pub use file_name::{FileName, PART};
+pub use held_streams::{HeldStreams, PLACE_HOLDER, hold_streams, is_open};
 pub use host_files::HostFiles;
 pub use host_output::HostOutput;
 pub use read_fault::ReadFault;

@@ -59,11 +59,11 @@ fn outcomes_have_a_status_and_a_line(rt: HostRuntime) {
 }
 
 /// Failures, and the status and the line of each.
-static FAILURES: [(Failure<'static>, u8, &str); 8] = [
+static FAILURES: [(Failure<'static>, u8, &str); 9] = [
     (
         Failure::OneFile(FileName::At("a b"), FileName::PartOf("a")),
         2,
-        "error: a b and a.part name one file\n",
+        "error: a b and the .part of a name one file\n",
     ),
     (
         Failure::ElfRefused(ElfFault::BadEntry),
@@ -85,6 +85,11 @@ static FAILURES: [(Failure<'static>, u8, &str); 8] = [
         Failure::CannotWrite(Target::Path("t")),
         124,
         "cannot write t\n",
+    ),
+    (
+        Failure::CannotWrite(Target::PartOf("t")),
+        124,
+        "cannot write t.part\n",
     ),
     (
         Failure::CannotWrite(Target::StandardOutput),

@@ -3,7 +3,7 @@
 use crate::given_reader::EndlessReader;
 use crate::memory_file::{MemoryFile, is_old};
 use crate::memory_output::MemoryOutput;
-use output_files::{FileName, Files, ReadFault, WriteFault, read_upto};
+use output_files::{BeginFault, FileName, Files, ReadFault, WriteFault, read_upto};
 use std::alloc::{AllocError, Global};
 use std::io::Write;
 
@@ -24,6 +24,9 @@ const TWIN: &str = "twin";
 
 /// A path for which no output is begun, since memory is refused for that.
 const UNBEGUN: &str = "unbegun";
+
+/// A path for which no output is begun, since something is in the way of its part.
+const BLOCKED: &str = "blocked";
 
 /// A program, a schedule, and the files that can be written. No other path has a file.
 #[derive(Drop)]
@@ -142,12 +145,14 @@ impl Files for MemoryFiles {
         Ok(first_name(one).text(alloc)? == first_name(other).text(alloc)?)
     }
 
-    fn begin(&mut self, alloc: Global, path: &str) -> Result<MemoryOutput, WriteFault> {
-        if path == UNBEGUN {
-            return Err(WriteFault::OutOfMemory);
+    fn begin(&mut self, alloc: Global, path: &str) -> Result<MemoryOutput, BeginFault> {
+        match path {
+            UNBEGUN => return Err(BeginFault::Write(WriteFault::OutOfMemory)),
+            BLOCKED => return Err(BeginFault::PartBlocked),
+            _ => {}
         }
         if !self.note_part(path, true) {
-            return Err(WriteFault::WriteFailed);
+            return Err(BeginFault::Write(WriteFault::WriteFailed));
         }
         Ok(MemoryOutput::new(alloc, self.room))
     }

@@ -1,5 +1,5 @@
 //! Files in memory: a program, a schedule, and the texts that a command writes.
-use output_files::{FileName, Files, ReadFault, WriteFault, read_upto};
+use output_files::{BeginFault, FileName, Files, ReadFault, WriteFault, read_upto};
 use std::alloc::{AllocError, Global};
 use std::io::Write;
 
@@ -81,10 +81,10 @@ impl Files for MemoryFiles<'_> {
         Ok(one.text(alloc)? == other.text(alloc)?)
     }
 
-    fn begin(&mut self, alloc: Global, path: &str) -> Result<Vec<u8>, WriteFault> {
+    fn begin(&mut self, alloc: Global, path: &str) -> Result<Vec<u8>, BeginFault> {
         match path {
             TRACE | REPORT | DIGEST => Ok(Vec::new(alloc)),
-            _ => Err(WriteFault::WriteFailed),
+            _ => Err(BeginFault::Write(WriteFault::WriteFailed)),
         }
     }
 

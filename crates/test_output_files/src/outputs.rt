@@ -3,10 +3,13 @@
 use crate::fakes::LosingWriter;
 use crate::host::mode_of;
 use crate::words::{octal, split};
-use output_files::{Files, HostFiles, HostOutput, WriteFault};
+use output_files::{BeginFault, Files, HostFiles, HostOutput, WriteFault};
 use std::fs::File;
 use std::io::Write;
 use std::{fs, io};
+
+/// What is answered for a file that can't be written.
+const WRITE_FAILED: BeginFault = BeginFault::Write(WriteFault::WriteFailed);
 
 /// The output that was begun and isn't ended.
 pub type Held = Option<HostOutput<File>>;
@@ -16,23 +19,24 @@ pub fn output(rt: &HostRuntime, held: &mut Held, verb: &str, rest: &str) -> io::
     let mut files = HostFiles::new(rt);
     let (path, text) = split(rest);
     match verb {
-        "refused" => Ok(is_refused(rt, rest)),
-        "begin" => hold(rt, held, files.begin(rt.alloc(), path), text),
-        "aside" => hold(rt, held, files.begin_aside(), rest),
+        "refused" => Ok(is_refused(rt, rest, WRITE_FAILED)),
+        "blocked" => Ok(is_refused(rt, rest, BeginFault::PartBlocked)),
+        "begin" => hold(rt, held, files.begin(rt.alloc(), path).ok(), text),
+        "aside" => hold(rt, held, files.begin_aside().ok(), rest),
         "mode" => is_mode(rt, rest),
         _ => end(rt, held, verb, rest),
     }
 }
 
-/// Whether no output is begun for the file at a path, since it can't be written.
-fn is_refused(rt: &HostRuntime, path: &str) -> bool {
+/// Whether no output is begun for the file at a path, for this fault.
+fn is_refused(rt: &HostRuntime, path: &str, wanted: BeginFault) -> bool {
     let mut files = HostFiles::new(rt);
     match files.begin(rt.alloc(), path) {
         Ok(output) => {
             files.abandon(path, output);
             false
         }
-        Err(fault) => fault == WriteFault::WriteFailed,
+        Err(fault) => fault == wanted,
     }
 }
 
@@ -40,10 +44,10 @@ fn is_refused(rt: &HostRuntime, path: &str) -> bool {
 fn hold(
     rt: &HostRuntime,
     held: &mut Held,
-    begun: Result<HostOutput<File>, WriteFault>,
+    begun: Option<HostOutput<File>>,
     text: &str,
 ) -> io::Result<bool> {
-    let Ok(mut output) = begun else {
+    let Some(mut output) = begun else {
         return Ok(false);
     };
     let written = write_out(&mut output, text);
