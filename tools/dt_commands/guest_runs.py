@@ -1,7 +1,9 @@
 """Runs of guest programs: which program runs them, with which workers, and how the runs of one guest are compared."""
 import os
+import re
 import subprocess
 import sys
+import time
 from collections import namedtuple
 
 from dt_commands.repository import TOP
@@ -9,6 +11,8 @@ from dt_commands.texts import contents, first_difference
 
 KIT = f"{TOP}/guest"
 WORKERS = (1, 2, 4, 64)
+# After how many seconds the memory of a run is looked at again.
+LOOK = 0.002
 # What a run gave: its status, standard output, standard error, and trace, or None if it left none.
 Run = namedtuple("Run", "status output errors trace")
 
@@ -23,6 +27,26 @@ def compiled(words, out, folder=None):
     how = {"cwd": folder, "stdout": subprocess.PIPE, "stderr": subprocess.STDOUT, "errors": "replace"}
     ran = subprocess.run([f"{KIT}/dthreads-cc", *words, "-o", out], **how)
     return ran.stdout if ran.returncode else None
+
+
+def memory_of(process):
+    """Returns how many KiB a process had at most so far, 0 if it has ended."""
+    with open(f"/proc/{process.pid}/status", encoding="utf-8") as it:
+        found = re.search(r"VmHWM:\s+(\d+)", it.read())
+    return int(found[1]) if found else 0
+
+
+def taken(process):
+    """Waits for the end of a process. Returns the processor seconds that it took, and how many KiB it had at most while it was looked at.
+    What the system tells at the end isn't its memory: that of the process which started it counts there."""
+    most = 0
+    while True:
+        most = max(most, memory_of(process))
+        ended, _, used = os.wait4(process.pid, os.WNOHANG)
+        if ended:
+            process.returncode = 0
+            return used.ru_utime + used.ru_stime, most
+        time.sleep(LOOK)
 
 
 class Tally:

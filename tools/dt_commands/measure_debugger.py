@@ -59,9 +59,7 @@ class Debugged:
         return time.time() - begun
 
     def memory(self):
-        """Returns how many KiB it had at most."""
-        with open(f"/proc/{self.process.pid}/status", encoding="utf-8") as it:
-            return int(re.search(r"VmHWM:\s+(\d+)", it.read())[1])
+        return guest_runs.memory_of(self.process)
 
     def processor_seconds(self):
         """Returns how much processor time it took so far."""
@@ -118,9 +116,7 @@ def with_a_point(elf):
     debugged.go("vCont;c")
     taken = debugged.processor_seconds()
     debugged.end()
-    process = subprocess.Popen([guest_runs.program(), "run", elf], stdin=subprocess.DEVNULL)
-    run = os.wait4(process.pid, 0)[2]
-    return taken / (run.ru_utime + run.ru_stime)
+    return taken / guest_runs.taken(subprocess.Popen([guest_runs.program(), "run", elf], stdin=subprocess.DEVNULL))[0]
 
 
 def steps_back(elf):
@@ -137,8 +133,7 @@ def steps_back(elf):
 
 def beside(elf):
     """Returns how many KiB a run to the end has at most in the debugger, beyond the plain run."""
-    process = subprocess.Popen([guest_runs.program(), "run", elf])
-    run = os.wait4(process.pid, 0)[2].ru_maxrss
+    run = guest_runs.taken(subprocess.Popen([guest_runs.program(), "run", elf], stdin=subprocess.DEVNULL))[1]
     debugged = Debugged(elf)
     debugged.go("vCont;c")
     most = debugged.memory()

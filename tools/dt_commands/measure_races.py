@@ -25,10 +25,8 @@ def taken(prepared, words):
     with tempfile.TemporaryFile() as given:
         given.write(prepared.given)
         given.seek(0)
-        child = subprocess.Popen(command, stdin=given, stdout=subprocess.DEVNULL, stderr=subprocess.DEVNULL)
-        _, _, used = os.wait4(child.pid, 0)
-        child.returncode = 0
-    return used.ru_utime + used.ru_stime, used.ru_maxrss / 1024
+        seconds, memory = guest_runs.taken(subprocess.Popen(command, stdin=given, stdout=subprocess.DEVNULL, stderr=subprocess.DEVNULL))
+    return seconds, memory / 1024
 
 
 def least(prepared, words, rounds):
