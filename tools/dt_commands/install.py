@@ -1,9 +1,9 @@
 """Installs the program, the kit for programs in C, the samples and the pages below a prefix.
 
-Below PREFIX, bin/ has dthreads, dthreads-cc, dthreads-c++, dthreads-exec, dthreads-gdb and dthreads-lines as links to the kit, and
-dthreads-picture; share/dthreads/ has the kit (guest/), the samples and what draws pictures (tools/), share/doc/dthreads the pages, as
-they speak of what is installed, and share/man/man1 the manual page. All of it works without the checkout, from any folder, and may be
-moved as a whole. What an earlier call left below share/dthreads and share/doc/dthreads is replaced.
+Below PREFIX, bin/ has dthreads, and dthreads-cc, dthreads-c++, dthreads-exec, dthreads-gdb, dthreads-lines and dthreads-picture as links
+to the kit; share/dthreads/ has the kit (guest/), the samples and what draws pictures (tools/), share/doc/dthreads the pages, as they
+speak of what is installed, and share/man/man1 the manual page. All of it works without the checkout, from any folder, and may be moved
+as a whole. What an earlier call left below share/dthreads and share/doc/dthreads is replaced.
 
 The program is the one built here from the sources as they are, or the release if it is theirs; else build it first. If the compiler of
 guest programs is there, the C library is built, since a user may not write below PREFIX; what the checkout has built of it serves if no
@@ -23,8 +23,7 @@ from dt_commands.repository import TOP
 BIN, SHARE, DOC, MAN = "bin", "share/dthreads", "share/doc/dthreads", "share/man/man1"
 # What of guest/ isn't the kit: its tests, the lists that a page is made from, and what was built.
 NOT_KIT = ("tests", "reference", "out")
-COMMANDS = ("dthreads-cc", "dthreads-c++", "dthreads-exec", "dthreads-gdb", "dthreads-lines")
-PICTURE = "dthreads-picture"
+COMMANDS = ("dthreads-cc", "dthreads-c++", "dthreads-exec", "dthreads-gdb", "dthreads-lines", "dthreads-picture")
 # C++'s library, if guest/build-libstdcxx was done, and C's, if a program was compiled here.
 LIBSTDCXX, LIBRARY = "guest/out/libstdcxx", "guest/out/libdthreads.a"
 PAGES = ("README.md", "CONTRIBUTING.md", "LICENSE-APACHE", "LICENSE-MIT")
@@ -87,15 +86,13 @@ def install_kit(prefix):
 
 
 def install_picture(prefix):
-    """Installs the command that draws timelines."""
+    """Installs the modules that draw timelines."""
     folder = f"{prefix}/{SHARE}/tools"
     if os.path.isdir(folder):
         shutil.rmtree(folder)
     os.makedirs(f"{folder}/dt_commands")
-    shutil.copy2(f"{TOP}/tools/{PICTURE}", folder)
     for it in [f"{TOP}/tools/dt_commands/__init__.py", *glob.glob(f"{TOP}/tools/dt_commands/picture*.py")]:
         shutil.copy2(it, f"{folder}/dt_commands")
-    link(f"{folder}/{PICTURE}", f"{prefix}/{BIN}/{PICTURE}")
 
 
 def write_installed(page, file):
@@ -136,5 +133,5 @@ def run(options):
     install_picture(prefix)
     install_pages(prefix)
     build_library(prefix)
-    print(f"installed below {prefix}: {BIN}/dthreads, {', '.join((*COMMANDS, PICTURE))}, {SHARE}, {DOC}, {MAN}/dthreads.1")
+    print(f"installed below {prefix}: {BIN}/dthreads, {', '.join(COMMANDS)}, {SHARE}, {DOC}, {MAN}/dthreads.1")
     return 0

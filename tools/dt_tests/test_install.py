@@ -178,7 +178,7 @@ class Installed(OfACopy):
         ran = self.called("dthreads", "run", f"{race}.elf", "--trace", "-")
         with open(f"{race}.trace", "rb") as it:
             self.assertEqual((ran.returncode, ran.stdout), (2, it.read()))
-        for name in (*install.COMMANDS, install.PICTURE):
+        for name in install.COMMANDS:
             helped = self.called(name, "--help")
             self.assertEqual((helped.returncode, re.findall(rb"guest/dthreads\S*|tools/dt \S*", helped.stdout)), (0, []), name)
         self.assertTrue(os.path.exists(f"{self.prefix}/share/dthreads/guest/dthreads.gdb"))
