@@ -11,7 +11,7 @@ use crate::stops::Stops;
 use std::alloc::AllocError;
 use token::TurnFault;
 
-/// After how many instructions without a halt the code is marked, which takes as long as several hundred.
+/// After how many instructions without a halt the code is marked. That takes as long as hundreds of them, and longer with more code.
 const QUIET: u32 = 4096;
 
 /// A halt, and the step at which it stands.

@@ -15,7 +15,7 @@ use std::mem;
 use token::{SegmentEnd, Work};
 use twins::View;
 
-/// How many instructions are executed one by one before the code is marked, which takes as long as several hundred.
+/// How many instructions are executed one by one before the code is marked. That takes as long as hundreds of them, and longer with more code.
 const ALONE: u64 = 64;
 
 /// A segment that has begun and isn't over.
