@@ -7,7 +7,8 @@ docs/PROVED.md; the transcripts in docs/DEBUGGING.md, from the
 sessions of guest/tests/gdb; and man/dthreads.1, from docs/CLI.md. Besides,
 each line of a block marked `antt` must be in the sources, so that no page quotes what isn't there, each link must lead to a file
 and a heading, the picture of the layers in docs/ARCHITECTURE.md must show what crates.txt has, what README.md says of speed must be in
-docs/BENCH.md, and the pages that are read as a whole have a size that they don't exceed.
+docs/BENCH.md, docs/PROVED.md must name the toolchain of the release, and the pages that are read as a whole have a size that they
+don't exceed.
 """
 import os
 import re
@@ -75,16 +76,23 @@ def unmeasured(readme, bench):
     return [f"README.md: docs/BENCH.md has no {it}" for it in ranges if not re.search(rf"\b{re.escape(it)}\b", bench)]
 
 
+def of_another_toolchain(proved, record):
+    """Returns what of the toolchain in the release's record a page doesn't name: the kit and its logic."""
+    kit, _, logic = record.partition("\n")[0].partition("rt version: ")[2].partition(" logic ")
+    return [f"docs/PROVED.md: it doesn't name {it}, as release/sources.sha256 does" for it in (kit, logic) if it not in proved]
+
+
 def differing():
     """Returns the pages whose generated parts differ from what they must be, with what they must be."""
     return {page: text for page, text in pages().items() if not os.path.exists(f"{TOP}/{page}") or read(page) != text}
 
 
 def told_wrong():
-    """Prints each wrong quotation, each broken link, each page that is too long, what the picture of the layers shows wrongly and each
-    number that no measurement has, and returns how many there are."""
+    """Prints each wrong quotation, each broken link, each page that is too long, what the picture of the layers shows wrongly, each number
+    that no measurement has and another toolchain than the release's, and returns how many there are."""
     wrong = [f"{it}: no source has this line" for it in misquoted()] + page_links.broken() + too_long(LIMITS)
     wrong += layer_picture.found() + unmeasured(read("README.md"), read("docs/BENCH.md"))
+    wrong += of_another_toolchain(read("docs/PROVED.md"), read("release/sources.sha256"))
     for line in wrong:
         print(line)
     return len(wrong)

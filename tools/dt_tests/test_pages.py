@@ -88,6 +88,13 @@ class Speed(unittest.TestCase):
         self.assertEqual(pages.unmeasured(readme, "| one | 2.4 to 2.5 ns |\n| four | 3.6 to 3.8 |\n| 13.4 to 3.75 |"), ["README.md: docs/BENCH.md has no 3.4 to 3.7"])
 
 
+class Toolchain(unittest.TestCase):
+    def test_another_toolchain_than_the_releases_is_told(self):
+        record = "# rt version: kit-2 logic abc\n0 file\n"
+        self.assertEqual(pages.of_another_toolchain("Proved with `kit-2`, logic `abc`.", record), [])
+        self.assertEqual(len(pages.of_another_toolchain("Proved with `kit-1`, logic `abc`.", record)), 1)
+
+
 class Links(unittest.TestCase):
     def test_anchors_are_those_of_code_hosts(self):
         self.assertEqual(page_links.anchors("# A\n## `run`, and more!\n"), {"a", "run-and-more"})
