@@ -39,7 +39,7 @@ TEST = re.compile(r"^\s*#\[test\]", re.M)
 VERDICT = re.compile(r"^test (\S+) \.\.\. (ok|FAILED)$")
 ENDED = re.compile(r"^run=ended status=(\d+) ", re.M)
 # A constant of a number or of a list of numbers, which is all that src.unproved may change.
-CONSTANT = re.compile(r"((?:pub )?const \w+: )[^=]+ = [\d_, \[\]]+;")
+CONSTANT = re.compile(r"((?:pub )?const \w+: )[^=]+ = (?:[\d_, \[\]]|\bu\d+::MAX\b)+;")
 # How much of what a test, or a crate that doesn't compile, says is shown.
 SHOWN = 12
 

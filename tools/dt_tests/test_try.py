@@ -115,7 +115,7 @@ class SmallerNumbers(unittest.TestCase):
         room = tempfile.TemporaryDirectory()
         self.addCleanup(room.cleanup)
         self.folder = f"{room.name}/crates/small"
-        self.write("src/lib.rt", "const TIMES: u32 = 100;\nconst EACH: [u32; 2] = [1, 64];\nfn f() {}\n")
+        self.write("src/lib.rt", "const TIMES: u32 = 100;\nconst EACH: [u32; 2] = [1, u32::MAX];\nfn f() {}\n")
         self.write("out/kept", "")
 
     def write(self, name, text):
@@ -127,7 +127,7 @@ class SmallerNumbers(unittest.TestCase):
         self.write("src.unproved", "file: src/lib.rt\n" + "".join(f"old: {old}\nnew: {new}\n" for old, new in pairs))
 
     def test_constants_have_other_values_in_a_copy(self):
-        self.edit(("const TIMES: u32 = 100;", "const TIMES: u32 = 5;"), ("const EACH: [u32; 2] = [1, 64];", "const EACH: [u32; 1] = [4];"))
+        self.edit(("const TIMES: u32 = 100;", "const TIMES: u32 = 5;"), ("const EACH: [u32; 2] = [1, u32::MAX];", "const EACH: [u32; 1] = [4];"))
         with mock.patch.object(test, "below", lambda _: ["small"]), mock.patch.object(test, "crates", lambda: {"small": []}):
             with test.as_unproved(self.folder) as copy:
                 self.assertNotEqual(copy, self.folder)
