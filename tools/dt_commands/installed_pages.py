@@ -12,11 +12,11 @@ LINES = ("tools/dt ", ".ci/run")
 WORDS = [
     (r"\btools/dt picture\b", "dthreads-picture"),
     (r"\bguest/(dthreads-(?:cc|exec|gdb|lines|picture)\b|dthreads-c\+\+)", r"\1"),
-    (r"(?<![\w/.])\.{1,2}/dthreads\b", "dthreads"),
+    (r"(?<![\w/.])\.{1,2}/dthreads\b(?! --build)", "dthreads"),
 ]
 WHERE = (
-    "> Installed: the folders `samples` and `guest` are in `share/dthreads` below the prefix. `crates`, `tools`, `release` and `.ci` are in a clone of "
-    "the project alone.\n"
+    "> Installed: the folders `samples` and `guest` are in `share/dthreads` below the prefix. `crates`, `tools`, `release`, `.ci` and "
+    "`./dthreads --build` are in a clone of the project alone.\n"
 )
 
 

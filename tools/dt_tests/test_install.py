@@ -65,7 +65,7 @@ tools/dt test         runs every test
 .ci/run               the gate
 ```
 
-`../dthreads` and `tools/dt picture`, [samples](samples/README.md).
+`../dthreads` and `tools/dt picture`, [samples](samples/README.md); `./dthreads --build`.
 """
 
 
@@ -191,7 +191,7 @@ class Installed(OfACopy):
         for page in pages:
             with open(page, encoding="utf-8") as it:
                 text = it.read()
-            self.assertEqual(re.findall(r"(?<![\w/.])\.\.?/dthreads\b|tools/dt picture|guest/dthreads-", text), [], page)
+            self.assertEqual(re.findall(r"(?<![\w/.])\.\.?/dthreads\b(?! --build)|tools/dt picture|guest/dthreads-", text), [], page)
             for link in re.findall(r"\]\(([^)\s]+)\)", re.sub(r"^```.*?^```$", "", text, flags=re.M | re.S)):
                 if not re.match(r"[a-z]+:|#", link):
                     self.assertTrue(os.path.exists(os.path.join(os.path.dirname(page), link.partition("#")[0])), f"{page}: {link}")
