@@ -18,7 +18,7 @@ INLINE = "hart::near::"
 
 
 def arguments(parser):
-    parser.add_argument("--check", action="store_true", help="make nothing: fail if the release is of these sources and another program than the one built here, or if its loop calls an instruction")
+    parser.add_argument("--check", action="store_true", help="make nothing: fail if there is no release, if it is of these sources and this toolchain and another program than the one built here, or if the loop of that one calls an instruction")
 
 
 def say(text):
@@ -56,35 +56,50 @@ def why_other_sources(top=TOP):
     return f"{FILE} is of other sources: {', '.join(others[:3])}{more}" if others else None
 
 
-def why_another(top=TOP, version=None):
-    """Returns why a build of these sources by this toolchain may differ from the release, or None if it mustn't, or if there is none."""
-    recorded, version = built_from.read(f"{top}/{RECORD}"), version or toolchain.version()
-    if recorded and recorded[0] != version:
-        return f"{FILE} is of another toolchain: {recorded[0]}"
-    return why_other_sources(top)
+def logic_of(version):
+    """Returns the logic of a toolchain, by its `rt version`: kits with one logic prove alike, and may compile differently."""
+    return version.partition(" logic ")[2]
+
+
+def is_comparable(recorded, version):
+    """Whether a toolchain has the logic of the one that a release is of, so that the program built by it is compared."""
+    return recorded == version or logic_of(recorded) == logic_of(version) != ""
 
 
 def comparison(top=TOP, version=None):
     """Returns whether the release and the program in out/ are at odds, and what is to be said of them."""
-    file, recorded = f"{top}/{FILE}", built_from.read(f"{top}/{RECORD}")
-    if not recorded and not os.path.exists(file):
-        return False, f"there is no {FILE} to compare with"
+    file, recorded, version = f"{top}/{FILE}", built_from.read(f"{top}/{RECORD}"), version or toolchain.version()
     if not recorded or not os.access(file, os.X_OK):
         return True, f"of {FILE} and {RECORD} one is missing, or the program is not executable: `tools/dt release` makes both"
-    reason = why_another(top, version)
+    reason = why_other_sources(top)
     if reason:
         return False, f"{reason}. `tools/dt release` makes it anew"
+    if not is_comparable(recorded[0], version):
+        return False, f"{FILE} is of a toolchain with another logic, and not compared: {recorded[0]}. `tools/dt release` makes it anew"
     if not is_built(top):
         return True, f"{FILE} is of these sources, but no program built from them is here to compare it with"
-    released, built = bytes_of(file), executable.stripped(bytes_of(f"{top}/crates/command/out/command"))
-    if released != built:
-        return True, f"{FILE} is not the program built from the same sources: sha256 {sum_of(released)} and {sum_of(built)}"
-    return False, f"the program is {FILE}, byte for byte"
+    return compared(bytes_of(file), executable.stripped(bytes_of(f"{top}/crates/command/out/command")), recorded[0], version)
 
 
-def calls_of_loop(file=BUILT):
-    """Returns what the hart's loops call in the program that was built, in place of having it inline."""
-    return sorted({it for it in executable.names(bytes_of(file)) if it.startswith(INLINE)}) if os.path.isfile(file) else []
+def compared(released, built, recorded, version):
+    """Returns the same of the bytes of both. A difference refuses the release only if one kit made both: another one of the same logic may
+    have another compiler."""
+    both = f"{recorded}, and {version} of the same logic" if recorded != version else recorded
+    if released == built:
+        return False, f"the program is {FILE}, byte for byte ({both})"
+    sums = f"sha256 {sum_of(released)} and {sum_of(built)}"
+    if recorded != version:
+        return False, f"WARNING: {FILE} DIFFERS from the program built here from the same sources, by another kit ({both}): {sums}"
+    return True, f"{FILE} is not the program built from the same sources: {sums}"
+
+
+def wrong_in_loop(file=BUILT):
+    """Returns what the hart's loops call in the program that was built, in place of having it inline; or that it has no names to tell by."""
+    names = executable.names(bytes_of(file)) if os.path.isfile(file) else []
+    calls = sorted({it for it in names if it.startswith(INLINE)})
+    if not names:
+        return [f"{os.path.relpath(file, TOP)} isn't there or has no symbols, so nobody can tell what a loop of the hart calls"]
+    return [f"a loop of the hart calls {it}, which it must have inline" for it in calls]
 
 
 def make(top=TOP, version=None):
@@ -112,7 +127,7 @@ def run(options):
         return make()
     is_at_odds, text = comparison()
     say(text)
-    calls = calls_of_loop()
-    for it in calls:
-        say(f"a loop of the hart calls {it}, which it must have inline")
-    return 1 if is_at_odds or calls else 0
+    wrong = wrong_in_loop()
+    for it in wrong:
+        say(it)
+    return 1 if is_at_odds or wrong else 0

@@ -153,8 +153,19 @@ class Stripped(unittest.TestCase):
         with tempfile.NamedTemporaryFile() as it:
             it.write(with_symbols("main", "hart::near::put", "hart::near_run::run_near"))
             it.flush()
-            self.assertEqual(release.calls_of_loop(it.name), ["hart::near::put"])
-        self.assertEqual(release.calls_of_loop("/nowhere"), [])
+            self.assertEqual(release.wrong_in_loop(it.name), ["a loop of the hart calls hart::near::put, which it must have inline"])
+
+    def test_a_program_without_symbols_is_not_taken_for_one_without_calls(self):
+        with tempfile.NamedTemporaryFile() as it:
+            it.write(with_symbols("main", "hart::near_run::run_near"))
+            it.flush()
+            self.assertEqual(release.wrong_in_loop(it.name), [])
+            it.seek(0)
+            it.truncate()
+            it.write(executable.stripped(bytes(ELF)))
+            it.flush()
+            self.assertIn("has no symbols", release.wrong_in_loop(it.name)[0])
+        self.assertIn("isn't there", release.wrong_in_loop("/nowhere")[0])
 
 
 class Releases(Tree):
@@ -162,29 +173,28 @@ class Releases(Tree):
         self.write(BUILT, data, 0o755)
         built_from.write(f"{self.top}/{built_from.OF_BUILD}", "kit 1", self.listed())
 
-    def compared(self):
-        return release.comparison(self.top, "kit 1")
+    def compared(self, version="kit 1 logic a"):
+        return release.comparison(self.top, version)
 
     def make(self):
-        return release.make(self.top, "kit 1")
+        return release.make(self.top, "kit 1 logic a")
 
     def setUp(self):
         super().setUp()
         self.addCleanup(setattr, release, "say", release.say)
         release.say = lambda text: None
 
-    def test_there_is_none_yet(self):
+    def test_a_checkout_without_one_is_refused(self):
         self.build()
         is_at_odds, text = self.compared()
-        self.assertFalse(is_at_odds)
-        self.assertIn("there is no", text)
+        self.assertTrue(is_at_odds)
+        self.assertIn("one is missing", text)
 
     def test_it_is_what_was_built(self):
         self.build()
         self.assertEqual(self.make(), 0)
         self.assertTrue(os.access(f"{self.top}/{RELEASED}", os.X_OK))
-        self.assertEqual(self.compared(), (False, f"the program is {RELEASED}, byte for byte"))
-        self.assertIsNone(release.why_another(self.top, "kit 1"))
+        self.assertEqual(self.compared(), (False, f"the program is {RELEASED}, byte for byte (kit 1 logic a)"))
 
     def test_other_symbols_are_no_difference(self):
         self.build()
@@ -207,14 +217,36 @@ class Releases(Tree):
         is_at_odds, text = self.compared()
         self.assertFalse(is_at_odds)
         self.assertIn("other sources: crates/low/src/lib.rt", text)
-        self.assertIn("other sources", release.why_another(self.top, "kit 1"))
 
-    def test_a_release_of_another_toolchain_is_told_and_not_refused(self):
+    def test_a_release_of_another_logic_is_told_and_not_compared(self):
         self.build()
         self.make()
-        is_at_odds, text = release.comparison(self.top, "kit 2")
+        self.build(ELF.replace(b"segment.", b"another."))
+        for version in ("kit 2 logic b", "kit 1", ""):
+            is_at_odds, text = self.compared(version)
+            self.assertFalse(is_at_odds)
+            self.assertIn("another logic, and not compared: kit 1 logic a", text)
+
+    def test_a_release_of_another_kit_of_one_logic_is_compared(self):
+        self.build()
+        self.make()
+        both = "kit 1 logic a, and kit 2 logic a of the same logic"
+        self.assertEqual(self.compared("kit 2 logic a"), (False, f"the program is {RELEASED}, byte for byte ({both})"))
+
+    def test_a_difference_under_another_kit_of_one_logic_is_told_and_not_refused(self):
+        self.build()
+        self.make()
+        self.build(ELF.replace(b"segment.", b"another."))
+        is_at_odds, text = self.compared("kit 2 logic a")
         self.assertFalse(is_at_odds)
-        self.assertIn("another toolchain: kit 1", text)
+        self.assertIn(f"WARNING: {RELEASED} DIFFERS from the program built here from the same sources, by another kit", text)
+        self.assertTrue(self.compared()[0])
+
+    def test_under_another_kit_too_a_program_has_to_be_there(self):
+        self.build()
+        self.make()
+        os.remove(f"{self.top}/{BUILT}")
+        self.assertTrue(self.compared("kit 2 logic a")[0])
 
     def test_half_a_release_is_refused(self):
         self.build()
