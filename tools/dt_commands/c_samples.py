@@ -78,7 +78,7 @@ def check(options):
         print(f"{os.path.relpath(file, TOP)} differs", file=sys.stderr)
     if not differing:
         print(f"{len(samples())} samples built")
-    return 1 if differing else 0
+    return 1 if differing or not samples() else 0
 
 
 def write(options):

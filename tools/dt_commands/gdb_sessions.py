@@ -36,6 +36,7 @@ SETTINGS = ["set confirm off", "set width 0", "set height 0", "set style enabled
 
 def arguments(parser):
     parser.add_argument("names", nargs="*", metavar="NAME", help="the sessions (default: all)")
+    guest_runs.with_share(parser)
 
 
 class Debugger:
@@ -167,7 +168,7 @@ def write(options):
 
 def test(options):
     """Runs the sessions of gdb in guest/tests/gdb, and compares what gdb prints with what each session says."""
-    tally, chosen = guest_runs.Tally(), options.names or names()
+    tally, chosen = guest_runs.Tally(), guest_runs.share(options.share, options.names or names())
     tally.tried = len(chosen)
     for session, _, found in run(chosen):
         for it in faults(session, found):

@@ -49,6 +49,19 @@ def taken(process):
         time.sleep(LOOK)
 
 
+def with_share(parser):
+    """Gives a part its option to make a share alone."""
+    parser.add_argument("--share", default="1/1", metavar="K/N", help="the Kth of N shares alone, which are disjoint and have all together")
+
+
+def share(text, things):
+    """Returns the Kth of N shares of some things, by the option's text."""
+    at, count = (int(it) for it in text.split("/"))
+    if not 1 <= at <= count:
+        raise SystemExit(f"tools/dt: there is no share {text}")
+    return list(things)[at - 1 :: count]
+
+
 class Tally:
     """Counts what was tried and what failed; each failure is told at once, on standard error."""
 
@@ -61,6 +74,9 @@ class Tally:
 
     def status(self, what, well):
         """Prints how it ended: `what` were tried, and what is so if none failed. Returns the status."""
+        if not self.tried:
+            print(f"no {what} were tried", file=sys.stderr)
+            return 1
         if self.failed:
             print(f"{self.failed} failures in {self.tried} {what}", file=sys.stderr)
             return 1

@@ -21,6 +21,7 @@ EXEC = "exec"
 
 def arguments(parser):
     parser.add_argument("names", nargs="*", metavar="NAME", help="the programs (default: all, and what must not build)")
+    guest_runs.with_share(parser)
 
 
 def source_of(name):
@@ -87,16 +88,23 @@ def chosen(names):
     return [it for it in rows if not names or it[0] in names]
 
 
+def tasks(names):
+    """Returns what is tried: a name and a call each. Without names, what must not build is among it."""
+    found = [(row[0], lambda tally, room, row=row: test_exec(tally, room) if row == [EXEC] else test_program(tally, room, *row))
+             for row in chosen(names)]
+    sources = [[os.path.relpath(it, FOLDER)] for it in sorted(glob.glob(f"{FOLDER}/refused/*.c"))]
+    if not sources:
+        raise SystemExit(f"{FOLDER}/refused has no program that must not build")
+    for words in [] if names else [*sources, *([it, "words.c"] for it in REFUSED)]:
+        found.append((words[0], lambda tally, room, words=words: test_refused(tally, room, *words)))
+    return found
+
+
 def test(options):
     """Builds the programs of guest/tests, and runs each with 1, 2, 4 and 64 workers: wanted output and status, and one trace."""
-    tally, rows = guest_runs.Tally(), chosen(options.names)
-    tally.tried = len(rows)
-    with tempfile.TemporaryDirectory() as room, Progress("programs", len(rows)) as progress:
-        for row in progress.each(rows, lambda it: it[0]):
-            test_exec(tally, room) if row == [EXEC] else test_program(tally, room, *row)
-        if not options.names:
-            for source in sorted(glob.glob(f"{FOLDER}/refused/*.c")):
-                test_refused(tally, room, os.path.relpath(source, FOLDER))
-            for option in REFUSED:
-                test_refused(tally, room, option, "words.c")
-    return tally.status("programs", ", each with 1, 2, 4 and 64 workers: the wanted output and one trace")
+    tally, every = guest_runs.Tally(), guest_runs.share(options.share, tasks(options.names))
+    tally.tried = len(every)
+    with tempfile.TemporaryDirectory() as room, Progress("programs", len(every)) as progress:
+        for _, does in progress.each(every, lambda it: it[0]):
+            does(tally, room)
+    return tally.status("programs", ", each with 1, 2, 4 and 64 workers: the wanted output and one trace; or it must not build")

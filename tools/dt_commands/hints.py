@@ -190,12 +190,16 @@ def rows(room):
     return "".join(" ".join(line) + "\n" for line in found.lines), list(unbalanced(hints))
 
 
+def arguments(parser):
+    guest_runs.with_share(parser)
+
+
 def test(options):
     """Traces the hints of guest/tests/hints.c, and those of other programs, in which each thread leaves what it entered."""
-    tally = guest_runs.Tally()
-    tally.tried = 1 + len(BALANCED)
+    tally, every = guest_runs.Tally(), guest_runs.share(options.share, [NAME, *BALANCED])
+    tally.tried = len(every)
     with tempfile.TemporaryDirectory() as room, Progress("programs", tally.tried) as progress:
-        for name in progress.each([NAME, *BALANCED]):
+        for name in progress.each(every):
             if name == NAME:
                 text, wrong = rows(room)
                 if text.encode() != contents(WANTED):

@@ -20,6 +20,8 @@ MEETING = [2, 64]
 PATIENCE, LOOKS = 20, 200
 # How many instructions a thread executes while others wait, and how many seconds of processor time are no wait's.
 BOUND, SPARE = "300000000", 0.3
+# The status of a run that came to its bound.
+TRAPPED = 120
 # With how many workers these runs are made, and how many rounds the thread that waits counts before: so many that a worker has drawn the
 # other thread's job by then, whose end the caller then waits for.
 WAITING = [(2, 1), (64, 1), (2, 5_000_000), (64, 5_000_000)]
@@ -80,11 +82,12 @@ def wait_fails(room):
             it.write(fixed_guests.waiting(rounds))
         before, begun = processor_seconds(), time.monotonic()
         words = [guest_runs.program(), "run", file, "--workers", str(workers), "--bound", BOUND]
-        subprocess.run(words, stdin=subprocess.DEVNULL, stdout=subprocess.DEVNULL, stderr=subprocess.DEVNULL)
+        ran = subprocess.run(words, stdin=subprocess.DEVNULL, stdout=subprocess.DEVNULL, stderr=subprocess.DEVNULL)
         passed, spent = time.monotonic() - begun, processor_seconds() - before
         is_idle = spent <= passed + SPARE
-        failed += not is_idle
-        found = f"{spent:.2f} s of processor time in {passed:.2f} s{'' if is_idle else ': somebody waits busily, or does the work once more'}"
+        # (a run that doesn't come to its bound has told nothing)
+        failed += not is_idle or ran.returncode != TRAPPED
+        found = f"status {ran.returncode}, not {TRAPPED}" if ran.returncode != TRAPPED else f"{spent:.2f} s of processor time in {passed:.2f} s{'' if is_idle else ': somebody waits busily, or does the work once more'}"
         print(f"{workers} workers, one thread with work after {rounds} rounds of another: {found}", flush=True)
     return failed
 

@@ -106,13 +106,19 @@ def programs():
         yield name, [], f"samples/c/{name}.c", TOP, None if given == "-" else f"{folder}/{given}"
 
 
-def test(_):
+def arguments(parser):
+    guest_runs.with_share(parser)
+
+
+def test(options):
     """Runs programs in C with --races: the cases have the races that are wanted, right programs and samples none."""
-    tally, right = guest_runs.Tally(), list(programs())
-    tally.tried = len(CASES) + len(right)
-    with tempfile.TemporaryDirectory() as room, Progress("programs", tally.tried) as progress:
+    tally = guest_runs.Tally()
+    with tempfile.TemporaryDirectory() as room:
         tasks = [(it, lambda it=it: test_case(tally, room, it, CASES[it])) for it in CASES]
-        tasks += [(it[0], lambda it=it: test_right(tally, room, *it)) for it in right]
-        for _, task in progress.each(tasks, lambda it: it[0]):
-            task()
+        tasks += [(it[0], lambda it=it: test_right(tally, room, *it)) for it in programs()]
+        tasks = guest_runs.share(options.share, tasks)
+        tally.tried = len(tasks)
+        with Progress("programs", tally.tried) as progress:
+            for _, task in progress.each(tasks, lambda it: it[0]):
+                task()
     return tally.status("programs", ": the races that are wanted, and no others")

@@ -69,6 +69,8 @@ def is_comparable(recorded, version):
 def comparison(top=TOP, version=None):
     """Returns whether the release and the program in out/ are at odds, and what is to be said of them."""
     file, recorded, version = f"{top}/{FILE}", built_from.read(f"{top}/{RECORD}"), version or toolchain.version()
+    if not recorded and not os.path.exists(file):
+        return True, f"there is no {FILE} to compare with: `tools/dt release` makes it"
     if not recorded or not os.access(file, os.X_OK):
         return True, f"of {FILE} and {RECORD} one is missing, or the program is not executable: `tools/dt release` makes both"
     reason = why_other_sources(top)

@@ -1,7 +1,7 @@
 """Runs the tests of these tools, those that prove nothing and need no compiler, several at a time.
 
 A test is run in a process of its own lane, so that none sees what another one changed in the modules. Tests of classes with `is_long`
-come first. A test that is skipped is counted as such.
+come first. A test that is skipped is counted as such, and is a failure with `--all`, as in the gate.
 """
 import contextlib
 import multiprocessing
@@ -22,6 +22,7 @@ TESTS = []
 def arguments(parser):
     parser.add_argument("names", nargs="*", metavar="NAME", help="the tests of tools/dt_tests/test_NAME.py alone")
     parser.add_argument("--lanes", type=int, metavar="N", help="how many at a time (default: one a processor)")
+    parser.add_argument("--all", action="store_true", help="fail if a test is skipped")
 
 
 def listed(names):
@@ -85,4 +86,4 @@ def run(options):
     failed, skipped = run_all(options.lanes or len(os.sched_getaffinity(0)))
     also = f", {skipped} skipped" if skipped else ""
     print(f"{len(TESTS)} tests of the tools, {len(failed)} failed{also}, {time.time() - begun:.1f} s")
-    return 1 if failed else 0
+    return 1 if failed or not TESTS or options.all and skipped else 0

@@ -35,6 +35,8 @@ Guest = namedtuple("Guest", "name file words given quanta changed")
 
 def arguments(parser):
     parser.add_argument("names", nargs="*", metavar="PROGRAM", help="the guests whose names begin so (default: all)")
+    parser.add_argument("--brief", action="store_true", help="the gate's part alone: no program of guest/tests, and every fourth random one")
+    guest_runs.with_share(parser)
 
 
 def run(guest, file, quantum, room, workers, kinds):
@@ -152,18 +154,20 @@ def writer(data):
     return write
 
 
-def of_seeds():
+def of_seeds(is_brief):
     """Yields random programs."""
-    for seed in SEEDS:
+    for seed in SEEDS[:: 4 if is_brief else 1]:
         elf = random_guests.guest(random.Random(seed))
         given = b"some input to be read by several threads"
         yield Guest(f"seed-{seed}", writer(elf), ["--bound", "100000"], given, QUANTA["random"], None)
 
 
-def in_c():
+def in_c(is_brief):
     """Yields the samples in C, and the programs of guest/tests if the compiler is there."""
     for it in c_samples.samples():
         yield Guest(f"c/{it.name}", it.program, it.words, contents(it.given) if it.given else b"", QUANTA["c"], None)
+    if is_brief:
+        return
     if not shutil.which("riscv64-unknown-elf-gcc"):
         print("guest/tests: left out, there is no compiler of guest programs")
         return
@@ -180,8 +184,9 @@ def in_c():
 
 def test(options):
     """Runs programs with --timeline: each file is what the definitions say, with any number of workers."""
-    tally, guests = guest_runs.Tally(), [*of_samples(), *of_seeds(), *in_c()]
+    tally, guests = guest_runs.Tally(), [*of_samples(), *of_seeds(options.brief), *in_c(options.brief)]
     guests = [it for it in guests if not options.names or it.name.startswith(tuple(options.names))]
+    guests = guest_runs.share(options.share, guests)
     tally.tried = len(guests)
     with tempfile.TemporaryDirectory() as room, Progress("guests", len(guests)) as progress:
         for it in progress.each(guests, lambda it: it.name):

@@ -13,12 +13,12 @@ from dt_commands.repository import TOP
 
 PARTS = {
     "check": ["sources", "clauses", "layers", "pages", "samples", "pictures", "c-samples", "c-functions"],
-    "test": ["c-samples", "guest", "manual", "c-page", "programs", "timeline"],
+    "test": ["c-samples", "guest", "manual", "c-page", "programs", "timeline", "kit"],
     "sweep": ["memory", "changes", "workers", "schedules"],
     "measure": ["workers", "c-samples", "turns", "debugger"],
     "write": ["pages", "samples", "pictures", "c-samples", "c-functions"],
 }
-ALONE = ["mutants", "digest", "picture", "build", "release", "install", "self-test"]
+ALONE = ["mutants", "digest", "picture", "build", "release", "install", "packages", "self-test"]
 
 
 LOADER = importlib.machinery.SourceFileLoader("dt", f"{TOP}/tools/dt")

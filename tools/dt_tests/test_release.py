@@ -188,7 +188,7 @@ class Releases(Tree):
         self.build()
         is_at_odds, text = self.compared()
         self.assertTrue(is_at_odds)
-        self.assertIn("one is missing", text)
+        self.assertIn("there is no", text)
 
     def test_it_is_what_was_built(self):
         self.build()
