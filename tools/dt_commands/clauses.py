@@ -40,4 +40,4 @@ def check(options):
             print(f"{file[len(TOP) + 1:]}:{number}: a clause of more than {COLUMNS} columns")
             found += 1
     print(f"{every:,} clauses, {again} stand again in their file, {found} lines of more than {COLUMNS} columns")
-    return 1 if found else 0
+    return 1 if found or not every else 0

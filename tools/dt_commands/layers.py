@@ -67,5 +67,6 @@ def check(options):
     found = complaints(text, sorted(os.listdir(f"{TOP}/crates")))
     for it in found:
         print(f"crates.txt: {it}")
-    print(f"{len(list(rows_of(text)))} crates in {len(sections_of(text))} sections, {len(found)} breaks of the layers")
-    return 1 if found else 0
+    count = len(list(rows_of(text)))
+    print(f"{count} crates in {len(sections_of(text))} sections, {len(found)} breaks of the layers")
+    return 1 if found or not count else 0

@@ -88,4 +88,4 @@ def check(options):
     for it in bad:
         print(it)
     print(f"{count} sources, {len(bad)} made-up errors of memory and needless exceptions")
-    return 1 if bad else 0
+    return 1 if bad or not count else 0

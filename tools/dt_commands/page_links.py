@@ -22,17 +22,20 @@ def anchors(text):
     return {it.strip().replace(" ", "-") for it in headings}
 
 
+def links():
+    """Returns the links of the pages that lead to something of the repository, each with its page."""
+    every = ((page, link) for page in pages() for link in re.findall(r"\]\(([^)\s]+)\)", read(page)))
+    return [(page, link) for page, link in every if not re.match(r"[a-z]+:", link)]
+
+
 def broken():
     """Returns the links that lead nowhere, each with its page."""
     found = []
-    for page in pages():
-        for link in re.findall(r"\]\(([^)\s]+)\)", read(page)):
-            if re.match(r"[a-z]+:", link):
-                continue
-            path, _, heading = link.partition("#")
-            target = os.path.normpath(os.path.join(os.path.dirname(page), path)) if path else page
-            if not os.path.exists(f"{TOP}/{target}"):
-                found.append(f"{page}: no file for the link {link}")
-            elif heading and heading not in anchors(read(target)):
-                found.append(f"{page}: no heading for the link {link}")
+    for page, link in links():
+        path, _, heading = link.partition("#")
+        target = os.path.normpath(os.path.join(os.path.dirname(page), path)) if path else page
+        if not os.path.exists(f"{TOP}/{target}"):
+            found.append(f"{page}: no file for the link {link}")
+        elif heading and heading not in anchors(read(target)):
+            found.append(f"{page}: no heading for the link {link}")
     return found

@@ -49,17 +49,19 @@ def pages():
     }
 
 
+def quoted():
+    """Returns the lines of blocks marked `antt`, each with its page."""
+    blocks = ((page, it) for page in ("README.md", "docs/LAW.md") for it in re.findall(r"^```antt\n(.*?)^```$", read(page), re.M | re.S))
+    return [(page, line) for page, block in blocks for line in block.split("\n") if line.strip()]
+
+
 def misquoted():
     """Returns the lines of blocks marked `antt` that are in no definition and no contract, each with its page."""
     sources = set()
     for file in definitions.sources(f"{TOP}/crates", (".antt", ".rt")):
         if "/proofs/" not in file:
             sources |= {it.strip() for it in definitions.read(file).split("\n")}
-    found = []
-    for page in ("README.md", "docs/LAW.md"):
-        for block in re.findall(r"^```antt\n(.*?)^```$", read(page), re.M | re.S):
-            found += [f"{page}: {it}" for it in block.split("\n") if it.strip() and it.strip() not in sources]
-    return found
+    return [f"{page}: {line}" for page, line in quoted() if line.strip() not in sources]
 
 
 def too_long(limits, top=TOP):
@@ -103,9 +105,9 @@ def check(options):
     differ, wrong = differing(), told_wrong()
     for page in differ:
         print(f"{page}: differs from what tools/dt write pages makes")
-    if not differ and not wrong:
-        print("the generated pages are as they must be")
-    return 1 if differ or wrong else 0
+    counts = len(pages()), len(quoted()), len(page_links.links())
+    print("{} generated pages, {} quoted lines, {} links: {} are not as they must be".format(*counts, len(differ) + wrong))
+    return 1 if differ or wrong or not all(counts) else 0
 
 
 def write(options):
