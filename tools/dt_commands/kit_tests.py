@@ -15,6 +15,7 @@ from collections import namedtuple
 from dt_commands import guest_runs, lanes, packages
 from dt_commands.progress import minutes
 from dt_commands.repository import TOP
+from dt_mutants.progress import processor_seconds
 
 # A part: its name, the words of its call, in how many shares it is made, and what it reads beside COMMON, from the top.
 Part = namedtuple("Part", "name words shares reads")
@@ -132,7 +133,7 @@ class Session:
         lanes.tasks_in_lanes(lane_count, every, self.ended)
         self.stamp(due)
         print(f"{len(due)} parts of the C kit made, {len(self.parts) - len(due)} unchanged, {len(self.failed)} failed, "
-              f"{minutes(time.time() - self.begun)} on {lane_count} lanes", flush=True)
+              f"{minutes(time.time() - self.begun)} on {lane_count} lanes, {processor_seconds():.0f} processor seconds", flush=True)
         return 1 if self.failed or not self.parts else 0
 
     def ended(self, name, result):
