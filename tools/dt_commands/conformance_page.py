@@ -9,12 +9,16 @@ The prover compares code with definitions. Whether the definitions say what the 
 
 By hand, `tools/dt sweep changes` tries all {count} changes without proofs, and prints each that survives. That a changed definition and its code still prove together is not tried.
 
-A few sentences have no line, since no change of them can be had:
+Each sentence of GUEST.md on what the machine does has a line, several have more, and these have none:
 
-- pc is a multiple of 4, and registers and fields are in their ranges: types keep it, so a wrong body isn't proved;
-- no page has both W and X: it follows from refusal 17;
-- no thread finds a mutex held by another one: that is proved of whole histories, and no run shows a difference;
-- a run ends.
+- A hart has x0 to x31 of 32 bits and a pc that is a multiple of 4, and a jump to another address traps on the jump: types keep it, so a wrong body isn't proved.
+- The instruction that traps changes nothing: in the definition a trap has no registers, pc or memory that could be others.
+- Pages have 4096 bytes: that is the length of an array, and the sweep has all changes in one build.
+- No page has both W and X: it follows from refusal 17.
+- Refusal 21, OutOfMemory: rows run with ample memory; `test_alloc_failures` refuses the requests for memory one by one.
+- A ready thread runs up to its next ecall, trap or end of quantum: Traps, and Bound and quantum, have the lines of what these are.
+- A woken thread's turn writes nothing: in the definition it has no copy whose bytes could differ.
+- Every run ends: it has an argument and no contract.
 """
 
 NAMED = """
