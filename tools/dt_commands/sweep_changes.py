@@ -2,14 +2,15 @@
 
 A change states one sentence of the guest machine wrongly, in definition and code alike, so proofs pass: a row of test_parts,
 test_conformance or test_guest_runs has to refuse it. All changes are built at once, into a copy without proofs. Its tests are run with each
-change of a test, and each program once for each change of a row of it, on these rows alone. Nothing is proved. It needs a C compiler.
+change of a test, and each program once for each change of a row of it, on these rows alone; the three crates that have rows are run side
+by side. Nothing is proved. It needs a C compiler.
 """
 import os
 import re
 import subprocess
 import tempfile
 
-from dt_commands import changes
+from dt_commands import changes, lanes
 from dt_commands.changed_copy import copy, write
 from dt_commands.changes import PROGRAMS, ROWS
 from dt_commands.progress import Progress
@@ -78,33 +79,57 @@ def crates_of(found):
     return [crate for crate in ROWS if any(file.startswith(f"crates/{crate}/") for file in files)]
 
 
-def attempt(found, seconds):
-    """Returns of each change, and of each test and row with none, how it ended and what it said."""
-    ended, broken, tests, said = {}, [], {}, ""
-    steps = len(ROWS) + len(PROGRAMS)
-    with tempfile.TemporaryDirectory(prefix="sweep-changes-") as folder, Progress("crates with rows", steps) as progress:
+class Attempts:
+    """What changes came to, gathered as the crates that have rows of them end."""
+
+    def __init__(self, found, progress):
+        self.found, self.progress = found, progress
+        self.ended, self.tests, self.broken, self.said = {}, {}, [], {}
+
+    def tasks(self, folder, seconds):
+        """Returns each crate with a call that tries its rows in the copy, the one that takes longest first."""
+        rows = [(it, lambda it=it: attempt_rows(it, self.found, folder, seconds)) for it in reversed(PROGRAMS)]
+        return rows + [(it, lambda it=it: attempt_tests(f"{folder}/crates/{it}", seconds)) for it in crates_of(self.found)]
+
+    def take(self, crate, result):
+        """Takes what a crate's rows came to."""
+        ended, self.said[crate] = result
+        if crate in PROGRAMS:
+            how, message = ended.pop(0, ("ok", ""))
+            self.broken += [f"{crate}: {message}"] if how != "ok" else []
+            self.ended.update(ended)
+        else:
+            self.tests.update(ended)
+        self.progress.done += 1
+        return []
+
+    def verdicts(self):
+        """Returns of each change, by its number, how its test or its row ended and what that said."""
+        for number, change in enumerate(self.found, 1):
+            if not change.program_row()[0]:
+                module = change.row.rsplit("::", 1)[0]
+                self.ended[number] = self.tests.get(f"{module}::change_{number}", ("not run", ""))
+        return self.ended
+
+    def wrong_already(self):
+        """Returns the tests and rows that fail with no change."""
+        return self.broken + [it for it, (how, _) in self.tests.items() if "::change_" not in it and how != "ok"]
+
+
+def attempt(found, options):
+    """Tries the changes, with the crates that have their rows side by side."""
+    count = len(PROGRAMS) + len(crates_of(found))
+    with tempfile.TemporaryDirectory(prefix="sweep-changes-") as folder, Progress("crates with rows", count) as progress:
+        attempts = Attempts(found, progress)
         copy(found, folder)
-        for progress.done, progress.at in enumerate(crates_of(found)):
-            ended_there, said_there = attempt_tests(f"{folder}/crates/{progress.at}", seconds)
-            tests.update(ended_there)
-            said += said_there
-        for progress.done, progress.at in enumerate(PROGRAMS, len(ROWS)):
-            rows, said_there = attempt_rows(progress.at, found, folder, seconds)
-            how, message = rows.pop(0, ("ok", ""))
-            broken += [f"{progress.at}: {message}"] if how != "ok" else []
-            ended.update(rows)
-            said += said_there
-    for number, change in enumerate(found, 1):
-        if not change.program_row()[0]:
-            module = change.row.rsplit("::", 1)[0]
-            ended[number] = tests.get(f"{module}::change_{number}", ("not run", ""))
-    broken += [it for it, (how, _) in tests.items() if "::change_" not in it and how != "ok"]
-    return said, ended, broken
+        lanes.tasks_in_lanes(lanes.count(options.lanes), attempts.tasks(folder, options.seconds), attempts.take)
+    return attempts
 
 
 def tried(found, options):
     """Tries the changes, prints each that survives, and returns the status."""
-    said, ended, broken = attempt(found, options.seconds)
+    attempts = attempt(found, options)
+    broken, ended = attempts.wrong_already(), attempts.verdicts()
     for test in broken:
         print(f"fails with no change: {test}")
     survived = []
@@ -117,13 +142,14 @@ def tried(found, options):
             survived.append(change)
             print(f"refused by another row: {change.name} ({change.row}, {change.case}): {message.strip()}")
     if options.show:
-        print(said)
+        print("\n".join(attempts.said.values()))
     print(f"{len(found)} changes tried, {len(survived)} survive")
     return 1 if broken or survived else 0
 
 
 def arguments(parser):
     parser.add_argument("names", nargs="*", metavar="NAME", help="the changes to try (default: all)")
+    parser.add_argument("--lanes", type=int, metavar="N", help=lanes.HELP)
     parser.add_argument("--seconds", type=int, default=900, metavar="N", help="how long a test or a program may run (default: 900)")
     parser.add_argument("--show", action="store_true", help="print all that the tests and the program said")
     parser.add_argument("--apply", metavar="FOLDER", help="make the named changes in this copy of the repository, and try nothing")
