@@ -36,6 +36,8 @@ CASES = {
     "read_write_lock": [],
     "own_lock": [],
     "once_made": [],
+    "text_beside": [],
+    "text_changed": ["texts: load end_from, store two"],
 }
 # The programs with a race: the sample of one, and the test of a loop on a plain flag.
 RACY = {"race": ["counter: store add, load add", "counter: store add, store add"], "spins": ["flag: load main, store sets"]}

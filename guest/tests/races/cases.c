@@ -4,6 +4,7 @@
 #include <semaphore.h>
 #include <stdatomic.h>
 #include <stdlib.h>
+#include <string.h>
 
 #define lost_update 1
 #define under_mutex 2
@@ -23,6 +24,8 @@
 #define read_write_lock 16
 #define own_lock 17
 #define once_made 18
+#define text_beside 19
+#define text_changed 20
 
 static pthread_mutex_t mutex = PTHREAD_MUTEX_INITIALIZER;
 static pthread_cond_t condition = PTHREAD_COND_INITIALIZER;
@@ -33,6 +36,11 @@ static sem_t semaphore;
 static atomic_int ready;
 volatile int counter, flag;
 volatile char bytes[4];
+/* A text whose last word has a byte of others. */
+_Alignas(16) struct {
+    char text[42];
+    char behind[6];
+} texts = {"a text that is longer than two rounds: 41", ""};
 
 static void meet(void)
 {
@@ -97,6 +105,10 @@ __attribute__((noinline)) static void one(void)
 #elif CASE == once_made
     pthread_once(&made, make);
     bytes[0] = counter;
+#elif CASE == text_beside
+    counter = (int)strlen(texts.text) + (strchr(texts.text, '%') != NULL) + strcmp(texts.text, "a text that is longer than three rounds");
+#elif CASE == text_changed
+    counter = (int)strlen(texts.text);
 #endif
 }
 
@@ -156,6 +168,10 @@ __attribute__((noinline)) static void two(void)
 #elif CASE == once_made
     pthread_once(&made, make);
     bytes[1] = counter;
+#elif CASE == text_beside
+    texts.behind[0] = 1;
+#elif CASE == text_changed
+    texts.text[20] = 'b';
 #endif
 }
 
