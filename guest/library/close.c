@@ -9,8 +9,10 @@ __attribute__((weak)) extern int close(int);
 static int close_standard(struct stream *stream)
 {
     int code = stream_flush(&stream->file);
+    stream_enter(stream);
     stream->file.flags &= (uint8_t)~(__SRD | __SWR);
     stream->place = stream->length = 0;
+    stream_leave(stream);
     return close && close(stream->descriptor) < 0 ? EOF : code;
 }
 

@@ -33,6 +33,8 @@ __attribute__((weak)) int files_console(int descriptor);
 __attribute__((weak)) ssize_t files_read(int descriptor, void *bytes, size_t length);
 __attribute__((weak)) ssize_t files_write(int descriptor, const void *bytes, size_t length);
 __attribute__((weak)) void streams_flush(void);
+/* Waits until no other thread keeps a stream that it writes and may use. */
+__attribute__((weak)) void streams_claim(void);
 __attribute__((weak)) extern uint64_t random_state;
 
 #endif

@@ -18,8 +18,11 @@ int ftrylockfile(FILE *file)
     if (!stream)
         return 0;
     monitor_enter();
+    while (stream_ask(stream))
+        ;
     is_free = !stream->owner || stream->owner == self();
     if (is_free) {
+        stream_settle_place(stream);
         stream->owner = self();
         stream->count++;
         dthreads_hint_acquire(stream);

@@ -25,6 +25,8 @@ static void enter_machine(void)
         own.locked = true;
     }
     own.inside = true;
+    if (self() && self()->asked)
+        streams_give();
 }
 
 static uint64_t earliest_deadline(void)
@@ -205,6 +207,8 @@ static void sleep_here(struct dthreads_thread *thread)
         monitor.waiting[thread->condition]++;
         dthreads_wait(thread->condition, MONITOR_MUTEX);
     }
+    if (thread->asked)
+        streams_give();
 }
 
 static enum wake sleep_in(struct dthreads_queue *queue, uint64_t deadline, bool may_be_cancelled)

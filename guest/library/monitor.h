@@ -80,6 +80,8 @@ struct dthreads_thread {
     bool cancelled;
     bool detached;
     bool is_writer;
+    /* Another thread wants a stream that it keeps. */
+    bool asked;
     struct dthreads_thread *joiner;
     /* What it keeps for itself; another thread may touch it while this one waits. */
     struct own *own;
@@ -236,6 +238,8 @@ void keys_destroy_values(void);
 /* What a thread that ends remembers of its read locks. */
 __attribute__((weak)) void readings_drop(void);
 void output_flush(void);
+/* Gives away the streams that this thread keeps. */
+void streams_give(void);
 void thread_begin(void);
 /* The living or ended thread of a name, or NULL. */
 struct dthreads_thread *thread_of(pthread_t name);

@@ -47,6 +47,8 @@
 #define is_dots dthreads_own_is_dots
 #define is_signal dthreads_own_is_signal
 #define keys_destroy_values dthreads_own_keys_destroy_values
+#define kept_reading dthreads_own_kept_reading
+#define kept_writing dthreads_own_kept_writing
 #define monitor dthreads_own_monitor
 #define monitor_breathe dthreads_own_monitor_breathe
 #define monitor_enter dthreads_own_monitor_enter
@@ -99,6 +101,7 @@
 #define signals_deliver dthreads_own_signals_deliver
 #define stack_attach dthreads_own_stack_attach
 #define stack_give dthreads_own_stack_give
+#define stream_ask dthreads_own_stream_ask
 #define stream_close dthreads_own_stream_close
 #define stream_enter dthreads_own_stream_enter
 #define stream_flush dthreads_own_stream_flush
@@ -107,8 +110,11 @@
 #define stream_of dthreads_own_stream_of
 #define stream_put dthreads_own_stream_put
 #define stream_settle dthreads_own_stream_settle
+#define stream_settle_place dthreads_own_stream_settle_place
 #define stream_write dthreads_own_stream_write
+#define streams_claim dthreads_own_streams_claim
 #define streams_flush dthreads_own_streams_flush
+#define streams_give dthreads_own_streams_give
 #define thread_begin dthreads_own_thread_begin
 #define thread_of dthreads_own_thread_of
 #define threads dthreads_own_threads

@@ -57,24 +57,6 @@ struct stream *stream_of(FILE *file)
     return file->flush == stream_flush ? (struct stream *)file : NULL;
 }
 
-__attribute__((noinline)) void stream_enter(struct stream *stream)
-{
-    monitor_enter();
-    while (stream->owner && stream->owner != self())
-        monitor_sleep(&stream->waiters, NEVER, false);
-    stream->owner = self();
-    stream->count++;
-}
-
-__attribute__((noinline)) void stream_leave(struct stream *stream)
-{
-    if (--stream->count == 0) {
-        stream->owner = NULL;
-        monitor_wake_first(&stream->waiters);
-    }
-    monitor_leave();
-}
-
 static void fail(FILE *file)
 {
     hint_enter();
@@ -149,6 +131,10 @@ static __attribute__((noinline)) bool emit(struct stream *stream, const char *by
     bool is_done = stream->file.flags & __SWR && emit_in_turn(stream, bytes, length);
     if (!is_done)
         fail(&stream->file);
+    if (self() && self()->asked) {
+        monitor_enter();
+        monitor_leave();
+    }
     return is_done;
 }
 
@@ -248,7 +234,7 @@ int __wrap_vfprintf(FILE *stream, const char *format, va_list arguments)
     return stream->flags & __SERR ? EOF : count;
 }
 
-int fputc(int character, FILE *file)
+static __attribute__((noinline)) int put_slowly(int character, FILE *file)
 {
     unsigned char byte = (unsigned char)character;
     if (!(file->flags & __SWR))
@@ -258,10 +244,24 @@ int fputc(int character, FILE *file)
     return file->put((char)byte, file) < 0 ? EOF : byte;
 }
 
-int putc(int character, FILE *stream)
+int fputc(int character, FILE *file)
 {
-    return fputc(character, stream);
+    hint_enter();
+    struct stream *stream = kept_writing;
+    char *place;
+    if ((FILE *)stream != file || (place = stream->next) == stream->end) {
+        hint_leave();
+        return put_slowly(character, file);
+    }
+    character = (unsigned char)character;
+    __asm__("" : "+r"(character));
+    *place = (char)character;
+    stream->next = place + 1;
+    hint_leave();
+    return character;
 }
+
+int putc(int, FILE *) __attribute__((alias("fputc")));
 
 int putchar(int character)
 {
@@ -321,6 +321,8 @@ int fflush(FILE *file)
     output_flush();
     if (file && file->flush)
         return file->flush(file);
+    if (!file && streams_claim)
+        streams_claim();
     if (!file && streams_flush)
         streams_flush();
     return 0;
@@ -331,8 +333,11 @@ int setvbuf(FILE *file, char *buffer, int mode, size_t size)
     struct stream *stream = stream_of(file);
     (void)buffer;
     (void)size;
-    if (stream)
+    if (stream) {
+        stream_enter(stream);
         stream->mode = (uint8_t)mode;
+        stream_leave(stream);
+    }
     return 0;
 }
 
@@ -434,7 +439,7 @@ int stream_get(FILE *file)
     return character;
 }
 
-int fgetc(FILE *stream)
+static __attribute__((noinline)) int get_slowly(FILE *stream)
 {
     if (!(stream->flags & __SRD))
         return EOF;
@@ -452,20 +457,46 @@ int fgetc(FILE *stream)
     return character < 0 ? EOF : character;
 }
 
-int getc(FILE *stream)
+int fgetc(FILE *file)
 {
-    return fgetc(stream);
+    hint_enter();
+    struct stream *stream = kept_reading;
+    char *place;
+    if ((FILE *)stream != file || (place = stream->next) == stream->end) {
+        hint_leave();
+        return get_slowly(file);
+    }
+    int character = (unsigned char)*place;
+    stream->next = place + 1;
+    hint_leave();
+    return character;
 }
+
+int getc(FILE *) __attribute__((alias("fgetc")));
 
 int getchar(void)
 {
     return fgetc(stdin);
 }
 
+/* Steps back in a stream that the thread keeps, if the byte is the one that was read last. */
+static bool step_back(int character, FILE *file)
+{
+    hint_enter();
+    struct stream *stream = kept_reading;
+    bool is_same = (FILE *)stream == file && stream->next != stream->buffer && stream->next[-1] == (char)character;
+    if (is_same)
+        stream->next--;
+    hint_leave();
+    return is_same;
+}
+
 int ungetc(int character, FILE *stream)
 {
     if (character == EOF)
         return EOF;
+    if (step_back(character, stream))
+        return (unsigned char)character;
     shared_begin(stream);
     bool is_free = !stream->unget;
     if (is_free) {

@@ -89,9 +89,20 @@ bool stream_write(struct stream *stream, const char *bytes, uint32_t length)
 void streams_flush(void)
 {
     monitor_enter();
-    for (struct stream *stream = all; stream; stream = stream->next)
-        if ((!stream->owner || stream->owner == self()) && stream->is_writing)
+    for (struct stream *stream = all; stream; stream = stream->following)
+        if ((!stream->owner || stream->owner == self()) && stream->is_writing) {
+            stream_settle_place(stream);
             drain(stream);
+        }
+    monitor_leave();
+}
+
+void streams_claim(void)
+{
+    monitor_enter();
+    struct stream *stream = all;
+    while (stream)
+        stream = stream->is_writing && stream_ask(stream) ? all : stream->following;
     monitor_leave();
 }
 
@@ -135,7 +146,7 @@ static FILE *stream_make(int descriptor, int flags)
     if (flags & O_APPEND)
         lseek(descriptor, 0, SEEK_END);
     monitor_enter();
-    stream->next = all;
+    stream->following = all;
     all = stream;
     monitor_leave();
     return &stream->file;
@@ -146,8 +157,9 @@ void stream_close(struct stream *stream)
     struct stream **place = &all;
     monitor_enter();
     while (*place != stream)
-        place = &(*place)->next;
-    *place = stream->next;
+        place = &(*place)->following;
+    *place = stream->following;
+    stream_settle_place(stream);
     monitor_leave();
     free(stream->buffer);
     free(stream);
@@ -207,10 +219,12 @@ FILE *freopen(const char *path, const char *mode, FILE *file)
         errno = code;
         return NULL;
     }
+    stream_enter(stream);
     stream->is_writing = false;
     stream->place = stream->length = 0;
     file->unget = 0;
     file->flags = rights_of(flags);
+    stream_leave(stream);
     if (flags & O_APPEND)
         lseek(stream->descriptor, 0, SEEK_END);
     return file;

@@ -44,6 +44,7 @@ static void thread_fill(struct dthreads_thread *thread, void *(*start)(void *), 
     thread->joiner = NULL;
     thread->cancelled = false;
     thread->asleep = false;
+    thread->asked = false;
     thread->pending = 0;
     thread->robust = NULL;
     thread->awaited = 0;
@@ -168,6 +169,8 @@ void pthread_exit(void *value)
         exit(0);
     }
     dthreads_hint_release(&thread->result);
+    streams_give();
+
     heap_flush();
     if (robust_leave)
         robust_leave(thread);

@@ -19,12 +19,12 @@ RAN = re.compile(rb"ran=(\d+)$", re.M)
 # threads wait beside it, whether it needs files, and how many turns it may take.
 Operation = namedtuple("Operation", "name code most times parts threads files turns", defaults=(100, 1, 0, 0, None))
 OPERATIONS = [
-    Operation("getc on a file", "sink = getc(input);", 15, 2000, files=1),
-    Operation("getc on a file, 4 threads", "sink = getc(input);", 15, 2000, threads=3, files=1),
-    Operation("getc_unlocked on a file", "sink = getc_unlocked(input);", 15, 2000, files=1),
-    Operation("fgetc on a file", "sink = fgetc(input);", 15, 2000, files=1),
-    Operation("putc on a file", "putc(i, output);", 15, 2000, files=1),
-    Operation("putc on a file, 4 threads", "putc(i, output);", 15, 2000, threads=3, files=1),
+    Operation("getc on a file", "getc(in);", 15, 2000, files=1),
+    Operation("getc on a file, 4 threads", "getc(in);", 15, 2000, threads=3, files=1),
+    Operation("getc_unlocked on a file", "getc_unlocked(in);", 15, 2000, files=1),
+    Operation("fgetc on a file", "fgetc(in);", 15, 2000, files=1),
+    Operation("putc on a file", "putc(i, out);", 15, 2000, files=1),
+    Operation("putc on a file, 4 threads", "putc(i, out);", 15, 2000, threads=3, files=1),
     Operation("memcpy of 4096 bytes", "memcpy(to, from, 4096);", 2600),
     Operation("memcpy of 4096 bytes, misaligned", "memcpy(to, from + 1, 4096);", 6500),
     Operation("memmove of 4096 bytes, overlapping", "memmove(to + 32, to, 4096);", 3200),
@@ -43,7 +43,7 @@ OPERATIONS = [
     Operation("pow", "result = pow(first, second);", 6534),
     Operation("exp", "result = exp(first);", 1816),
     Operation("sin", "result = sin(first);", 1838),
-    Operation("a loop of getc over 1 MiB, 4 threads", "while ((sink = getc(input)) != EOF);", None, 1, threads=3, files=1, turns=1000),
+    Operation("a loop of getc over 1 MiB, 4 threads", "while (getc(in) != EOF);", None, 1, threads=3, files=1, turns=1000),
 ]
 
 
@@ -51,10 +51,10 @@ def arguments(parser):
     parser.add_argument("words", nargs="*", metavar="WORD", help="counts the operations that have one of these words in their names")
 
 
-def counts(operation, times, room):
-    """Returns how many instructions and turns a run takes that does the operation so often."""
+def counts(operation, code, room):
+    """Returns how many instructions and turns a run takes that does an operation's code as often as it says."""
     elf, trace = f"{room}/program.elf", f"{room}/trace"
-    words = [f"-DTIMES={times}", f"-DTHREADS={operation.threads}", f"-DFILES={operation.files}", f"-DOPERATION={operation.code}"]
+    words = [f"-DTIMES={operation.times}", f"-DTHREADS={operation.threads}", f"-DFILES={operation.files}", f"-DOPERATION={code}"]
     said = guest_runs.compiled(["-O2", "-w", "-fno-builtin", *words, SOURCE, "-lm"], elf)
     if said is not None:
         raise SystemExit(f"{operation.name}: doesn't build:\n{said}")
@@ -70,7 +70,7 @@ def shown(count, parts):
 
 def row(operation, room):
     """Returns a line of the table, and whether the operation takes more than it may."""
-    many, none = counts(operation, operation.times, room), counts(operation, 0, room)
+    many, none = counts(operation, operation.code, room), counts(operation, "", room)
     instructions, turns = ((a - b) / operation.times / operation.parts for a, b in zip(many, none))
     is_over = (operation.most is not None and instructions > operation.most) or (operation.turns is not None and turns > operation.turns)
     most = f"{operation.most:,}" if operation.most is not None else f"{operation.turns:,} turns"
