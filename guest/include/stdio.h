@@ -36,23 +36,22 @@ void flockfile(FILE *);
 int ftrylockfile(FILE *);
 void funlockfile(FILE *);
 
-#ifndef getc_unlocked
-#define getc_unlocked(stream) fgetc(stream)
-#define getchar_unlocked() fgetc(stdin)
-#define putc_unlocked(character, stream) fputc((character), (stream))
-#define putchar_unlocked(character) fputc((character), stdout)
-#define fgetc_unlocked(stream) fgetc(stream)
-#define fputc_unlocked(character, stream) fputc((character), (stream))
-#define fputs_unlocked(text, stream) fputs((text), (stream))
-#define fgets_unlocked(text, size, stream) fgets((text), (size), (stream))
-#define fread_unlocked(bytes, size, count, stream) fread((bytes), (size), (count), (stream))
-#define fwrite_unlocked(bytes, size, count, stream) fwrite((bytes), (size), (count), (stream))
-#define fflush_unlocked(stream) fflush(stream)
-#define feof_unlocked(stream) feof(stream)
-#define ferror_unlocked(stream) ferror(stream)
-#define clearerr_unlocked(stream) clearerr(stream)
-#define fileno_unlocked(stream) fileno(stream)
-#endif
+int getc_unlocked(FILE *);
+int getchar_unlocked(void);
+int putc_unlocked(int, FILE *);
+int putchar_unlocked(int);
+int fgetc_unlocked(FILE *);
+int fputc_unlocked(int, FILE *);
+int fputs_unlocked(const char *__restrict, FILE *__restrict);
+char *fgets_unlocked(char *__restrict, int, FILE *__restrict);
+size_t fread_unlocked(void *__restrict, size_t, size_t, FILE *__restrict);
+size_t fwrite_unlocked(const void *__restrict, size_t, size_t, FILE *__restrict);
+int fflush_unlocked(FILE *);
+int feof_unlocked(FILE *);
+int ferror_unlocked(FILE *);
+void clearerr_unlocked(FILE *);
+int fileno_unlocked(FILE *);
+int renameat(int, const char *, int, const char *);
 
 #ifdef __cplusplus
 }

@@ -23,6 +23,8 @@ int getlogin_r(char *, size_t);
 int getpagesize(void);
 unsigned alarm(unsigned);
 int nice(int);
+long syscall(long, ...);
+int daemon(int, int);
 
 #ifdef __cplusplus
 }

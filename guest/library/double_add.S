@@ -7,12 +7,15 @@
 #define FRACTION_BITS 20
 #define TOP_EXPONENT 2047
 
+    .cfi_sections .debug_frame
+
     .section .text.__adddf3, "ax", @progbits
     .globl __adddf3
     .globl __subdf3
     .type __adddf3, @function
     .type __subdf3, @function
 __subdf3:
+    .cfi_startproc
     lui t0, SIGN_BIT
     xor a3, a3, t0
 
@@ -140,4 +143,5 @@ swap:
 
 others:
     tail dthreads_double_add
+    .cfi_endproc
     .size __adddf3, . - __adddf3

@@ -6,12 +6,15 @@
 #define FRACTION_BITS 23
 #define TOP_EXPONENT 255
 
+    .cfi_sections .debug_frame
+
     .section .text.__addsf3, "ax", @progbits
     .globl __addsf3
     .globl __subsf3
     .type __addsf3, @function
     .type __subsf3, @function
 __subsf3:
+    .cfi_startproc
     lui t0, SIGN_BIT
     xor a1, a1, t0
 
@@ -91,4 +94,5 @@ swap:
 
 others:
     tail dthreads_float_add
+    .cfi_endproc
     .size __addsf3, . - __addsf3

@@ -184,6 +184,11 @@ void *heap_pages(uint32_t pages)
     return pages_take(pages);
 }
 
+uint32_t heap_given(void)
+{
+    return given;
+}
+
 /* Pages of mmap, which may be given back in any parts. */
 
 void *heap_map(uint32_t pages)

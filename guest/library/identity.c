@@ -1,4 +1,5 @@
 /* What the process and its machine say of themselves: the same in each run. */
+#define _GNU_SOURCE
 #include <stdlib.h>
 #include <string.h>
 #include <sys/resource.h>
@@ -54,6 +55,12 @@ int getlogin_r(char *text, size_t size)
     return 0;
 }
 
+/* No program has more rights than its user. */
+char *secure_getenv(const char *name)
+{
+    return getenv(name);
+}
+
 const char *getprogname(void)
 {
     return dthreads_program_name;
@@ -84,6 +91,25 @@ long get_avphys_pages(void)
     return DTHREADS_HEAP_PAGES;
 }
 
+int sysinfo(struct sysinfo *information)
+{
+    *information = (struct sysinfo){
+        .uptime = (long)(read_clock() / SECOND),
+        .totalram = DTHREADS_HEAP_PAGES * DTHREADS_PAGE,
+        .freeram = (DTHREADS_HEAP_PAGES - heap_given()) * DTHREADS_PAGE,
+        .procs = 1,
+        .mem_unit = 1,
+    };
+    return 0;
+}
+
+/* No call has a number. */
+long syscall(long number, ...)
+{
+    (void)number;
+    return refuse(ENOSYS);
+}
+
 int getloadavg(double *loads, int count)
 {
     for (int i = 0; i < count && i < 3; i++)
@@ -96,6 +122,8 @@ int getrusage(int who, struct rusage *usage)
 {
     uint64_t now = who == RUSAGE_CHILDREN ? 0 : read_clock();
     *usage = (struct rusage){.ru_utime = {.tv_sec = (time_t)(now / SECOND), .tv_usec = (suseconds_t)(now % SECOND / 1000)}};
+    if (who != RUSAGE_CHILDREN)
+        usage->ru_maxrss = (long)(heap_given() * (DTHREADS_PAGE / 1024));
     return 0;
 }
 

@@ -230,6 +230,8 @@ __attribute__((weak)) void robust_drop(pthread_mutex_t *mutex);
 void heap_flush(void);
 /* Pages for a stack and the like, or NULL; they are never given back. */
 void *heap_pages(uint32_t pages);
+/* Pages given so far. */
+uint32_t heap_given(void);
 /* Pages that can be given back, or NULL; false for a range that isn't whole of such pages. */
 void *heap_map(uint32_t pages);
 bool heap_unmap(void *address, uint32_t pages);

@@ -41,6 +41,7 @@
 #define files_root dthreads_own_files_root
 #define files_write dthreads_own_files_write
 #define heap_flush dthreads_own_heap_flush
+#define heap_given dthreads_own_heap_given
 #define heap_map dthreads_own_heap_map
 #define heap_pages dthreads_own_heap_pages
 #define heap_unmap dthreads_own_heap_unmap

@@ -1,12 +1,13 @@
 /* What can't be had. */
 #include "monitor.h"
 
+/* There is no fork that would call them. */
 int pthread_atfork(void (*prepare)(void), void (*parent)(void), void (*child)(void))
 {
     (void)prepare;
     (void)parent;
     (void)child;
-    return ENOSYS;
+    return 0;
 }
 
 int pthread_getschedparam(pthread_t thread, int *policy, struct sched_param *parameters)

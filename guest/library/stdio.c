@@ -586,3 +586,18 @@ int __wrap_vfscanf(FILE *stream, const char *format, va_list arguments)
     shared_end(stream);
     return count;
 }
+
+/* Those that need no lock take it all the same. A program may have its own. */
+#define UNLOCKED(result, name, ...) __attribute__((weak, alias(#name))) result name##_unlocked(__VA_ARGS__)
+UNLOCKED(int, getc, FILE *);
+UNLOCKED(int, getchar, void);
+UNLOCKED(int, putc, int, FILE *);
+UNLOCKED(int, putchar, int);
+UNLOCKED(int, fgetc, FILE *);
+UNLOCKED(int, fputc, int, FILE *);
+UNLOCKED(int, fputs, const char *, FILE *);
+UNLOCKED(char *, fgets, char *, int, FILE *);
+UNLOCKED(size_t, fread, void *, size_t, size_t, FILE *);
+UNLOCKED(size_t, fwrite, const void *, size_t, size_t, FILE *);
+UNLOCKED(int, fflush, FILE *);
+UNLOCKED(int, fileno, FILE *);

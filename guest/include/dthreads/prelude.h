@@ -34,6 +34,30 @@
 #define __INT32_C(number) number
 #define __UINT32_C(number) number ## U
 
+/* The operations on objects of these sizes are all there, and never fail. */
+#undef __GCC_ATOMIC_BOOL_LOCK_FREE
+#undef __GCC_ATOMIC_CHAR_LOCK_FREE
+#undef __GCC_ATOMIC_CHAR8_T_LOCK_FREE
+#undef __GCC_ATOMIC_CHAR16_T_LOCK_FREE
+#undef __GCC_ATOMIC_CHAR32_T_LOCK_FREE
+#undef __GCC_ATOMIC_WCHAR_T_LOCK_FREE
+#undef __GCC_ATOMIC_SHORT_LOCK_FREE
+#undef __GCC_ATOMIC_INT_LOCK_FREE
+#undef __GCC_ATOMIC_LONG_LOCK_FREE
+#undef __GCC_ATOMIC_LLONG_LOCK_FREE
+#undef __GCC_ATOMIC_POINTER_LOCK_FREE
+#define __GCC_ATOMIC_BOOL_LOCK_FREE 2
+#define __GCC_ATOMIC_CHAR_LOCK_FREE 2
+#define __GCC_ATOMIC_CHAR8_T_LOCK_FREE 2
+#define __GCC_ATOMIC_CHAR16_T_LOCK_FREE 2
+#define __GCC_ATOMIC_CHAR32_T_LOCK_FREE 2
+#define __GCC_ATOMIC_WCHAR_T_LOCK_FREE 2
+#define __GCC_ATOMIC_SHORT_LOCK_FREE 2
+#define __GCC_ATOMIC_INT_LOCK_FREE 2
+#define __GCC_ATOMIC_LONG_LOCK_FREE 2
+#define __GCC_ATOMIC_LLONG_LOCK_FREE 2
+#define __GCC_ATOMIC_POINTER_LOCK_FREE 2
+
 #ifdef __ASSEMBLER__
 
     .macro fence predecessor=iorw, successor=iorw

@@ -1,2 +1,2 @@
-int getaddrinfo(const char *, const char *, const void *, void *);
-int main(void) { return getaddrinfo("host", "port", 0, 0); }
+void *if_nameindex(void);
+int main(void) { return if_nameindex() != 0; }

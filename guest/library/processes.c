@@ -1,0 +1,56 @@
+/* Other processes: there are none. Programs that name them on ways that they don't take can be linked, with a warning; the calls fail
+ * with ENOSYS. */
+#include <errno.h>
+#include <mntent.h>
+#include <spawn.h>
+#include <stddef.h>
+#include <sys/types.h>
+#include <unistd.h>
+
+/* What the linker says of a program that names a function; dthreads-cc prints it once. */
+#define WARN(name) \
+    __attribute__((used, section(".gnu.warning." #name))) static const char warning_of_##name[] = \
+        "dthreads-cc: " #name ": there are no processes here; the call fails with ENOSYS"
+
+#define ABSENT(result, value, name, ...) \
+    WARN(name); \
+    result name(__VA_ARGS__) \
+    { \
+        errno = ENOSYS; \
+        return value; \
+    }
+
+#pragma GCC diagnostic ignored "-Wunused-parameter"
+
+ABSENT(pid_t, -1, fork, void)
+ABSENT(pid_t, -1, vfork, void)
+ABSENT(pid_t, -1, _Fork, void)
+ABSENT(int, -1, execl, const char *path, const char *argument, ...)
+ABSENT(int, -1, execle, const char *path, const char *argument, ...)
+ABSENT(int, -1, execlp, const char *path, const char *argument, ...)
+ABSENT(int, -1, execv, const char *path, char *const arguments[])
+ABSENT(int, -1, execve, const char *path, char *const arguments[], char *const environment[])
+ABSENT(int, -1, execvp, const char *path, char *const arguments[])
+ABSENT(int, -1, execvpe, const char *path, char *const arguments[], char *const environment[])
+ABSENT(int, -1, fexecve, int descriptor, char *const arguments[], char *const environment[])
+ABSENT(pid_t, -1, wait, int *status)
+ABSENT(pid_t, -1, waitpid, pid_t process, int *status, int options)
+ABSENT(pid_t, -1, wait3, int *status, int options, void *usage)
+ABSENT(pid_t, -1, wait4, pid_t process, int *status, int options, void *usage)
+ABSENT(int, -1, waitid, int kind, id_t process, void *information, int options)
+ABSENT(int, -1, daemon, int stays, int keeps)
+
+/* These answer with the error. */
+WARN(posix_spawn);
+int posix_spawn(pid_t *process, const char *path, const posix_spawn_file_actions_t *actions, const posix_spawnattr_t *attributes,
+                char *const arguments[], char *const environment[])
+{
+    return ENOSYS;
+}
+
+WARN(posix_spawnp);
+int posix_spawnp(pid_t *process, const char *file, const posix_spawn_file_actions_t *actions, const posix_spawnattr_t *attributes,
+                 char *const arguments[], char *const environment[])
+{
+    return ENOSYS;
+}
