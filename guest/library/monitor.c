@@ -50,6 +50,7 @@ static void wake_due(void)
 
 static void move_clock(void)
 {
+    monitor.moves++;
     monitor.clock += DTHREADS_OPERATION_TIME;
     if (monitor.clock >= monitor.earliest)
         wake_due();
@@ -196,17 +197,60 @@ void monitor_one_less(void)
     }
 }
 
+/* The sleeper with the first deadline is the watcher while others are awake: they may compute, and move no clock. */
+static bool is_watcher(const struct dthreads_thread *thread)
+{
+    return thread->deadline != NEVER && monitor.awake > 0 && thread->deadline <= monitor.earliest &&
+           (!monitor.watcher || monitor.watcher == thread || monitor.watcher->deadline > thread->deadline);
+}
+
+/* Lets a phase pass, in which the others have their turns. If no operation moved the clock in it, the watcher does, by `step`, which
+ * grows from phase to phase. */
+static void watch(struct dthreads_thread *thread, uint64_t *step)
+{
+    uint64_t moves = monitor.moves;
+    monitor.watcher = thread;
+    dthreads_unlock(MONITOR_MUTEX);
+    dthreads_lock(MONITOR_MUTEX);
+    *step = monitor.moves != moves ? 0 : *step ? *step * 4 : DTHREADS_OPERATION_TIME;
+    if (thread->woken || *step == 0)
+        return;
+    monitor.clock = monitor.earliest - monitor.clock > *step ? monitor.clock + *step : monitor.earliest;
+    if (monitor.clock >= monitor.earliest)
+        wake_due();
+}
+
+/* A watcher that is woken leaves its work to the next one, if there is one. */
+static void pass_on(const struct dthreads_thread *thread)
+{
+    if (monitor.watcher != thread)
+        return;
+    monitor.watcher = NULL;
+    monitor.earliest = earliest_deadline();
+    for (uint32_t i = 0; i < monitor.made && monitor.earliest != NEVER; i++)
+        if (threads[i].deadline == monitor.earliest) {
+            ring(threads[i].condition);
+            return;
+        }
+}
+
 static void sleep_here(struct dthreads_thread *thread)
 {
+    uint64_t step = 0;
     thread->asleep = true;
     thread->woken = 0;
     monitor_one_less();
     if (!thread->woken)
         monitor_hold();
     while (!thread->woken) {
-        monitor.waiting[thread->condition]++;
-        dthreads_wait(thread->condition, MONITOR_MUTEX);
+        if (is_watcher(thread)) {
+            watch(thread, &step);
+        } else {
+            monitor.waiting[thread->condition]++;
+            dthreads_wait(thread->condition, MONITOR_MUTEX);
+        }
     }
+    pass_on(thread);
     if (thread->asked)
         streams_give();
 }

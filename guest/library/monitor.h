@@ -124,6 +124,10 @@ struct own {
 
 struct monitor {
     uint64_t clock;
+    /* How often an operation moved it. */
+    uint64_t moves;
+    /* The sleeper that moves the clock while others compute. */
+    struct dthreads_thread *watcher;
     /* No sleeper has an earlier deadline. */
     uint64_t earliest;
     uint32_t living;
