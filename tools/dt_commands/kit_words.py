@@ -1,4 +1,5 @@
 """The words of dthreads-cc, as builds of other programs give them: each case is a command with what it must print or give."""
+import os
 import subprocess
 import tempfile
 
@@ -7,12 +8,32 @@ from dt_commands.progress import Progress
 
 MAIN = "int main(void) { return 7; }\n"
 FORKS = '#include <unistd.h>\nint main(int count, char **words) { return count > 1 && (fork() || fork() || execv(words[1], words)); }\n'
-VISIBLE = '#if !defined _GNU_SOURCE || __GCC_ATOMIC_INT_LOCK_FREE != 2\n#error\n#endif\n#include <sys/auxv.h>\n#include <sys/resource.h>\nint main() { rusage it; return getrusage(RUSAGE_SELF, &it) + (int)getauxval(1000) + 7; }\n'
+VISIBLE = """#if !defined _GNU_SOURCE || __GCC_ATOMIC_INT_LOCK_FREE != 2
+#error
+#endif
+#include <sys/auxv.h>
+#include <sys/resource.h>
+int main() { rusage it; return getrusage(RUSAGE_SELF, &it) + (int)getauxval(1000) + 7; }
+"""
+BESIDE = """#include <pthread.h>
+#include <unistd.h>
+static volatile int stop;
+static void *computes(void *argument) { while (!stop); return argument; }
+int main(void)
+{
+    pthread_t thread;
+    pthread_create(&thread, 0, computes, 0);
+    usleep(1000);
+    stop = 1;
+    return pthread_join(thread, 0);
+}
+"""
 LOCAL = "static __thread int local = 6;\nint main(void) { return ++local; }\n"
 
 
 def call(words, room):
-    return subprocess.run([f"{guest_runs.KIT}/dthreads-cc", *words], cwd=room, stdout=subprocess.PIPE, stderr=subprocess.PIPE, text=True, check=False)
+    how = {"cwd": room, "stdout": subprocess.PIPE, "stderr": subprocess.PIPE, "text": True, "check": False}
+    return subprocess.run([f"{guest_runs.KIT}/dthreads-cc", *words], **how)
 
 
 def written(room, name, text):
@@ -64,7 +85,17 @@ def models(room):
     return [status(room, f"-ftls-model={it}", "-fPIC", "local.c") for it in every], [7] * 4
 
 
-CASES = [preprocessed, main_in_archive, warns_once, visible, models]
+def quantum(room):
+    """dthreads-exec has a quantum, so that a sleep ends beside a thread that computes, and none if it is told so."""
+    written(room, "beside.c", BESIDE)
+    call(["-O2", "beside.c", "-o", "beside.elf"], room)
+    ways = [["--bound", "100000000"], ["--bound", "100000000", "--quantum", "100000"], ["--bound", "3000000", "--quantum", "none"]]
+    command = [f"{guest_runs.KIT}/dthreads-exec", f"{room}/beside.elf"]
+    how = {"stdin": subprocess.DEVNULL, "stderr": subprocess.DEVNULL, "env": {**os.environ, "DTHREADS": guest_runs.program()}}
+    return [subprocess.run([*command, *it], check=False, **how).returncode for it in ways], [0, 0, 120]
+
+
+CASES = [preprocessed, main_in_archive, warns_once, visible, models, quantum]
 
 
 def test(_):

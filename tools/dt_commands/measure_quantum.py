@@ -1,0 +1,65 @@
+"""Measures what a quantum does to three ways to share work between four threads: a pool with a queue, a pipeline, and parts of a loop.
+
+It prints how many processors have work at a time, which is the instructions of the run over those of its longest path and the same on
+each machine, and how many turns the run takes. With `times` it prints seconds instead, with 1, 2 and 4 workers: the least of some
+rounds. DTHREADS names the program to run them with, or else ./dthreads.
+"""
+import subprocess
+import tempfile
+import time
+
+from dt_commands import guest_runs
+from dt_commands.measure_c_samples import Trace
+from dt_commands.progress import Progress
+from dt_commands.repository import TOP
+
+SOURCE = f"{TOP}/tools/guests/parallel.c"
+KINDS = {"queue": "pool with a queue", "pipeline": "pipeline", "loop": "parts of a loop"}
+QUANTA = [None, 1000000, 300000, 100000]
+WORKERS = (1, 2, 4)
+
+
+def arguments(parser):
+    parser.add_argument("what", nargs="?", choices=["side-by-side", "times"], default="side-by-side")
+    parser.add_argument("rounds", nargs="?", type=int, default=5, metavar="ROUNDS", help="how many rounds of times (default: 5)")
+
+
+def run(elf, quantum, *words):
+    of_quantum = ["--quantum", str(quantum)] if quantum else []
+    command = [guest_runs.program(), "run", elf, *of_quantum, *words]
+    return subprocess.run(command, stdin=subprocess.DEVNULL, stdout=subprocess.PIPE, check=True).stdout
+
+
+def counted(elf, quantum, room, _):
+    """Returns how many processors have work at a time, and the turns."""
+    run(elf, quantum, "--trace", f"{room}/trace")
+    told = Trace(f"{room}/trace")
+    return f"{told.instructions / told.path:.2f} ({told.turns:,} turns)"
+
+
+def seconds(elf, quantum, workers):
+    begun = time.perf_counter()
+    run(elf, quantum, "--workers", str(workers))
+    return time.perf_counter() - begun
+
+
+def timed(elf, quantum, _, rounds):
+    """Returns the seconds with each number of workers."""
+    return ", ".join(f"{min(seconds(elf, quantum, count) for _ in range(rounds)):.2f}" for count in WORKERS)
+
+
+def measure(options):
+    """Measures what a quantum does to programs of four threads: what runs side by side, or seconds with 1, 2 and 4 workers."""
+    cell = timed if options.what == "times" else counted
+    print("| Program | " + " | ".join(f"quantum {it:,}" if it else "none" for it in QUANTA) + " |\n" + "|---" * (len(QUANTA) + 1) + "|", flush=True)
+    with tempfile.TemporaryDirectory() as room, Progress("programs", len(KINDS)) as progress:
+        for kind in progress.each(KINDS):
+            elf = f"{room}/{kind}.elf"
+            said = guest_runs.compiled(["-O2", f"-DKIND={kind}", SOURCE], elf)
+            if said is not None:
+                raise SystemExit(f"{kind}: doesn't build:\n{said}")
+            outputs = {run(elf, quantum) for quantum in QUANTA}
+            if len(outputs) != 1:
+                raise SystemExit(f"{kind}: the quantum changes the result")
+            print(f"| {KINDS[kind]} | " + " | ".join(cell(elf, it, room, options.rounds) for it in QUANTA) + " |", flush=True)
+    return 0
