@@ -1,6 +1,7 @@
 /* Exact decimal numbers. A limb of nine digits can be halved nine times before a digit of the next one is needed. */
 #include <string.h>
 #include "decimal.h"
+#include "powers.h"
 
 #define LIMB UINT32_C(1000000000)
 
@@ -155,23 +156,89 @@ int32_t decimal_limbs(const struct real *real)
     return whole_limbs(&small) + (small.exponent < 0 ? -small.exponent / LIMB_DIGITS + 2 : 2);
 }
 
+/* Division that rounds down. */
+static int32_t limb_of(int32_t places)
+{
+    return places >= 0 ? places / LIMB_DIGITS : -((LIMB_DIGITS - 1 - places) / LIMB_DIGITS);
+}
+
+/* The nearest whole number to mantissa * 10^power, unless it is too large, or it can't be told which one is the nearest. */
+static bool nearest(const struct real *real, int32_t power, uint64_t *whole)
+{
+    struct wide wide;
+    int32_t exponent;
+    if (real->bits != DOUBLE_BITS || !power_scale(real->mantissa.low, power, &wide, &exponent))
+        return false;
+    /* Of the 128 bits, those from this one on are the whole number. */
+    int32_t unit = -(exponent + real->exponent);
+    if (unit < 68 || unit > 127)
+        return false;
+    uint64_t rest = wide.high << (128 - unit) | wide.low >> (unit - 64), half = UINT64_C(1) << 63;
+    if (rest <= half && half - rest <= POWER_ERROR)
+        return false;
+    *whole = (wide.high >> (unit - 64)) + (rest > half);
+    return true;
+}
+
+/* Limbs of whole * 10^-places. */
+static void set_whole(struct decimal *number, uint64_t whole, int32_t places, uint32_t *limbs)
+{
+    int32_t limb = -limb_of(-places);
+    struct wide wide = {0, whole};
+    uint64_t low = (whole & UINT32_MAX) * tens[limb * LIMB_DIGITS - places];
+    uint64_t high = (whole >> 32) * tens[limb * LIMB_DIGITS - places] + (low >> 32);
+    wide = (struct wide){high >> 32, high << 32 | (low & UINT32_MAX)};
+    int32_t point = DIGIT_LIMBS - limb, head = DIGIT_LIMBS;
+    for (; wide.high || wide.low; head--)
+        limbs[head - 1] = wide_divide(&wide, LIMB);
+    *number = (struct decimal){.limbs = limbs, .head = head, .tail = DIGIT_LIMBS, .point = point, .is_rounded = true};
+    if (whole == 0)
+        number->head = number->tail = point;
+}
+
+bool decimal_set_places(struct decimal *number, const struct real *real, int32_t places, uint32_t *limbs)
+{
+    uint64_t whole;
+    bool is_done = places >= 0 && nearest(real, places, &whole);
+    if (is_done)
+        set_whole(number, whole, places, limbs);
+    return is_done;
+}
+
+/* Less than 10^18 is exact in this many digits. */
+#define MOST_DIGITS 18
+static const uint64_t ten_powers[MOST_DIGITS + 1] = {
+    1, 10, 100, 1000, 10000, 100000, 1000000, 10000000, 100000000, 1000000000, 10000000000, 100000000000, 1000000000000,
+    10000000000000, 100000000000000, 1000000000000000, 10000000000000000, 100000000000000000, 1000000000000000000,
+};
+
+bool decimal_set_digits(struct decimal *number, const struct real *real, int32_t digits, uint32_t *limbs)
+{
+    uint64_t whole;
+    if (digits < 1 || digits >= MOST_DIGITS || real->mantissa.low == 0)
+        return false;
+    /* The power of ten of the first digit, or one less. */
+    int32_t power = (int32_t)(((int64_t)(real->exponent + (int32_t)wide_length(real->mantissa) - 1) * 1292913986) >> 32);
+    int32_t places = digits - 1 - power;
+    if (!nearest(real, places, &whole))
+        return false;
+    if (whole >= ten_powers[digits] && !nearest(real, --places, &whole))
+        return false;
+    set_whole(number, whole, places, limbs);
+    return true;
+}
+
 void decimal_set(struct decimal *number, const struct real *real, uint32_t *limbs)
 {
     struct real small = reduced(real);
     int32_t point = whole_limbs(&small);
-    *number = (struct decimal){limbs, point, point, point};
+    *number = (struct decimal){.limbs = limbs, .head = point, .tail = point, .point = point};
     while (small.mantissa.high || small.mantissa.low)
         limbs[--number->head] = wide_divide(&small.mantissa, LIMB);
     for (; small.exponent > 0; small.exponent -= small.exponent < MOST_DOUBLED ? small.exponent : MOST_DOUBLED)
         decimal_double(number, (uint32_t)(small.exponent < MOST_DOUBLED ? small.exponent : MOST_DOUBLED));
     for (; small.exponent < 0; small.exponent += small.exponent > -MOST_HALVED ? -small.exponent : MOST_HALVED)
         decimal_halve(number, (uint32_t)(small.exponent > -MOST_HALVED ? -small.exponent : MOST_HALVED));
-}
-
-/* Division that rounds down. */
-static int32_t limb_of(int32_t places)
-{
-    return places >= 0 ? places / LIMB_DIGITS : -((LIMB_DIGITS - 1 - places) / LIMB_DIGITS);
 }
 
 static bool is_zero_from(const struct decimal *number, int32_t place)
@@ -210,6 +277,8 @@ static void add_at(struct decimal *number, int32_t place, uint32_t unit)
 
 void decimal_round(struct decimal *number, int32_t places)
 {
+    if (number->is_rounded)
+        return;
     int32_t limb = limb_of(places - 1);
     int32_t place = number->point + limb;
     uint32_t unit = tens[LIMB_DIGITS - 1 - (places - 1 - limb * LIMB_DIGITS)];

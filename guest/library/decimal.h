@@ -9,6 +9,8 @@
 enum {
     /* Decimal digits of a limb. */
     LIMB_DIGITS = 9,
+    /* Limbs for the digits of a number of 64 bits, wherever the point is. */
+    DIGIT_LIMBS = 4,
     /* By so many bits a number can be doubled or halved at a time. */
     MOST_DOUBLED = 29,
     MOST_HALVED = 9,
@@ -27,6 +29,8 @@ struct decimal {
     int32_t head;
     int32_t tail;
     int32_t point;
+    /* It has the digits that are wanted: rounding changes nothing. */
+    bool is_rounded;
 };
 
 /* An unsigned number of 128 bits. */
@@ -60,6 +64,10 @@ void decimal_halve(struct decimal *number, uint32_t bits);
 /* How many limbs a finite number of a floating-point type needs, and the number in them. */
 int32_t decimal_limbs(const struct real *real);
 void decimal_set(struct decimal *number, const struct real *real, uint32_t *limbs);
+/* The same, rounded to so many places after the point, or to so many digits, in DIGIT_LIMBS limbs: false if that takes more than what
+ * is known of powers of ten, and for all numbers but doubles. */
+bool decimal_set_places(struct decimal *number, const struct real *real, int32_t places, uint32_t *limbs);
+bool decimal_set_digits(struct decimal *number, const struct real *real, int32_t digits, uint32_t *limbs);
 
 /* Rounds to so many places after the point, to the even one of two that are equally near; fewer than 0 are places before it. */
 void decimal_round(struct decimal *number, int32_t places);

@@ -346,21 +346,50 @@ static void put_hexadecimal(struct output *output, const struct directive *direc
     put_exponent(output, is_upper(directive) ? 'P' : 'p', power, 1);
 }
 
-static void put_finite(struct output *output, const struct directive *directive, const char *prefix, const struct real *real)
+static void put_number(struct output *output, const struct directive *directive, const char *prefix, struct decimal *number)
+{
+    switch (directive->kind | 0x20) {
+    case 'f':
+        put_fixed(output, directive, prefix, number);
+        break;
+    case 'e':
+        put_scientific(output, directive, prefix, number);
+        break;
+    default:
+        put_shorter(output, directive, prefix, number);
+    }
+}
+
+/* The digits that a directive asks for, if they are found without all the others. */
+static bool set_short(struct decimal *number, const struct directive *directive, const struct real *real, uint32_t *limbs)
+{
+    int precision = directive->precision == NONE ? ORDINARY_PRECISION : directive->precision;
+    switch (directive->kind | 0x20) {
+    case 'f':
+        return decimal_set_places(number, real, precision, limbs);
+    case 'e':
+        return decimal_set_digits(number, real, precision + 1, limbs);
+    default:
+        return decimal_set_digits(number, real, precision == 0 ? 1 : precision, limbs);
+    }
+}
+
+static __attribute__((noinline)) void put_exact(struct output *output, const struct directive *directive, const char *prefix, const struct real *real)
 {
     uint32_t limbs[decimal_limbs(real)];
     struct decimal number;
     decimal_set(&number, real, limbs);
-    switch (directive->kind | 0x20) {
-    case 'f':
-        put_fixed(output, directive, prefix, &number);
-        break;
-    case 'e':
-        put_scientific(output, directive, prefix, &number);
-        break;
-    default:
-        put_shorter(output, directive, prefix, &number);
-    }
+    put_number(output, directive, prefix, &number);
+}
+
+static void put_finite(struct output *output, const struct directive *directive, const char *prefix, const struct real *real)
+{
+    uint32_t limbs[DIGIT_LIMBS];
+    struct decimal number;
+    if (set_short(&number, directive, real, limbs))
+        put_number(output, directive, prefix, &number);
+    else
+        put_exact(output, directive, prefix, real);
 }
 
 static void put_real(struct output *output, struct directive directive, const struct real *real)

@@ -21,6 +21,8 @@
 #define decimal_power dthreads_own_decimal_power
 #define decimal_round dthreads_own_decimal_round
 #define decimal_set dthreads_own_decimal_set
+#define decimal_set_digits dthreads_own_decimal_set_digits
+#define decimal_set_places dthreads_own_decimal_set_places
 #define entry_add dthreads_own_entry_add
 #define entry_find dthreads_own_entry_find
 #define entry_remove dthreads_own_entry_remove
@@ -87,6 +89,7 @@
 #define pipe_write dthreads_own_pipe_write
 #define place_node dthreads_own_place_node
 #define pollers dthreads_own_pollers
+#define power_scale dthreads_own_power_scale
 #define random_fill dthreads_own_random_fill
 #define random_state dthreads_own_random_state
 #define read_clock dthreads_own_read_clock

@@ -7,6 +7,7 @@
 #include <strings.h>
 #include <wchar.h>
 #include "decimal.h"
+#include "powers.h"
 
 /* A type that a number is made for. */
 struct shape {
@@ -226,11 +227,59 @@ static void convert(struct result *result, const struct shape *shape, struct dec
     round_to(result, shape, whole, exponent, has_more || number->tail > number->point);
 }
 
+/* Digits that a number of 64 bits has room for. */
+#define MOST_DIGITS 19
+
+static uint64_t whole_digits(const struct spelled *spelled)
+{
+    uint64_t whole = 0;
+    uint32_t part = 0, unit = 1;
+    const char *digit = spelled->first;
+    for (int32_t i = 0; i < spelled->digits; digit++) {
+        if (*digit == '.')
+            continue;
+        part = part * 10 + (uint32_t)(*digit - '0');
+        unit *= 10;
+        i++;
+        if (unit == 1000000000 || i == spelled->digits) {
+            whole = whole * unit + part;
+            part = 0;
+            unit = 1;
+        }
+    }
+    return whole;
+}
+
+/* The nearest number of few digits and a normal size, by what is known of powers of ten: false if that doesn't tell. */
+static bool convert_short(struct result *result, const struct shape *shape, const struct spelled *spelled)
+{
+    struct wide wide;
+    int32_t exponent;
+    if (spelled->digits > MOST_DIGITS || spelled->has_more || shape->bits > DOUBLE_BITS)
+        return false;
+    if (!power_scale(whole_digits(spelled), spelled->power - spelled->digits, &wide, &exponent))
+        return false;
+    /* Below the type's bits come `rest` and then all the lower ones. */
+    int32_t shift = 64 - shape->bits;
+    uint64_t rest = wide.high << shape->bits | wide.low >> shift, half = UINT64_C(1) << 63;
+    exponent += 128 - shape->bits;
+    if (exponent <= shape->least || exponent >= shape->greatest || (rest <= half && half - rest <= POWER_ERROR))
+        return false;
+    uint64_t mantissa = (wide.high >> shift) + (rest > half);
+    if (mantissa >> shape->bits) {
+        mantissa >>= 1;
+        exponent++;
+    }
+    result->mantissa = (struct wide){0, mantissa};
+    result->exponent = exponent;
+    return true;
+}
+
 static const char *read_decimal(const char *text, const struct shape *shape, struct result *result)
 {
     struct spelled spelled;
     const char *end = read_spelled(text, shape, &spelled);
-    if (!end || spelled.digits == 0)
+    if (!end || spelled.digits == 0 || convert_short(result, shape, &spelled))
         return end;
     if (spelled.power > shape->huge) {
         result->is_infinite = result->is_out_of_range = true;
