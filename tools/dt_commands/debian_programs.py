@@ -208,8 +208,8 @@ def run_guest(program, path, text, room, workers):
         if os.path.exists(old):
             os.remove(old)
     done = subprocess.run(
-        [kit("dthreads-exec"), path, "--quantum", "none", "--workers", str(workers), "--bound", BOUND, "--digest", digest, "--trace", trace, "--",
-         *program.arguments], input=text, stdout=subprocess.PIPE, stderr=subprocess.DEVNULL)
+        [kit("dthreads-exec"), path, "--quantum", "none", "--workers", str(workers), "--bound", BOUND, "--digest", digest,
+         "--trace", trace, "--", *program.arguments], input=text, stdout=subprocess.PIPE, stderr=subprocess.DEVNULL)
     try:
         with open(digest, encoding="utf-8") as file:
             return done.stdout, done.returncode, file.read(), trace

@@ -34,6 +34,7 @@ PARTS = [
     Part("samples, built anew", ["check", "c-samples"], 1, ["crates/test_c_samples/data"]),
     Part("table of functions", ["check", "c-functions"], 1, ["docs/C-FUNCTIONS.md"]),
     Part("samples", ["test", "c-samples"], 1, []),
+    Part("builds of others", ["test", "builds"], 1, []),
     Part("page", ["test", "c-page"], 1, ["docs/C.md"]),
     Part("manual pages", ["test", "manual"], 1, ["guest/tests/manual"]),
 ]

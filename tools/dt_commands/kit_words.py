@@ -86,13 +86,15 @@ def models(room):
 
 
 def quantum(room):
-    """dthreads-exec has a quantum, so that a sleep ends beside a thread that computes, and none if it is told so."""
+    """dthreads-exec has a quantum, so that a sleep ends beside a thread that computes, or none, and says what a used-up bound is."""
     written(room, "beside.c", BESIDE)
     call(["-O2", "beside.c", "-o", "beside.elf"], room)
     ways = [["--bound", "100000000"], ["--bound", "100000000", "--quantum", "100000"], ["--bound", "3000000", "--quantum", "none"]]
     command = [f"{guest_runs.KIT}/dthreads-exec", f"{room}/beside.elf"]
-    how = {"stdin": subprocess.DEVNULL, "stderr": subprocess.DEVNULL, "env": {**os.environ, "DTHREADS": guest_runs.program()}}
-    return [subprocess.run([*command, *it], check=False, **how).returncode for it in ways], [0, 0, 120]
+    how = {"stdin": subprocess.DEVNULL, "stderr": subprocess.PIPE, "text": True, "env": {**os.environ, "DTHREADS": guest_runs.program()}}
+    runs = [subprocess.run([*command, *it], check=False, **how) for it in ways]
+    said = runs[-1].stderr.partition("dthreads-exec: ")[2]
+    return ([it.returncode for it in runs], "--bound" in said and "--quantum" in said), ([0, 0, 120], True)
 
 
 CASES = [preprocessed, main_in_archive, warns_once, visible, models, quantum]

@@ -51,7 +51,8 @@ def timed(elf, quantum, _, rounds):
 def measure(options):
     """Measures what a quantum does to programs of four threads: what runs side by side, or seconds with 1, 2 and 4 workers."""
     cell = timed if options.what == "times" else counted
-    print("| Program | " + " | ".join(f"quantum {it:,}" if it else "none" for it in QUANTA) + " |\n" + "|---" * (len(QUANTA) + 1) + "|", flush=True)
+    heads = ["Program", *(f"quantum {it:,}" if it else "none" for it in QUANTA)]
+    print("| " + " | ".join(heads) + " |\n" + "|---" * len(heads) + "|", flush=True)
     with tempfile.TemporaryDirectory() as room, Progress("programs", len(KINDS)) as progress:
         for kind in progress.each(KINDS):
             elf = f"{room}/{kind}.elf"

@@ -39,8 +39,12 @@ CASES = {
     "text_beside": [],
     "text_changed": ["texts: load end_from, store two"],
 }
-# The programs with a race: the sample of one, and the test of a loop on a plain flag.
-RACY = {"race": ["counter: store add, load add", "counter: store add, store add"], "spins": ["flag: load main, store sets"]}
+# The programs with a race: the sample of one, and the tests of loops on plain flags.
+RACY = {
+    "race": ["counter: store add, load add", "counter: store add, store add"],
+    "spins": ["flag: load main, store sets"],
+    "sleepers": ["slept: store sleeps, load deadlines", "stop: load computes, store main"],
+}
 LINE = re.compile(
     r"race address=[0-9a-f]{8} bytes=\d (load|store) thread=\d+ turn=\d+ pc=[0-9a-f]{8} (load|store) thread=\d+ turn=\d+ pc=[0-9a-f]{8}"
     r" object=(\w+)\+\d+ in=(\w+)\+\d+ in=(\w+)\+\d+")
