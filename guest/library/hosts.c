@@ -5,6 +5,13 @@
 
 int h_errno;
 
+/* A program may have some of its own. */
+#pragma weak getaddrinfo
+#pragma weak freeaddrinfo
+#pragma weak gai_strerror
+#pragma weak getnameinfo
+#pragma weak hstrerror
+
 static void *unknown(void)
 {
     errno = ENOSYS;

@@ -91,6 +91,11 @@ long get_avphys_pages(void)
     return DTHREADS_HEAP_PAGES;
 }
 
+/* A program may have functions of these names. */
+#pragma weak sysinfo
+#pragma weak syscall
+#pragma weak secure_getenv
+
 int sysinfo(struct sysinfo *information)
 {
     *information = (struct sysinfo){

@@ -12,9 +12,10 @@
     __attribute__((used, section(".gnu.warning." #name))) static const char warning_of_##name[] = \
         "dthreads-cc: " #name ": there are no processes here; the call fails with ENOSYS"
 
+/* A program may have its own, and ask for others. */
 #define ABSENT(result, value, name, ...) \
     WARN(name); \
-    result name(__VA_ARGS__) \
+    __attribute__((weak)) result name(__VA_ARGS__) \
     { \
         errno = ENOSYS; \
         return value; \

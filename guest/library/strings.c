@@ -124,16 +124,6 @@ char *strchr(const char *text, int character)
     return *place == (char)character ? (char *)place : NULL;
 }
 
-char *strchrnul(const char *text, int character)
-{
-    return (char *)find(text, (char)character);
-}
-
-char *index(const char *text, int character)
-{
-    return strchr(text, character);
-}
-
 void *memchr(const void *range, int byte, size_t size)
 {
     struct masks masks = make_masks();
