@@ -49,7 +49,16 @@ INLINE void words_up(word *target, const word *source, size_t count)
         target[6] = g;
         target[7] = h;
     }
-    for (end += count % LONG_ROUND; source != end;)
+    if (count % LONG_ROUND >= ROUND) {
+        word a = source[0], b = source[1], c = source[2], d = source[3];
+        target[0] = a;
+        target[1] = b;
+        target[2] = c;
+        target[3] = d;
+        source += ROUND;
+        target += ROUND;
+    }
+    for (end = source + count % ROUND; source != end;)
         *target++ = *source++;
 }
 
