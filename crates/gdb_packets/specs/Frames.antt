@@ -1,8 +1,10 @@
 -- Frames: what stands between $ and #, and its checksum.
-use Rattle.std.specs.Prelude.{◌≡◌, ◌⊎◌, ℕ, ◌%◌, ◌/◌, sum, List, [], ◌∷◌, ◌++◌}
+use Rattle.std.specs.Prelude.{◌≡◌, ◌⊎◌, ℕ, ◌%◌, ◌/◌, ◌==◌, if◌then◌else◌, sum, List, [], ◌∷◌, ◌++◌}
 use Rattle.std.specs.Char.{digit_value}
 use Rattle.text_output.specs.Digits.{hexadecimal}
 use Rattle.gdb_packets.specs.Escapes.{escaped}
+use Rattle.gdb_packets.specs.declared.deframer.Heard.{Heard}
+use Rattle.gdb_packets.specs.declared.deframer.Heard.TheVariants.{Acknowledged, Interrupt, Nothing, Refused}
 use Rattle.gdb_packets.specs.declared.deframer.Part.{Part}
 use Rattle.gdb_packets.specs.declared.deframer.Part.TheVariants.{Outside, Body, Sharp, Digit}
 
@@ -43,3 +45,14 @@ bytes_begun body (Digit first) = 36 ∷ (body ++ 35 ∷ first ∷ [])
 -- a byte was heard after those of a frame that was begun: it follows them, or a $ (36) begins another frame
 abbrev pub GoesOn : (begun : List ℕ) (byte : ℕ) (now : List ℕ) → Type 0
 GoesOn begun byte now = (now ≡ begun ++ byte ∷ []) ⊎ ((byte ≡ 36) × (now ≡ 36 ∷ []))
+
+-- this byte is the last one of a frame of this body, whose checksum is right
+abbrev pub Completes : (body : List ℕ) → Part → ℕ → Type 0
+Completes body Outside byte = ⊥
+Completes body Body byte = ⊥
+Completes body Sharp byte = ⊥
+Completes body (Digit first) byte = IsSum body first byte
+
+-- what a byte outside of a frame says: + (43), - (45) or 03
+abbrev pub heard_outside : ℕ → Heard
+heard_outside byte = if byte == 43 then Acknowledged else (if byte == 45 then Refused else (if byte == 3 then Interrupt else Nothing))

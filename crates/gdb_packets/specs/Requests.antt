@@ -1,6 +1,8 @@
 -- What the text of a packet asks for.
-use Rattle.std.specs.Prelude.{◌≡◌, ◌≢◌, ℕ, List, ◌∷◌, ◌++◌, codes}
+use Rattle.std.specs.Prelude.{◌≡◌, ◌≢◌, ◌⊎◌, ℕ, List, [], ◌∷◌, ◌++◌, codes}
 use Rattle.gdb_packets.specs.Numbers.{IsNumber}
+use Rattle.gdb_packets.specs.declared.action.Motion.{Motion}
+use Rattle.gdb_packets.specs.declared.action.Motion.TheVariants.{Continue, Step, Range}
 use Rattle.gdb_packets.specs.declared.request.PointKind.{PointKind}
 use Rattle.gdb_packets.specs.declared.request.PointKind.TheVariants.{Software, Hardware, Write, Read, Access}
 use Rattle.gdb_packets.specs.declared.request.Request.{Request}
@@ -31,8 +33,34 @@ digit_of_kind Write = 50
 digit_of_kind Read = 51
 digit_of_kind Access = 52
 
--- A packet of this text asks for this, where it is one with parts that are numbers. Of the others nothing is said.
+-- a text that is one byte, or begins with another and a signal's number
+abbrev pub IsOrSignal : List ℕ → (one other : ℕ) → Type 0
+IsOrSignal text one other = (text ≡ one ∷ []) ⊎ ((signal : List ℕ) × (number : ℕ) × (text ≡ other ∷ signal) × IsNumber signal number)
+
+-- the motion of c (99) or C (67), and of s (115) or S (83)
+abbrev pub AsksMotion : List ℕ → Motion → Type 0
+AsksMotion text Continue = IsOrSignal text 99 67
+AsksMotion text Step = IsOrSignal text 115 83
+AsksMotion text (Range start end) = ⊥
+
+-- A packet of this text asks for this. Of the other requests nothing is said: they change nothing of the run or of what is meant.
 abbrev pub Asks : List ℕ → Request → Type 0
+Asks text request.Registers = text ≡ 103 ∷ []
+Asks text request.WhyStopped = text ≡ 63 ∷ []
+Asks text request.Extend = text ≡ 33 ∷ []
+Asks text request.End = text ≡ 107 ∷ []
+Asks text request.StepBack = text ≡ 98 ∷ 115 ∷ []
+Asks text request.ContinueBack = text ≡ 98 ∷ 99 ∷ []
+Asks text (request.ResumeSelected motion) = AsksMotion text motion
+Asks text request.Detach = (rest : List ℕ) × (text ≡ 68 ∷ rest)
+Asks text request.CurrentThread = text ≡ codes "qC"
+Asks text request.FirstThreads = text ≡ codes "qfThreadInfo"
+Asks text (request.Command digits) = text ≡ codes "qRcmd," ++ digits.now
+Asks text (request.ThreadText id) = (rest : List ℕ) × (text ≡ codes "qThreadExtraInfo," ++ rest) × Names rest id
+Asks text request.ActionKinds = text ≡ codes "vCont?"
+Asks text (request.Resume actions) = text ≡ codes "vCont;" ++ actions.now
+Asks text (request.Restart arguments) = text ≡ codes "vRun;" ++ arguments.now
+Asks text request.Kill = (rest : List ℕ) × (text ≡ codes "vKill;" ++ rest)
 Asks text (request.Memory window) = (rest : List ℕ) × (text ≡ 109 ∷ rest) × IsWindow rest window
 Asks text (request.Register number) = (rest : List ℕ) × (text ≡ 112 ∷ rest) × IsNumber rest number
 Asks text (request.IsThread id) = (rest : List ℕ) × (text ≡ 84 ∷ rest) × Names rest id

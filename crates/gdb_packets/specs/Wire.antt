@@ -1,5 +1,5 @@
 -- The bytes for gdb.
-use Rattle.std.specs.Prelude.{◌≡◌, ℕ, List, ◌∷◌, ◌++◌}
+use Rattle.std.specs.Prelude.{◌≡◌, ℕ, if◌then◌else◌, List, [], ◌∷◌, ◌++◌}
 use Rattle.std.specs.List.{flat_map}
 use Rattle.gdb_packets.specs.Digits.{digits_of}
 use Rattle.gdb_packets.specs.Frames.{frame_of}
@@ -18,3 +18,20 @@ pub record IsPrinted (old text new : List ℕ) : Type 0 where
   pub parts : List (List ℕ)
   pub whole : flat_map (λ part. part) parts ≡ text
   pub sent : new ≡ old ++ flat_map printing parts
+
+-- packets are acknowledged as before
+abbrev pub Keeps : Wire → Wire → Type 0
+Keeps old new = new.acknowledges ≡ old.acknowledges
+
+-- these bytes were sent, and nothing else happened
+pub record IsSent (old : Wire) (bytes : List ℕ) (new : Wire) : Type 0 where
+  pub sent : sent_of new ≡ sent_of old ++ bytes
+  pub rest : new ≡ record old { out = new.out }
+
+-- a byte that is sent if packets are acknowledged
+abbrev pub noted : Wire → ℕ → List ℕ
+noted wire byte = if wire.acknowledges then byte ∷ [] else []
+
+-- the last answer, if packets are acknowledged
+abbrev pub repeated : Wire → List ℕ
+repeated wire = if wire.acknowledges then wire.last.items else []

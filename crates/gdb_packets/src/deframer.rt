@@ -1,6 +1,6 @@
 //! Takes the bytes of gdb one by one, and says what each completes.
-ghost use Rattle.std.specs.Prelude.{◌≡◌, ◌≢◌, ◌⊎◌, ◌∷◌, ◌++◌, [], ◌↔◌, IsTrue};
-ghost use Rattle.gdb_packets.specs.Frames.{IsFrame, IsSpoiled, IsSum, GoesOn, bytes_begun};
+ghost use Rattle.std.specs.Prelude.{◌≡◌, ◌≢◌, ◌⊎◌, ◌∷◌, ◌++◌, [], ◌↔◌, IfOk, IsTrue};
+ghost use Rattle.gdb_packets.specs.Frames.{Completes, IsFrame, IsSpoiled, IsSum, GoesOn, bytes_begun, heard_outside};
 
 use crate::numbers::digit_of;
 use crate::sums::checksum;
@@ -51,7 +51,9 @@ pub struct Deframer {
 
 impl Deframer {
     /// One that has heard nothing. It takes the memory for all frames.
-    pub fn new(alloc: Global) -> Result<Self, AllocError> {
+    pub fn new(alloc: Global) -> Result<Self, AllocError>
+        ensures { IfOk result (λ deframer. bytes_begun deframer.body.items deframer.part ≡ []) }
+    {
         Ok(Deframer {
             body: Vec::with_capacity(alloc, PACKET_LIMIT)?,
             part: Part::Outside,
@@ -66,7 +68,9 @@ impl Deframer {
     }
 
     /// Whether a frame has begun and isn't complete.
-    pub fn is_in_frame(&self) -> bool {
+    pub fn is_in_frame(&self) -> bool
+        ensures { IsTrue result ↔ (bytes_begun self.now.body.items self.now.part ≢ []) }
+    {
         self.part != Part::Outside
     }
 
@@ -79,6 +83,10 @@ impl Deframer {
         ensures goes_on { result ≡ Heard.Nothing → bytes_begun self.new.body.items self.new.part ≢ []
             → GoesOn (bytes_begun self.old.body.items self.old.part) byte (bytes_begun self.new.body.items self.new.part) }
         ensures interrupt { result ≡ Heard.Interrupt → (byte ≡ 3) × (bytes_begun self.old.body.items self.old.part ≡ []) }
+        ensures completes { Completes self.old.body.items self.old.part byte →
+            (result ≡ Heard.Packet) × (self.new.body.items ≡ self.old.body.items) }
+        ensures outside { self.old.part ≡ Part.Outside → result ≡ heard_outside byte }
+        ensures begun { bytes_begun self.new.body.items self.new.part ≢ [] → result ≡ Heard.Nothing }
     {
         match self.part {
             Part::Outside => self.hear_outside(byte),
@@ -101,6 +109,7 @@ impl Deframer {
         ensures interrupt { result ≡ Heard.Interrupt → byte ≡ 3 }
         ensures begun { bytes_begun self.new.body.items self.new.part ≢ []
             → (byte ≡ 36) × (bytes_begun self.new.body.items self.new.part ≡ 36 ∷ []) }
+        ensures heard { result ≡ heard_outside byte }
     {
         match byte {
             b'$' => {
@@ -119,6 +128,7 @@ impl Deframer {
         requires { self.old.part ≡ Part.Body }
         ensures other { (result ≢ Heard.Packet) × (result ≢ Heard.Spoiled) × (result ≢ Heard.Interrupt) }
         ensures goes_on { result ≡ Heard.Nothing → GoesOn (36 ∷ self.old.body.items) byte (bytes_begun self.new.body.items self.new.part) }
+        ensures ended { (result ≡ Heard.Nothing) ⊎ (bytes_begun self.new.body.items self.new.part ≡ []) }
     {
         match byte {
             b'$' => {
@@ -145,7 +155,7 @@ impl Deframer {
     fn keep(&mut self, byte: u8) -> Heard
         requires { self.old.part ≡ Part.Body }
         ensures kept { result ≡ Heard.Nothing → bytes_begun self.new.body.items self.new.part ≡ 36 ∷ (self.old.body.items ++ byte ∷ []) }
-        ensures either { (result ≡ Heard.Nothing) ⊎ (result ≡ Heard.TooLong) }
+        ensures either { (result ≡ Heard.Nothing) ⊎ ((result ≡ Heard.TooLong) × (bytes_begun self.new.body.items self.new.part ≡ [])) }
     {
         if self.body.len() < PACKET_LIMIT && self.body.push(byte).is_ok() {
             return Heard::Nothing;

@@ -1,7 +1,7 @@
 //! The bytes for gdb: the frames of answers, and acknowledgements.
-ghost use Rattle.std.specs.Prelude.{◌≡◌, ◌++◌, [], OnOk};
+ghost use Rattle.std.specs.Prelude.{◌≡◌, ◌++◌, [], OnOk, true, false};
 ghost use Rattle.gdb_packets.specs.Frames.{frame_of};
-ghost use Rattle.gdb_packets.specs.Wire.{IsPrinted, printing, sent_of};
+ghost use Rattle.gdb_packets.specs.Wire.{IsPrinted, IsSent, Keeps, noted, printing, repeated, sent_of};
 
 use crate::digits::write_bytes;
 use crate::framing::frame;
@@ -25,7 +25,8 @@ pub struct Wire {
 impl Wire {
     /// No bytes yet. Packets are acknowledged.
     pub fn new(alloc: Global) -> Self
-        ensures { sent_of result ≡ [] }
+        ensures none { sent_of result ≡ [] }
+        ensures acknowledges { result.acknowledges ≡ true }
     {
         Wire {
             alloc,
@@ -37,7 +38,9 @@ impl Wire {
 
     /// Answers with a packet of this text.
     pub fn answer(&mut self, text: &[u8]) -> Result<(), AllocError>
-        ensures { OnOk result (sent_of self.new ≡ sent_of self.old ++ frame_of text.now) }
+        ensures sent { OnOk result (sent_of self.new ≡ sent_of self.old ++ frame_of text.now) }
+        ensures last { OnOk result (self.new.last.items ≡ frame_of text.now) }
+        ensures keeps { Keeps self.old self.new }
     {
         self.last.clear();
         frame(self.alloc, text, &mut self.last)?;
@@ -46,7 +49,8 @@ impl Wire {
 
     /// Prints a text on the user's terminal, in packets of a bounded length.
     pub fn print(&mut self, text: &[u8]) -> Result<(), AllocError>
-        ensures { OnOk result (IsPrinted (sent_of self.old) text.now (sent_of self.new)) }
+        ensures printed { OnOk result (IsPrinted (sent_of self.old) text.now (sent_of self.new)) }
+        ensures keeps { Keeps self.old self.new }
     {
         let mut rest = text;
         while !rest.is_empty() {
@@ -59,7 +63,8 @@ impl Wire {
 
     /// Prints a part of a text in one packet.
     fn print_part(&mut self, part: &[u8]) -> Result<(), AllocError>
-        ensures { OnOk result (sent_of self.new ≡ sent_of self.old ++ printing part.now) }
+        ensures sent { OnOk result (sent_of self.new ≡ sent_of self.old ++ printing part.now) }
+        ensures keeps { Keeps self.old self.new }
     {
         let mut packet = String::from_str(self.alloc, "O")?;
         write_bytes(&mut packet, part)?;
@@ -67,7 +72,9 @@ impl Wire {
     }
 
     /// Sends the last answer again, if packets are acknowledged.
-    pub fn repeat(&mut self) -> Result<(), AllocError> {
+    pub fn repeat(&mut self) -> Result<(), AllocError>
+        ensures { OnOk result (IsSent self.old (repeated self.old) self.new) }
+    {
         if self.acknowledges {
             self.out.extend_from_slice(self.last.as_slice())?;
         }
@@ -75,18 +82,23 @@ impl Wire {
     }
 
     /// Says that a packet came, if packets are acknowledged.
-    pub fn acknowledge(&mut self) -> Result<(), AllocError> {
+    pub fn acknowledge(&mut self) -> Result<(), AllocError>
+        ensures { OnOk result (IsSent self.old (noted self.old 43) self.new) }
+    {
         self.note(b'+')
     }
 
     /// Says that a packet has a wrong checksum, if packets are acknowledged.
-    pub fn refuse(&mut self) -> Result<(), AllocError> {
+    pub fn refuse(&mut self) -> Result<(), AllocError>
+        ensures { OnOk result (IsSent self.old (noted self.old 45) self.new) }
+    {
         self.note(b'-')
     }
 
     /// Acknowledges no packet from now on.
     pub fn stop_acknowledging(&mut self)
-        ensures { sent_of self.new ≡ sent_of self.old }
+        ensures sent { sent_of self.new ≡ sent_of self.old }
+        ensures rest { self.new ≡ record self.old { acknowledges = false } }
     {
         self.acknowledges = false;
     }
@@ -95,12 +107,15 @@ impl Wire {
     pub fn take(&mut self) -> Vec<u8>
         ensures taken { result.items ≡ sent_of self.old }
         ensures none { sent_of self.new ≡ [] }
+        ensures rest { self.new ≡ record self.old { out = self.new.out } }
     {
         mem::replace(&mut self.out, Vec::new(self.alloc))
     }
 
     /// Sends a byte, if packets are acknowledged.
-    fn note(&mut self, byte: u8) -> Result<(), AllocError> {
+    fn note(&mut self, byte: u8) -> Result<(), AllocError>
+        ensures { OnOk result (IsSent self.old (noted self.old byte) self.new) }
+    {
         if self.acknowledges {
             self.out.push(byte)?;
         }
