@@ -73,7 +73,7 @@ wakes present most is none below goes_on =
       leads = λ start begins. after_wake start (point_at present) present.before begins needed;
     }
 
-same_point : (one other : Present) → one.serial ≡ other.serial → point_at one ≡ point_at other
+pub same_point : (one other : Present) → one.serial ≡ other.serial → point_at one ≡ point_at other
 same_point one other same = cc
 
 -- the next turn begins where the one before ends

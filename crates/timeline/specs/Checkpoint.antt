@@ -3,6 +3,7 @@ use Rattle.std.specs.Prelude.{◌≡◌, ℕ, ◌+◌, ◌<◌, ◌≤◌, ◌^�
 use Rattle.paged_memory.specs.Snapshot.{cells_of}
 use Rattle.token.specs.Point.{Point}
 use Rattle.token.specs.RunInTurn.{point_of}
+use Rattle.timeline.specs.Last.{IsLast}
 use Rattle.timeline.specs.Moment.{Origin, beginning, moment_at, origin_at}
 use Rattle.timeline.specs.Underway.{Stands}
 use Rattle.timeline.specs.declared.checkpoint.Begun.{Begun}
@@ -31,6 +32,7 @@ pub record IsCheckpoint (checkpoint : Checkpoint) : Type 0 where
   pub begun : MayHaveBegun (point_of checkpoint.serial.value) checkpoint.begun
   pub few : step_at checkpoint ≤ 2 ^ 63
   pub quantum : IfSome (point_of checkpoint.serial.value).setup.quantum (λ q. 0 < q)
+  pub last : IsLast (point_of checkpoint.serial.value) checkpoint.last
 
 -- It is sound, and stands at a step or before it.
 pub record IsAtMost (checkpoint : Checkpoint) (most : ℕ) : Type 0 where

@@ -5,9 +5,11 @@ pub mod Checkpoints
 pub mod Going
 pub mod Halting
 pub mod Halts
+pub mod Last
 pub mod Line
 pub mod Moment
 pub mod Present
 pub mod Quiet
 pub mod Underway
 pub mod Shown
+pub mod Told

@@ -3,6 +3,7 @@ use Rattle.std.specs.Prelude.{◌≡◌, ◌⊎◌, ℕ, ◌+◌, ◌<◌, ◌�
 use Rattle.token.specs.Point.{Point, IsNeededAt}
 use Rattle.token.specs.RunInTurn.{point_of}
 use Rattle.token.specs.declared.turn_fault.TurnFault.{TurnFault}
+use Rattle.timeline.specs.Last.{IsLast}
 use Rattle.timeline.specs.Moment.{Moment, beginning, moment_at, origin_at, turned}
 use Rattle.timeline.specs.Underway.{IsUnderway, origin_of}
 use Rattle.timeline.specs.declared.present.Present.{Present}
@@ -39,6 +40,7 @@ pub record IsSound (present : Present) : Type 0 where
   pub turns : IsTurns (point_at present) present.underway
   pub few : step_of present ≤ 2 ^ 63
   pub quantum : IfSome (point_at present).setup.quantum (λ q. 0 < q)
+  pub last : IsLast (point_at present) present.last
 
 -- Its turn begins after so many steps from a start as it says.
 abbrev pub BeginsAt : Point → Present → Type 0
@@ -69,6 +71,7 @@ pub record CanGoOn (present : Present) (until : ℕ) : Type 0 where
 pub record SameTurn (old new : Present) : Type 0 where
   pub serial : new.serial ≡ old.serial
   pub before : new.before ≡ old.before
+  pub last : new.last ≡ old.last
 
 -- It is sound, and stands in the same run.
 pub record StaysInRun (old new : Present) : Type 0 where

@@ -18,6 +18,7 @@ mod spacing;
 mod stage;
 mod stops;
 mod timeline;
+mod told;
 mod underway;
 
 pub use halt::Halt;

@@ -27,6 +27,7 @@ impl Line {
     ghost use Rattle.timeline.specs.Going.{IsSought, IsStepped, goal_of};
     ghost use Rattle.timeline.specs.Halting.{HaltsThere, NoneBetween};
     ghost use Rattle.timeline.specs.Halts.{nothing, wanted_by};
+    ghost use Rattle.timeline.specs.Last.{IsLast};
     ghost use Rattle.timeline.specs.Line.{IsLine, MovesBack, MovesOn, start_of};
     ghost use Rattle.timeline.specs.Present.{step_of};
 
@@ -36,7 +37,8 @@ impl Line {
         serial: Serial<NoRecord>,
         spacing: Spacing,
     ) -> Result<Self, AllocError>
-        requires { IfSome (point_of serial).setup.quantum (λ q. 0 < q) }
+        requires quantum { IfSome (point_of serial).setup.quantum (λ q. 0 < q) }
+        requires last { IsLast (point_of serial) 0 }
         ensures line { IfOk result IsLine }
         ensures start { IfOk result (λ line. start_of line ≡ point_of serial) }
         ensures first { IfOk result (λ line. step_of line.present ≡ 0) }

@@ -31,6 +31,7 @@ pub(crate) struct Present {
 
 impl Present {
     ghost use Rattle.token.specs.RunInTurn.{point_of};
+    ghost use Rattle.timeline.specs.Last.{IsLast};
     ghost use Rattle.timeline.specs.Moment.{origin_at};
     ghost use Rattle.token.specs.Point.{need_at};
     ghost use Rattle.timeline.specs.Halting.{IsPassed, IsPlainWalk, IsWalked, address_at, moves_other, threads_at};
@@ -41,7 +42,8 @@ impl Present {
 
     /// The first position of a run.
     pub(crate) fn first(serial: Serial<NoRecord>) -> Result<Self, AllocError>
-        requires { IfSome (point_of serial).setup.quantum (λ q. 0 < q) }
+        requires quantum { IfSome (point_of serial).setup.quantum (λ q. 0 < q) }
+        requires last { IsLast (point_of serial) 0 }
         ensures sound { IfOk result IsSound }
         ensures point { IfOk result (λ present. point_at present ≡ point_of serial) }
         ensures before { IfOk result (λ present. present.before ≡ 0) }
@@ -71,18 +73,6 @@ impl Present {
         match &self.underway {
             Some(underway) => underway.done,
             None => 0,
-        }
-    }
-
-    /// The thread whose turn it is, at the end that of the last turn.
-    pub(crate) fn thread(&self) -> u32 {
-        if let Some(underway) = &self.underway {
-            return underway.work.thread;
-        }
-        match self.serial.need() {
-            Need::Segment(work) | Need::Keeper(work) => work.thread,
-            Need::Wake { thread } => thread,
-            Need::Ended(_) => self.last,
         }
     }
 
@@ -221,6 +211,7 @@ impl Present {
         requires needed { IsNeededAt (point_at self.old) (option_map (λ end. end.now) end) }
         requires few { self.old.before + count_of (option_map (λ end. end.now) end) ≤ 2 ^ 63 }
         requires quantum { IfSome (point_at self.old).setup.quantum (λ q. 0 < q) }
+        requires last { IsLast (point_at self.old) self.old.last }
         ensures sound { IsSound self.new }
         ensures underway { self.new.underway ≡ None }
         ensures ok { OnOk result

@@ -10,7 +10,7 @@ use hart::Hart;
 use std::alloc::{AllocError, Global};
 use std::marker::Model;
 use thread_table::Status;
-use token::{Need, NoRecord, RunOutcome, Serial, Start};
+use token::{NoRecord, RunOutcome, Serial, Start};
 
 /// A run at one of its positions, that can be asked for any other.
 #[derive(Drop)]
@@ -35,16 +35,18 @@ impl Model for Timeline {
 }
 
 impl Timeline {
-    ghost use Rattle.std.specs.Prelude.{◌≡◌, ◌<◌, ◌≤◌, ◌^◌, Some, IfOk, IfSome, OnErr, OnOk, option_map};
+    ghost use Rattle.std.specs.Prelude.{◌≡◌, ◌<◌, ◌≤◌, ◌^◌, length, Some, IfOk, IfSome, OnErr, OnOk, option_map};
     ghost use Rattle.token.specs.RunInTurn.{point_of};
     ghost use Rattle.timeline.specs.Backward.{GoesBack};
     ghost use Rattle.timeline.specs.Going.{IsAt, IsRefused, IsSought, IsStepped, goal_of};
     ghost use Rattle.timeline.specs.Halting.{HaltsThere, NoneBetween};
     ghost use Rattle.timeline.specs.Halts.{nothing, wanted_by};
+    ghost use Rattle.timeline.specs.Last.{IsLast};
     ghost use Rattle.timeline.specs.Line.{SameRun, start_of};
     ghost use Rattle.timeline.specs.Moment.{moment_at};
     ghost use Rattle.timeline.specs.Present.{moment_of, step_of, steps_of};
     ghost use Rattle.timeline.specs.Shown as shown;
+    ghost use Rattle.timeline.specs.Told.{IsTrapThere, end_in, outcome_at, stage_at, thread_at, trap_found, turn_at};
 
     /// A run at its first position. Its quantum, if it has one, isn't 0.
     pub fn open(alloc: Global, start: Start, spacing: Spacing) -> Result<Self, AllocError>
@@ -66,12 +68,10 @@ impl Timeline {
     }
 
     /// The present turn, from 1: one more than the turns that were done. At the end of the run it is the last one.
-    pub fn turn(&self) -> u64 {
-        let done = self.line.present.serial.done();
-        match self.stage() {
-            Stage::End(_) => done,
-            Stage::Segment | Stage::Wake | Stage::Trap { .. } => done.saturating_add(1),
-        }
+    pub fn turn(&self) -> u64
+        ensures { result ≡ turn_at (moment_of self.now.present).point }
+    {
+        self.line.present.turn_number()
     }
 
     /// How many instructions of the present turn were executed.
@@ -82,49 +82,41 @@ impl Timeline {
     }
 
     /// The present phase, from 1.
-    pub fn phase(&self) -> u64 {
+    pub fn phase(&self) -> u64
+        ensures { result ≡ (moment_of self.now.present).point.phase }
+    {
         self.line.present.serial.phase()
     }
 
     /// The thread whose turn it is, at the end of the run that of the last turn.
-    pub fn thread(&self) -> u32 {
+    pub fn thread(&self) -> u32
+        ensures thread { result ≡ thread_at (moment_of self.now.present).point self.now.present.last }
+        ensures last { IsLast (moment_of self.now.present).point self.now.present.last }
+    {
         self.line.present.thread()
     }
 
     /// What the run is about to do. That an instruction traps is known once its step was tried.
-    pub fn stage(&self) -> Stage {
-        if let Some(underway) = &self.line.present.underway {
-            return match underway.trap {
-                Some(trap) => Stage::Trap {
-                    pc: underway.hart.pc(),
-                    trap,
-                },
-                None => Stage::Segment,
-            };
-        }
-        match self.line.present.serial.need() {
-            Need::Segment(_) | Need::Keeper(_) => Stage::Segment,
-            Need::Wake { .. } => Stage::Wake,
-            Need::Ended(outcome) => Stage::End(outcome),
-        }
+    pub fn stage(&self) -> Stage
+        ensures stage { result ≡ stage_at (moment_of self.now.present) (trap_found self.now.present.underway) }
+        ensures trap { IsTrapThere (moment_of self.now.present) (trap_found self.now.present.underway) }
+        ensures ended { end_in result ≡ (moment_of self.now.present).point.ended }
+    {
+        self.line.present.stage()
     }
 
     /// How the run ends, at its last position. That an instruction traps is known once its step was tried.
-    pub fn outcome(&self) -> Option<RunOutcome> {
-        match self.stage() {
-            Stage::Segment | Stage::Wake => None,
-            Stage::Trap { pc, trap } => Some(RunOutcome::Trap {
-                thread: self.thread(),
-                pc,
-                trap,
-            }),
-            Stage::End(outcome) => Some(outcome),
-        }
+    pub fn outcome(&self) -> Option<RunOutcome>
+        ensures { result ≡ outcome_at (moment_of self.now.present) (trap_found self.now.present.underway) }
+    {
+        self.line.present.outcome()
     }
 
     /// How many threads are created.
-    pub fn thread_count(&self) -> u32 {
-        self.line.present.serial.threads().len() as u32
+    pub fn thread_count(&self) -> u32
+        ensures { result ≡ length (moment_of self.now.present).point.state.threads }
+    {
+        self.line.present.thread_count()
     }
 
     /// What a thread does, none if it isn't created.

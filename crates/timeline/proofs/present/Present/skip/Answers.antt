@@ -1,7 +1,9 @@
-use Rattle.std.proofs.Common.{◌≡◌, ◌∙◌, ◌+◌, sym, ap, arith}
+use Rattle.std.proofs.Common.{◌≡◌, ◌∙◌, ◌+◌, sym, ap, arith, refl}
 use Rattle.std.proofs.lemmas.Result.{on_ok_weaker}
 use Rattle.timeline.specs.Halts.{wanted_by}
 use Rattle.timeline.specs.Present.{step_of, steps_of}
+use Rattle.timeline.specs.declared.present.Present.{Present}
+use Rattle.timeline.proofs.Lasting.{stays_at_start}
 use Rattle.timeline.proofs.Backing.{silent_walk}
 use Rattle.timeline.proofs.Passing.{skipped_plain}
 use Rattle.timeline.proofs.present.Present.skip.Goals as goal
@@ -32,4 +34,14 @@ returns-else-is_err-clause-silent c =
       | in_default w ↦
           let to : step_of c.match-self.self ≡ step_of old = ap step_of w.self-is in
           rw w.skipped-is (λ start begins. λ n low high. absurd (omega (arith, to, low, high)))
+    ]
+
+pub returns-then-is_err-clause-stays : goal.returns-then-is_err-clause-stays
+returns-then-is_err-clause-stays c =
+    let old = c.args.self.now in
+    let sound = c.requires.sound in
+    elim c.match-self.branch [
+      | in-Some w ↦ stays_at_start old _ sound (ap (λ (p : Present). p.serial) w.self-is) (ap (λ (p : Present). p.before) w.self-is) (ap (λ (p : Present). p.last) w.self-is) refl
+      | in_default-2 w ↦ stays_at_start old _ sound (ap (λ (p : Present). p.serial) w.self-is) (ap (λ (p : Present). p.before) w.self-is) (ap (λ (p : Present). p.last) w.self-is) refl
+      | in_default w ↦ stays_at_start old _ sound (ap (λ (p : Present). p.serial) w.self-is) (ap (λ (p : Present). p.before) w.self-is) (ap (λ (p : Present). p.last) w.self-is) refl
     ]
