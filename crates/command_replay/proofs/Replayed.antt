@@ -1,5 +1,5 @@
 -- What a replay of a run that was opened answers, put together of its parts.
-use Rattle.std.proofs.Common.{◌≡◌, ◌∙◌, inl, inr, ℕ, Option, Result, Ok, Err, List, IfErr, ap, length}
+use Rattle.std.proofs.Common.{◌≡◌, ◌∙◌, inl, inr, ℕ, Option, Result, Ok, Err, List, [], IfErr, ap, length}
 use Rattle.std.specs.Io.KnownBytes.{Appends}
 use Rattle.std.specs.Result.{IsErrAnd}
 use Rattle.schedule.specs.Phase.{begun, opened}
@@ -10,6 +10,7 @@ use Rattle.schedule_core.specs.Jobs.{jobs_of, start_of}
 use Rattle.schedule_core.specs.Tally.{HappenInTurn, IsRefusedAt, Tally}
 use Rattle.schedule_core.specs.declared.event_fault.EventFault.{EventFault}
 use Rattle.token.specs.Point.{Point}
+use Rattle.token.specs.Serial.{StandsAfter}
 use Rattle.token.specs.Setup.{Setup}
 use Rattle.token.specs.declared.outcome.RunOutcome.{RunOutcome}
 use Rattle.command_requests.specs.declared.failure.Failure.{Failure}
@@ -22,8 +23,8 @@ use Rattle.command_replay.specs.declared.replay_failure.ReplayFailure.TheVariant
 abbrev pub IsOpened : Point → Tally → ℕ → Type 0
 IsOpened point tally workers = tally ≡ record { turns = 0; counts = opened (length (jobs_of (start_of point))) workers; keeper = begun }
 
-begins : (start before : Point) (old : Tally) (workers : ℕ) → before ≡ start → before.done ≡ 0 → IsOpened before old workers → IsBeginning start.setup workers before old
-begins start before old workers same done opened = record { setup_is = ap (λ (point : Point). point.setup) same; done = done; tally_is = opened }
+begins : (start before : Point) (old : Tally) (workers : ℕ) → before ≡ start → StandsAfter before [] → before.done ≡ 0 → IsOpened before old workers → IsBeginning start.setup workers before old
+begins start before old workers same stands done opened = record { setup_is = ap (λ (point : Point). point.setup) same; stands = stands; done = done; tally_is = opened }
 
 -- the trace is one of what the run was given
 traced : (setup : Setup) (point : Point) (text : List ℕ) → point.setup ≡ setup → IsTraceAt point.setup point text → IsTraceAt setup point text
@@ -31,9 +32,9 @@ traced setup point text same trace = record { setup_is = same; history = trace.h
 
 -- all events happened, and the trace was printed
 pub all_replayed : (start before after : Point) (old new : Tally) (workers : ℕ) (events : List Event) (ended : Option RunOutcome) (output output' : Option (List ℕ))
-    → before ≡ start → before.done ≡ 0 → IsOpened before old workers → HappenInTurn before old events after new → IsOutcome after ended → IsPrinted after output output'
+    → before ≡ start → StandsAfter before [] → before.done ≡ 0 → IsOpened before old workers → HappenInTurn before old events after new → IsOutcome after ended → IsPrinted after output output'
     → (text : List ℕ) × IsReplayed start.setup workers events ended text × Appends output output' text
-all_replayed start before after old new workers events ended output output' same done opened happened outcome printed =
+all_replayed start before after old new workers events ended output output' same stands done opened happened outcome printed =
     let kept : after.setup ≡ start.setup = happen_setup before old events after new happened ∙ ap (λ (point : Point). point.setup) same in (
       printed.0,
       record {
@@ -41,7 +42,7 @@ all_replayed start before after old new workers events ended output output' same
         old = old;
         after = after;
         new = new;
-        begins = begins start before old workers same done opened;
+        begins = begins start before old workers same stands done opened;
         comes = (happened, outcome);
         trace = traced start.setup after printed.0 kept printed.1;
       },
@@ -50,9 +51,9 @@ all_replayed start before after old new workers events ended output output' same
 
 -- an event was refused, and the trace was printed
 pub cut_at : (start before after : Point) (old new : Tally) (workers : ℕ) (events : List Event) (place : ℕ) (fault : EventFault) (failure : ReplayFailure)
-    (output output' : Option (List ℕ)) → before ≡ start → before.done ≡ 0 → IsOpened before old workers → IsRefusedAt before old events place fault after new
+    (output output' : Option (List ℕ)) → before ≡ start → StandsAfter before [] → before.done ≡ 0 → IsOpened before old workers → IsRefusedAt before old events place fault after new
     → failure ≡ failure_at place fault → IsPrinted after output output' → IsCut start.setup workers events output output' failure
-cut_at start before after old new workers events place fault failure output output' same done opened refused is printed =
+cut_at start before after old new workers events place fault failure output output' same stands done opened refused is printed =
     let kept : after.setup ≡ start.setup = happen_setup before old _ after new refused.happened ∙ ap (λ (point : Point). point.setup) same in
     inl (
       place,
@@ -64,7 +65,7 @@ cut_at start before after old new workers events place fault failure output outp
         old = old;
         after = after;
         new = new;
-        begins = begins start before old workers same done opened;
+        begins = begins start before old workers same stands done opened;
         comes = refused;
         trace = traced start.setup after printed.0 kept printed.1;
       },

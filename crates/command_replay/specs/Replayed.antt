@@ -1,5 +1,5 @@
 -- What a schedule's events come to in a run that was opened, and what is printed of it.
-use Rattle.std.specs.Prelude.{◌≡◌, ◌⊎◌, ℕ, Option, List, length}
+use Rattle.std.specs.Prelude.{◌≡◌, ◌⊎◌, ℕ, Option, List, [], length}
 use Rattle.std.specs.Io.KnownBytes.{Appends}
 use Rattle.schedule.specs.Phase.{begun, opened}
 use Rattle.schedule.specs.declared.event.Event.{Event}
@@ -9,6 +9,7 @@ use Rattle.schedule_core.specs.Tally.{HappenInTurn, IsRefusedAt, Tally}
 use Rattle.schedule_core.specs.declared.event_fault.EventFault.{EventFault}
 use Rattle.token.specs.History.{History, turns_of}
 use Rattle.token.specs.Point.{Point}
+use Rattle.token.specs.Serial.{StandsAfter}
 use Rattle.token.specs.Setup.{Setup}
 use Rattle.token.specs.declared.outcome.RunOutcome.{RunOutcome}
 use Rattle.tracer.specs.TraceText.{text_of}
@@ -19,9 +20,10 @@ use Rattle.command_replay.specs.Status.{failure_at}
 use Rattle.command_replay.specs.declared.replay_failure.ReplayFailure.{ReplayFailure}
 use Rattle.command_replay.specs.declared.replay_failure.ReplayFailure.TheVariants.{Plain}
 
--- a run of this setup for so many workers, of which nothing has happened
+-- A run of this setup for so many workers, of which nothing has happened: it stands after no turn, so each part of the point is the setup's.
 pub record IsBeginning (setup : Setup) (workers : ℕ) (point : Point) (tally : Tally) : Type 0 where
   pub setup_is : point.setup ≡ setup
+  pub stands : StandsAfter point []
   pub done : point.done ≡ 0
   pub tally_is : tally ≡ record { turns = 0; counts = opened (length (jobs_of (start_of point))) workers; keeper = begun }
 

@@ -38,7 +38,7 @@ impl Model for World {
 }
 
 impl World {
-    ghost use Rattle.std.specs.Prelude.{◌≡◌, ◌≤◌, ◌<◌, length, IfOk, IfErr, IfSome, OnOk, OnErr, option_map, slice_get};
+    ghost use Rattle.std.specs.Prelude.{◌≡◌, ◌≤◌, ◌<◌, [], length, IfOk, IfErr, IfSome, OnOk, OnErr, option_map, slice_get};
     ghost use Rattle.abi.specs.Limits as span;
     ghost use Rattle.paged_memory.specs.Snapshot.{cells_of};
     ghost use Rattle.run_limits.specs.Limits as limit;
@@ -46,6 +46,7 @@ impl World {
     ghost use Rattle.schedule.specs.Phase.{begun, opened};
     ghost use Rattle.token.specs.History.{History, turns_of};
     ghost use Rattle.token.specs.RunInTurn.{point_of};
+    ghost use Rattle.token.specs.Serial.{StandsAfter};
     ghost use Rattle.token.specs.Setup.{setup_of};
     ghost use Rattle.schedule_core.specs.Faults.{IsAnswerTo};
     ghost use Rattle.schedule_core.specs.Histories.{IsTheHistory, IsOutcome};
@@ -84,6 +85,7 @@ impl World {
         requires few { workers ≤ limit.workers }
         requires some_workers { 0 < workers }
         ensures point { IfOk result (λ world. point_at world ≡ point_of start) }
+        ensures stands { IfOk result (λ world. StandsAfter (point_at world) []) }
         ensures done { IfOk result (λ world. (point_at world).done ≡ 0) }
         ensures tally { IfOk result (λ world.
             tally_of world ≡ record { turns = 0; counts = opened (length (jobs_of (start_in world))) workers; keeper = begun }) }

@@ -10,8 +10,8 @@ returns-in_err-print_trace-clause-cut g c =
 
 pub returns-in-Ok-clause-replayed : goal.returns-in-Ok-clause-replayed
 returns-in-Ok-clause-replayed g c =
-    all_replayed (point_of c.args.opened.start) _ _ _ _ c.args.workers c.args.opened.events.items c.outcome.result _ _ c.in_ok-world.ensures.point c.in_ok-world.ensures.done
-    c.in_ok-world.ensures.tally (rw c.as_slice.ensures.value at c.in-Ok.ensures.all) c.outcome.ensures.outcome c.in_ok-print_trace.ensures.printed
+    all_replayed (point_of c.args.opened.start) _ _ _ _ c.args.workers c.args.opened.events.items c.outcome.result _ _ c.in_ok-world.ensures.point c.in_ok-world.ensures.stands
+    c.in_ok-world.ensures.done c.in_ok-world.ensures.tally (rw c.as_slice.ensures.value at c.in-Ok.ensures.all) c.outcome.ensures.outcome c.in_ok-print_trace.ensures.printed
 
 pub of_refused-requires : goal.of_refused-requires
 of_refused-requires g c =
@@ -21,5 +21,5 @@ of_refused-requires g c =
 pub returns-clause-cut : goal.returns-clause-cut
 returns-clause-cut g c =
     cut_at (point_of c.args.opened.start) _ _ _ _ c.args.workers c.args.opened.events.items c.in-Err.refused.place c.in-Err.refused.fault c.of_refused.result _ _
-    c.in_ok-world.ensures.point c.in_ok-world.ensures.done c.in_ok-world.ensures.tally (rw c.as_slice.ensures.value at c.in-Err.ensures.refused) c.of_refused.ensures
+    c.in_ok-world.ensures.point c.in_ok-world.ensures.stands c.in_ok-world.ensures.done c.in_ok-world.ensures.tally (rw c.as_slice.ensures.value at c.in-Err.ensures.refused) c.of_refused.ensures
     c.in_ok-print_trace.ensures.printed
