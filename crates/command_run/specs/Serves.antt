@@ -161,7 +161,7 @@ abbrev pub AreOneFile : RunRequest → Failure → Type 0
 AreOneFile request failure = (one : FileName) × (other : FileName) × (failure ≡ OneFile one other) × AreTwins request.is_same one other request.names
 
 -- No run begins, and files and standard output are as they were.
-pub record IsUnbegun (request : RunRequest) (before after : Host) (answer : Result RunOutcome Failure) : Type 0 where
+pub record IsNotBegun (request : RunRequest) (before after : Host) (answer : Result RunOutcome Failure) : Type 0 where
   pub why : IsErrAnd answer (λ failure. AreOneFile request failure ⊎ IsUnrun request.path (before.files request.path) request.input request.config failure)
   pub files_kept : after.files ≡ before.files
   pub output_kept : after.output ≡ before.output
@@ -170,4 +170,4 @@ pub record IsUnbegun (request : RunRequest) (before after : Host) (answer : Resu
 abbrev pub RunsInto : Type 0 → RunRequest → (before after : Host) → Result RunOutcome Failure → Type 0
 RunsInto tells request before after answer =
     IsBegun (before.files request.path) request.input request.config (λ symbols setup. Concludes tells request.records symbols before after setup answer)
-    ⊎ IsUnbegun request before after answer
+    ⊎ IsNotBegun request before after answer
