@@ -62,12 +62,12 @@ impl<'a, R: Clock, H: Holding> Gate for Held<'a, R, H> {
 
 /// A gate by which so many phases are shared out from the beginning on.
 #[derive(Drop)]
-struct SharingFirst<'a, G> {
-    gate: &'a G,
+struct SharingFirst<G> {
+    gate: G,
     phases: u32,
 }
 
-impl<'a, G: Gate> Gate for SharingFirst<'a, G> {
+impl<G: Gate> Gate for SharingFirst<G> {
     fn pass(&self, worker: u32, job: u32) {
         self.gate.pass(worker, job);
     }
@@ -269,16 +269,16 @@ fn assert_late_work(
     alloc: Global,
     phases: u32,
 ) -> Result<(), Fail> {
+    let holding = LateWork;
     let mut is_shared = false;
     for _ in 0..TIMES {
-        let held = Held::by(rt, BEFORE, &LateWork)?;
         let gate = SharingFirst {
-            gate: &held,
+            gate: Held::by(rt, BEFORE, &holding)?,
             phases,
         };
         let report = report_of(rt, alloc, &LATE_WORK, 2, &gate)?;
         assert_eq!(rt; report.outcome, RunOutcome::Exit(0));
-        if is_reached(&held.seen.first) {
+        if is_reached(&gate.gate.seen.first) {
             is_shared = true;
         }
     }
