@@ -5,7 +5,7 @@ made at once in a copy of the crate, which is checked once, over what a check of
 refused only if that check names the function that it changes with a clause that wasn't proved, or with a refusal in the function's own
 proof files. Any other edit is tried alone, as `rt must-fail` does; what meets a limit of the prover is tried once more with more room. An
 edit that isn't refused is a failure, and so is one that doesn't apply, read or compile, that only a limit stops, or that no goal of the
-function that it changes refuses, unless tools/weak-mutants says why. The status is 1 if anything failed.
+function that it changes refuses, unless tools/weak-mutants says why (which also names crates that are still to be looked at). The status is 1 if anything failed.
 
   tools/dt mutants                     tries the crates whose entry in mutants.lock is stale, and writes the entries of those that passed
   tools/dt mutants CRATE..             tries these crates, and writes their entries
@@ -148,7 +148,9 @@ class Session:
                 failures.append(f"{name}: {trial.failure}")
             else:
                 failures += [f"{it}: {kind.upper()}: {text}" for it, kind, text in trial.failed] or self.disagreements(name, trial)
-            tried, refused = tried + len(trial.edits), refused + len(trial.edits) - len(trial.failed)
+            for it, text in trial.told:
+                print(f"mutants: to be looked at: {it}: {text}")
+            tried, refused = tried + len(trial.edits), refused + len(trial.edits) - len(trial.failed) - len(trial.told)
         for it in failures:
             print(f"mutants: {it}")
         how = f"{self.progress.done} checks, {self.progress.alone} of one edit, {self.progress.so_far()} on {lane_count} lanes"

@@ -52,7 +52,7 @@ def record(*trials):
     entries = {name: it for name, it in old.items() if name in names}
     for trial in trials:
         entries.pop(trial.crate.name, None)
-        if trial.is_over and not trial.failure and not trial.failed:
+        if trial.is_over and not trial.failure and not trial.failed and not trial.told:
             entries[trial.crate.name] = Entry(sum_of(trial.crate.name), verdicts_of(trial))
     if entries != old:
         text = "".join(text_of(name, entries[name]) for name in sorted(entries))

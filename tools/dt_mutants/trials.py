@@ -18,6 +18,8 @@ from dt_mutants.rounds import plan
 # What an edit comes to, beside the kinds of kit: no goal of the function that it changes refuses it; or one does, and the list of those
 # that none refuses has it all the same.
 WEAK, LISTED = "weak", "listed in vain"
+# An edit that is weak or at a limit, in a crate whose mutants are still to be looked at.
+TOLD = "told"
 # The function and the goal of an edit that no goal refuses.
 NOWHERE = ("-", "by_names_alone")
 
@@ -44,7 +46,7 @@ class Trial:
         self.rounds = plan([it for it in edits if not it.why])
         # whether it came to its end, and what keeps it from saying anything
         self.is_over, self.failure = False, None
-        self.verdicts, self.listed = [], weak.listed(crate.name)
+        self.verdicts, self.listed, self.is_waiting = [], weak.listed(crate.name), weak.is_waiting(crate.name)
 
     def begin(self):
         return self.safely(self.make_seed)
@@ -134,7 +136,7 @@ class Trial:
             kind, text = WEAK, f"no goal of the function that it changes refuses it: choose another change, or list it in tools/weak-mutants: {text}"
         elif kind == REFUSED and edit.name in self.listed:
             kind, text, found = LISTED, "a goal of the function that it changes refuses it, so tools/weak-mutants may not have it", []
-        self.results[edit] = (kind, text)
+        self.results[edit] = (TOLD if self.is_waiting and kind in (WEAK, LIMIT) else kind, text)
         self.verdicts += found
 
     def end(self):
@@ -148,4 +150,9 @@ class Trial:
     def failed(self):
         """Returns the edits that aren't refused, each with its kind and what is said of it."""
         lost = [(it, *self.results.get(it, (UNSURE, "not tried"))) for it in self.edits]
-        return [it for it in lost if it[1] != REFUSED]
+        return [it for it in lost if it[1] not in (REFUSED, TOLD)]
+
+    @property
+    def told(self):
+        """Returns the edits that are told alone, each with what is said of it."""
+        return [(it, text) for it, (kind, text) in self.results.items() if kind == TOLD]

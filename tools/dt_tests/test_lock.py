@@ -38,6 +38,7 @@ class FakeTrial:
         self.crate, self.edits, self.rounds, self.room, self.is_over = crate, EDITS, [["one", "two"]], None, False
         self.failure = "it couldn't be tried" if crate.name == "broken" else None
         self.failed = [("one", "not refused", "told")] if crate.name == "bad" else []
+        self.told = []
         by_name = {it.name: it for it in EDITS}
         self.verdicts = [verdicts.Verdict(by_name[name], function, goal) for name, function, goal in FOUND]
 
@@ -129,6 +130,9 @@ class Lines(WithLock):
         trial.end()
         lock.record(trial)
         self.assertEqual(lock.read()["same"], Entry("same-now", FOUND))
+        trial.told = [("one", "a proof file names what it took away")]
+        lock.record(trial)
+        self.assertNotIn("same", lock.read())
 
 
 class Staleness(WithLock):

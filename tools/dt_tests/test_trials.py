@@ -100,7 +100,7 @@ class Trials(unittest.TestCase):
                     it.write(f"file: src/lib.rt\nold: {at}00\nnew: {body}\n")
             fake = FakeKit()
             fake.is_seed_changed = how.get("is_seed_changed", False)
-            with mock.patch.object(trials, "kit", fake), mock.patch.object(trials.weak, "listed", lambda _: how.get("listed", {})):
+            with mock.patch.object(trials, "kit", fake), mock.patch.object(trials.weak, "lines_of", lambda _: how.get("listed", {})):
                 crate = types.SimpleNamespace(folder=folder, name="small")
                 trial = trials.Trial(crate, edits_of("small", folder), lambda *_: None, how.get("is_proved", False))
                 steps = trial.begin()
@@ -149,6 +149,11 @@ class Trials(unittest.TestCase):
         self.assertEqual((failed, "two" in verdicts), ([("two", trials.WEAK)], False))
         failed, verdicts = self.came_to(["x", "hidden", "x", "x", "x"], listed={"two": "a table of names"})
         self.assertEqual((failed, verdicts["two"]), ([], trials.NOWHERE))
+
+    def test_one_that_no_goal_of_its_own_refuses_is_told_of_a_crate_that_is_to_be_looked_at(self):
+        _, _, trial = self.tried(["x", "hidden", "same", "x", "x"], listed={"*": "not seen yet"})
+        self.assertEqual([it.name for it, _ in trial.told], ["two"])
+        self.assertEqual([(it.name, kind) for it, kind, _ in trial.failed], [("three", "not refused")])
 
     def test_one_that_is_listed_and_that_a_goal_refuses_fails(self):
         failed, _ = self.came_to(["x"] * 5, listed={"two": "a table of names"})
