@@ -17,6 +17,7 @@ Each sentence of GUEST.md on what the machine does has a line, several have more
 - No page has both W and X: it follows from refusal 17.
 - Refusal 21, OutOfMemory: rows run with ample memory; `test_alloc_failures` refuses the requests for memory one by one.
 - A ready thread runs up to its next ecall, trap or end of quantum: Traps, and Bound and quantum, have the lines of what these are.
+- A thread that becomes ready while the list is taken waits for the next phase: one that had a turn at once would have no job in its phase, and a row's walks would wait for it without end. The trace of each row with `create` shows the sentence.
 - A woken thread's turn writes nothing: in the definition it has no copy whose bytes could differ.
 - Every run ends: it has an argument and no contract.
 """
