@@ -7,7 +7,7 @@ For auditors: what ties the definitions to the documents. `tools/dt write pages`
 
 The prover compares code with definitions. Whether the definitions say what the RISC-V ISA and the guest machine say is tested by rows: words, calls and whole runs with their results, worked out by hand. A sentence is *pinned* if changing it, in definition and code together, makes a named test fail. Each line below is such a change, a file of `tools/changes`; the row is a test of {tests} or a row of {programs}, with the case that it reports.
 
-By hand, `tools/dt sweep changes` tries all {count} changes without proofs, and prints each that survives. That a changed definition and its code still prove together is not tried.
+By hand, `tools/dt sweep changes` tries all {count} changes without proofs, and prints each that survives. That a changed definition and its code still prove together is not tried. Of 17 changes it is worked out by hand alone that their rows fail, and not yet seen by the sweep: `heap-starts-a-page-later`, `memory-maps-a-page-more`, `call-before-commit`, `done-with-0`, `created-has-another-number`, `created-a-word-later`, `threads-from-1`, `list-descends`, `list-of-the-ready`, `whole-groups-are-written`, `first-store-stays`, `released-pages-come-back`, `woken-threads-pass-the-token`, `wakes-have-code-4`, `woken-threads-come-at-once`, `exits-of-thread-0-end-nothing`, `traps-of-others-end-nothing`.
 
 Each sentence of GUEST.md on what the machine does has a line, several have more, and these have none:
 
