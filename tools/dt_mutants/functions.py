@@ -8,12 +8,15 @@ TOKEN = re.compile(
 )
 # What stands before a brace that opens a clause, and not a body.
 CLAUSE = re.compile(r"(?:\b(?:requires|ensures)\*?(?:\s+\w+)?|\bghost\s+\w+\s*:)\s*\Z")
-IMPL = re.compile(r"\bimpl\b\s*(?:<[^{;]*?>\s*)?(?:(?P<of>(?:\w+::)*\w+)(?:<.*>)?\s+for\s+)?&?(?:\w+::)*(?P<type>\w+)", re.S)
+IMPL = re.compile(r"\bimpl\b\s*(?:<[^{;]*?>\s*)?(?:(?P<of>(?:\w+::)*\w+)(?P<over><.*>)?\s+for\s+)?&?(?:\w+::)*(?P<type>\w+)", re.S)
+# The types that a trait is over: each name, which stands in an impl's name without its path, and the unit.
+OVER = re.compile(r"\(\)|(?<!')\b(?:\w+::)*(\w+)")
 TRAIT = re.compile(r"\btrait\s+(?P<type>\w+)")
 
 
 class Function:
-    """A function with a body. `owner` is its type, with the trait's name behind it in the impl of a trait, or nothing."""
+    """A function with a body. `owner` is its type, with the trait's name and that of what it is over behind it in the impl of a trait, or
+    nothing."""
 
     def __init__(self, file, owner, name, start, begin, end, text):
         self.file, self.owner, self.name = file, owner, name
@@ -38,7 +41,8 @@ def owner_of(header):
     header = re.sub(r"//[^\n]*", "", header)
     found = IMPL.search(header)
     if found:
-        return found["type"] + (found["of"] or "").rpartition("::")[2]
+        over = "".join(it[1] or "Unit" for it in OVER.finditer(found["over"] or ""))
+        return found["type"] + (found["of"] or "").rpartition("::")[2] + over
     found = TRAIT.search(header)
     return found["type"] if found else ""
 

@@ -5,7 +5,7 @@ import unittest
 
 from dt_mutants import verdicts
 from dt_mutants.edits import BadEdit, edits_of, made, pairs_of
-from dt_mutants.functions import changed_functions, functions_of
+from dt_mutants.functions import changed_functions, functions_of, owner_of
 from dt_mutants.rounds import plan
 
 HERE = os.path.dirname(os.path.abspath(__file__))
@@ -72,6 +72,15 @@ class Functions(unittest.TestCase):
     def test_they_are_found_with_their_types_and_lines(self):
         found = [(it.label, it.first, it.last) for it in functions_of("src/lib.rt", SOURCE)]
         self.assertEqual(found, [("Number::get", 7, 14), ("Number::of", 16, 19), ("NumberSink::get", 25, 27), ("plain", 30, 30)])
+
+    def test_an_impl_is_named_as_the_toolchain_names_it(self):
+        named = {
+            "impl From<AllocError> for ReadFault": "ReadFaultFromAllocError",
+            "impl Play<(), View> for Drawing": "DrawingPlayUnitView",
+            "impl<'a> From<Failure<'a>> for ReplayFailure<'a>": "ReplayFailureFromFailure",
+            "impl<W: Write> Sink for Number<W>": "NumberSink",
+        }
+        self.assertEqual({it: owner_of(it) for it in named}, named)
 
     def test_a_changed_body_is_told_from_a_changed_head(self):
         change = lambda old, new: changed_functions("src/lib.rt", SOURCE, SOURCE.replace(old, new))
