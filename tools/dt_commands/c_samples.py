@@ -4,7 +4,6 @@ samples/c/list has a line for each sample: its program, further words for `run`,
 packages of the compiler must have the versions that guest/packages lists. DTHREADS names the program to run the samples with, or else
 ./dthreads.
 """
-import glob
 import os
 import shutil
 import subprocess
@@ -17,8 +16,6 @@ from dt_commands.repository import TOP
 from dt_commands.texts import contents, rows_of
 
 FOLDER = f"{TOP}/samples/c"
-# The gate runs the samples from this copy.
-COPIES = f"{TOP}/crates/test_c_samples/data"
 WORKERS = (1, 2, 3, 4, 64)
 
 
@@ -60,20 +57,10 @@ def built(room):
             yield sample, f"{room}/{sample.name}.elf"
 
 
-def copied():
-    """Returns the files of which the gate has copies."""
-    return [f"{FOLDER}/list", *(it for ending in ("elf", "out", "txt") for it in sorted(glob.glob(f"{FOLDER}/*.{ending}")))]
-
-
-def copy_of(file):
-    return f"{COPIES}/{os.path.basename(file)}"
-
-
 def check(options):
-    """Builds the samples in C anew, and compares each with its file and the gate's copy, byte for byte."""
+    """Builds the samples in C anew, and compares each with its file, byte for byte."""
     with tempfile.TemporaryDirectory() as room:
         differing = [sample.program for sample, file in built(room) if contents(file) != contents(sample.program)]
-    differing += [copy_of(it) for it in copied() if contents(it) != contents(copy_of(it))]
     for file in differing:
         print(f"{os.path.relpath(file, TOP)} differs", file=sys.stderr)
     if not differing:
@@ -82,12 +69,10 @@ def check(options):
 
 
 def write(options):
-    """Builds the samples in C anew, and puts them into samples/c and into the gate's copy."""
+    """Builds the samples in C anew, and puts them into samples/c."""
     with tempfile.TemporaryDirectory() as room:
         for sample, file in built(room):
             shutil.copyfile(file, sample.program)
-    for file in copied():
-        shutil.copyfile(file, copy_of(file))
     print(f"{len(samples())} samples built")
     return 0
 

@@ -9,7 +9,7 @@ import re
 import subprocess
 import tempfile
 
-from dt_commands import guest_runs, guest_tests
+from dt_commands import c_samples, guest_runs, guest_tests
 from dt_commands.progress import Progress
 from dt_commands.repository import TOP
 from dt_commands.texts import rows_of
@@ -107,9 +107,8 @@ def programs():
         if "--c++" not in words or guest_tests.has_cxx():
             given = f"{guest_tests.FOLDER}/{name}.in"
             yield name, words, guest_tests.source_of(name), guest_tests.FOLDER, given if os.path.exists(given) else None
-    folder = f"{TOP}/crates/test_c_samples/data"
-    for name, _, given, *_ in rows_of(f"{folder}/list"):
-        yield name, [], f"samples/c/{name}.c", TOP, None if given == "-" else f"{folder}/{given}"
+    for it in c_samples.samples():
+        yield it.name, [], f"samples/c/{it.name}.c", TOP, it.given
 
 
 def arguments(parser):

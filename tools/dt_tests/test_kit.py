@@ -142,7 +142,7 @@ class Counts(unittest.TestCase):
                     self.assertEqual(self_test.run(options), status)
 
     def test_no_samples_in_c_are_a_failure(self):
-        with mock.patch.object(c_samples, "samples", return_value=[]), mock.patch.object(c_samples, "copied", return_value=[]):
+        with mock.patch.object(c_samples, "samples", return_value=[]):
             with contextlib.redirect_stdout(io.StringIO()), contextlib.redirect_stderr(io.StringIO()):
                 self.assertEqual(c_samples.check(None), 1)
 
