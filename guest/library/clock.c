@@ -6,7 +6,10 @@ bool deadline_of(clockid_t clock, const struct timespec *time, uint64_t *deadlin
     if (time->tv_nsec < 0 || time->tv_nsec >= (long)SECOND || (clock != CLOCK_REALTIME && clock != CLOCK_MONOTONIC))
         return false;
     int64_t seconds = time->tv_sec - (clock == CLOCK_REALTIME ? DTHREADS_EPOCH : 0);
-    *deadline = seconds < 0 ? 0 : (uint64_t)seconds * SECOND + (uint64_t)time->tv_nsec;
+    if (seconds >= (int64_t)(NEVER / SECOND))
+        *deadline = NEVER;
+    else
+        *deadline = seconds < 0 ? 0 : (uint64_t)seconds * SECOND + (uint64_t)time->tv_nsec;
     return true;
 }
 

@@ -194,6 +194,25 @@ int pthread_rwlock_timedwrlock(pthread_rwlock_t *lock, const struct timespec *ti
     return pthread_rwlock_clockwrlock(lock, CLOCK_REALTIME, time);
 }
 
+int dthreads_rwlock_downgrade(pthread_rwlock_t *lock);
+
+/* The writer reads on, and no other writer comes between: for Rust's library. */
+int dthreads_rwlock_downgrade(pthread_rwlock_t *lock)
+{
+    monitor_enter();
+    int code = lock->writer != self() ? EPERM : readings_grow() ? 0 : EAGAIN;
+    if (code == 0) {
+        dthreads_hint_release(&lock->writer);
+        lock->writer = NULL;
+        own.held--;
+        lock->readers++;
+        reading_begin(lock);
+        hand_over(lock);
+    }
+    monitor_finish();
+    return code;
+}
+
 int pthread_rwlock_unlock(pthread_rwlock_t *lock)
 {
     int code = 0;

@@ -7,6 +7,12 @@ struct stack {
     uint32_t pages;
 };
 
+enum {
+    /* Threads that live at a time with an ample stack, and its bytes: 16 MiB of the heap at most. */
+    AMPLE_STACKS = 32,
+    AMPLE_STACK = 524288
+};
+
 extern char __tls_template[];
 extern char __tls_data_size[], __tls_size[], __tls_align[];
 
@@ -90,4 +96,12 @@ bool stack_attach(struct dthreads_thread *thread, const pthread_attr_t *attribut
     thread->block = block_below(top);
     thread->stack_top = (uint32_t)(uintptr_t)thread->block & ~UINT32_C(15);
     return true;
+}
+
+size_t dthreads_ample_stack(void);
+
+/* The bytes of a new thread's stack if a library leaves them to this one: that of Rust does. */
+size_t dthreads_ample_stack(void)
+{
+    return monitor.living <= AMPLE_STACKS ? AMPLE_STACK : DTHREADS_STACK;
 }
