@@ -154,7 +154,7 @@ def of_program(wrote, said, folder):
 
 def tried(folder, words, given=b""):
     """Runs `rt try` in a crate's folder, and returns the status, and what came on standard output and on standard error."""
-    ran = toolchain.start_try(words, cwd=folder, stdin=toolchain.PIPE, stdout=toolchain.PIPE, stderr=toolchain.PIPE)
+    ran = toolchain.start(["rt", "try", *words], cwd=folder, stdin=toolchain.PIPE, stdout=toolchain.PIPE, stderr=toolchain.PIPE)
     wrote, said = ran.communicate(given)
     return ran.returncode, wrote, said.decode(errors="replace")
 
@@ -221,20 +221,20 @@ def run(options):
     print(f"testing {len(order)} crates unproved, {side_by_side} at a time", flush=True)
 
     def tell(name, results):
-        if isinstance(results, BaseException):
-            raise results
         for it in results:
             show(name, it)
             totals["passed"] += it.passed
             totals["failed"] += len(it.failures)
         totals["crates"] += 1
         keep_seconds(f"{TOP}/crates/{name}", results)
+        return []
 
     def still(names):
         so_far = minutes(time.time() - begun)
         print(f"{totals['crates']} of {len(order)} crates are done, and at work are {', '.join(names)} ({so_far} so far)", flush=True)
 
-    lanes.crates_in_lanes(order, {}, side_by_side, lambda name, _: work(f"{TOP}/crates/{name}", options.seconds), tell, still)
+    tasks = [(name, lambda name=name: work(f"{TOP}/crates/{name}", options.seconds)) for name in order]
+    lanes.tasks_in_lanes(side_by_side, tasks, tell, still)
     print(f"nothing is proved by this; it took {minutes(time.time() - begun)}, and {processor_seconds() / 60:.1f} processor minutes")
     print(f"{totals['passed']} passed, {totals['failed']} failed")
     return 1 if totals["failed"] else 0

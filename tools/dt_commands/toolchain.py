@@ -3,8 +3,6 @@
 The inner functions by which mutants are checked are in kit.py. That file is a part of each sum in mutants.lock, as it decides what a
 check is; this one is not.
 """
-import importlib.machinery
-import importlib.util
 import os
 import shutil
 import signal
@@ -29,16 +27,6 @@ def version():
     return ran.stdout.strip() if ran.returncode == 0 else None
 
 
-def load():
-    """Returns the module that the command rt is. Its functions are no published interface."""
-    name = "rt_command"
-    loader = importlib.machinery.SourceFileLoader(name, path())
-    made = importlib.util.module_from_spec(importlib.util.spec_from_loader(name, loader))
-    sys.modules[name] = made
-    loader.exec_module(made)
-    return made
-
-
 # What a started command runs first: it asks to be ended with its parent, however that ends, and becomes the command.
 BEGIN = """
 import ctypes, os, signal, sys
@@ -54,28 +42,6 @@ def start(words, **how):
     """Starts a command that ends when the thread that calls this ends, and reads no input unless `how` gives it some."""
     how.setdefault("stdin", subprocess.DEVNULL)
     return subprocess.Popen([sys.executable, "-ISc", BEGIN, str(os.getpid()), *words], **how)
-
-
-# `rt try` without rattle's pass over all sources beside it. That pass only hints at names that a check would refuse, and takes up to as
-# long as the rest. If the toolchain's functions are others, this is `rt try` as it is.
-TRY = """
-import os, sys
-sys.path.insert(0, sys.argv[1])
-from dt_commands import toolchain
-words = ["try", *sys.argv[2:]]
-try:
-    rt = toolchain.load()
-    rt.rtlib.RATTLE, call = "true", rt.main
-except Exception:
-    os.execvp("rt", ["rt", *words])
-sys.exit(call(words))
-"""
-
-
-def start_try(words, **how):
-    """Starts `rt try` with these words, as `start` does."""
-    tools = os.path.dirname(os.path.dirname(os.path.abspath(__file__)))
-    return start([sys.executable, "-B", "-c", TRY, tools, *words], **how)
 
 
 def end_at_signals(say):

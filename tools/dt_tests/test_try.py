@@ -1,11 +1,10 @@
 """Tests of how `tools/dt test` reads what `rt try` says, and of what it calls a failure."""
 import os
-import sys
 import tempfile
 import unittest
 from unittest import mock
 
-from dt_commands import test, toolchain
+from dt_commands import test
 from dt_commands.repository import TOP, crates
 
 SAID = """tests: 3
@@ -154,34 +153,6 @@ class SmallerNumbers(unittest.TestCase):
         self.assertTrue([it for it in folders if test.smaller(it)])
         for it in folders:
             test.wanted_of(it)
-
-
-# A command rt that says how it was called, and what the pass over all sources would be.
-RT = """import os, sys, types
-rtlib = types.SimpleNamespace(RATTLE="rattle")
-def main(words):
-    print(*words, rtlib.RATTLE)
-if __name__ == "__main__":
-    print("itself", *sys.argv[1:])
-"""
-
-
-class Tries(unittest.TestCase):
-    def said(self, text):
-        """Returns what `rt try --test` says if the command rt is this text."""
-        with tempfile.TemporaryDirectory() as room:
-            with open(f"{room}/rt", "w", encoding="utf-8") as it:
-                it.write(text)
-            os.chmod(f"{room}/rt", 0o755)
-            how = {"env": {**os.environ, "PATH": f"{room}:{os.environ['PATH']}"}, "universal_newlines": True}
-            return toolchain.start_try(["--test"], stdout=toolchain.PIPE, **how).communicate()[0]
-
-    def test_the_pass_over_all_sources_is_left_out(self):
-        self.assertEqual(self.said(f"#!{sys.executable}\n{RT}"), "try --test true\n")
-
-    def test_a_toolchain_with_other_functions_does_it_by_itself(self):
-        self.assertEqual(self.said(f"#!{sys.executable}\n{RT.replace('def main', 'def other')}"), "itself try --test\n")
-        self.assertEqual(self.said("#!/bin/sh\necho itself $*\n"), "itself try --test\n")
 
 
 if __name__ == "__main__":
