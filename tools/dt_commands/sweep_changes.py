@@ -51,7 +51,9 @@ def cases_in(said):
         ended[int(number)] = ("FAILED" if differ else "ok" if lines else "not run", "\n".join(differ))
     for number, how in re.findall(r"^case=change_(\d+) run=(\S+)", said, re.M):
         if how != "ended":
-            ended[int(number)] = ("FAILED", f"{ended.get(int(number), ('', ''))[1]}\nrun={how}")
+            # (a limit may be the machine's, and says nothing of the row)
+            judged = "no answer" if how == "no-answer" else "FAILED"
+            ended[int(number)] = (judged, f"{ended.get(int(number), ('', ''))[1]}\nrun={how}")
     return ended
 
 
@@ -135,7 +137,10 @@ def tried(found, options):
     survived = []
     for number, change in enumerate(found, 1):
         how, message = ended.get(number, ("not run", ""))
-        if how != "FAILED":
+        if how == "no answer":
+            survived.append(change)
+            print(f"gave no answer within the limit of time: {change.name} ({change.row}): {change.sentence}")
+        elif how != "FAILED":
             survived.append(change)
             print(f"survives: {change.name} ({change.row}): {change.sentence}")
         elif change.case not in message:
