@@ -65,6 +65,16 @@ class Lines(unittest.TestCase):
         self.assertEqual((ran.returncode, ran.stderr), (0, ""))
         self.assertEqual(ran.stdout, race.format(" at=one.c:7", " at=/other/two words.c:12", " at=below/three.c:1") + rest)
 
+    @unittest.skipUnless(shutil.which("riscv64-unknown-elf-c++filt"), "needs binutils-riscv64-unknown-elf")
+    def test_names_of_other_languages_are_those_of_the_program(self):
+        self.write("riscv64-unknown-elf-addr2line", ANSWERS)
+        self.write("a.elf", "")
+        race = "race address=00018200 bytes=1 load thread=0 turn=1 pc=00010100{} store thread=1 turn=2 pc=0001010c"
+        race += " object={}+3 in={}+4 in={}+8\n"
+        names = ("_ZN4race5TABLE17h0123456789abcdefE", "_RNvCs1234_4race3add", "_ZNK4race1XIjE3addEiPKc")
+        ran = self.lines(race.format("", *names), "a.elf")
+        self.assertEqual(ran.stdout, race.format(" at=one.c:7", "race::TABLE", "race::add", "race::X<unsigned_int>::add"))
+
     def test_a_program_without_lines_is_told(self):
         self.write("riscv64-unknown-elf-addr2line", ANSWERS)
         self.write("a.elf", "")
