@@ -10,11 +10,34 @@ extern const char *dthreads_program_name;
 /* One line: the program, the message, and what the error means where there is one. */
 static void say(int code, const char *format, va_list arguments)
 {
-    char text[256];
-    text[0] = 0;
-    if (format)
-        vsnprintf(text, sizeof text, format, arguments);
-    fprintf(stderr, "%s: %s%s%s\n", dthreads_program_name, text, code && format ? ": " : "", code ? strerror(code) : "");
+    char *text = NULL;
+    if (format && vasprintf(&text, format, arguments) < 0)
+        text = NULL;
+    fprintf(stderr, "%s: %s%s%s\n", dthreads_program_name, text ? text : format ? format : "", code && format ? ": " : "",
+            code ? strerror(code) : "");
+    free(text);
+}
+
+void vwarn(const char *format, va_list arguments)
+{
+    say(errno, format, arguments);
+}
+
+void vwarnx(const char *format, va_list arguments)
+{
+    say(0, format, arguments);
+}
+
+void verr(int status, const char *format, va_list arguments)
+{
+    say(errno, format, arguments);
+    exit(status);
+}
+
+void verrx(int status, const char *format, va_list arguments)
+{
+    say(0, format, arguments);
+    exit(status);
 }
 
 #define SAY(code) \
