@@ -1,4 +1,4 @@
-"""The examples of the pages docs/C.md and docs/CLEAN-RUNS.md.
+"""The examples of the pages docs/C.md, docs/CLEAN-RUNS.md and, if guest/build-libgomp was done, docs/OPENMP.md.
 
 The commands are the lines of a page's blocks that begin with `$ `. They run in a folder of their own, as if at the top of the
 repository, which has a file of each block of C that begins with its name as a comment. DTHREADS names the program to run the guests with,
@@ -10,12 +10,14 @@ import subprocess
 import sys
 import tempfile
 
-from dt_commands import guest_runs
+from dt_commands import guest_runs, guest_tests
 from dt_commands.progress import Progress
 from dt_commands.repository import TOP
 from dt_commands.texts import first_difference
 
-PAGES = ("docs/C.md", "docs/CLEAN-RUNS.md")
+PAGES = ("docs/C.md", "docs/CLEAN-RUNS.md", "docs/OPENMP.md")
+# What a page's commands need besides.
+NEEDS = {"docs/OPENMP.md": ["-fopenmp"]}
 
 
 def shown_in(text):
@@ -66,5 +68,9 @@ def is_as_told(page):
 
 
 def test(options):
-    """Runs each command of the examples in docs/C.md and docs/CLEAN-RUNS.md, and compares what is printed with the lines below it."""
-    return 0 if all([is_as_told(it) for it in PAGES]) else 1
+    """Runs each command of the examples in the pages on C, and compares what is printed with the lines below it."""
+    lacking = {page: guest_tests.lacking(NEEDS.get(page, [])) for page in PAGES}
+    for page, what in lacking.items():
+        if what:
+            print(f"{page}: left out, {what} wasn't done")
+    return 0 if all([is_as_told(it) for it in PAGES if not lacking[it]]) else 1

@@ -1,7 +1,7 @@
 """The tests of the C library: the programs of guest/tests.
 
 A word `--argument=TEXT` of a line of guest/tests/list is one of dthreads-cc, all others are of `run`. A program marked `--c++` is left
-out if guest/build-libstdcxx was not done. The programs of guest/tests/refused must not build. DTHREADS names the program to run the
+out if guest/build-libstdcxx was not done, one marked `-fopenmp` if guest/build-libgomp was not. The programs of guest/tests/refused must not build. DTHREADS names the program to run the
 others with, or else ./dthreads.
 """
 import glob
@@ -17,6 +17,11 @@ FOLDER = f"{guest_runs.KIT}/tests"
 REFUSED = ["-march=rv32imac", "-mabi=ilp32f", "-shared", "-flto"]
 # The test of dthreads-exec, which is on no list.
 EXEC = "exec"
+# The marks of programs that need a library of the compiler: the command that builds it, the variable that names its folder, its file.
+MARKS = {
+    "--c++": ("build-libstdcxx", "DTHREADS_LIBSTDCXX", "libstdcxx/lib/libstdc++.a"),
+    "-fopenmp": ("build-libgomp", "DTHREADS_LIBGOMP", "libgomp/lib/libgomp.a"),
+}
 
 
 def arguments(parser):
@@ -29,24 +34,42 @@ def source_of(name):
     return next(it for it in (f"{name}.c", f"{name}.cc") if os.path.exists(f"{FOLDER}/{it}"))
 
 
+def is_built(mark):
+    """Says whether the library that a mark stands for is there."""
+    _, variable, file = MARKS[mark]
+    return os.path.exists(f"{os.environ.get(variable) or f'{guest_runs.KIT}/out'}/{file}")
+
+
+def lacking(words):
+    """Returns what must be done before a program with these words can be built, or None."""
+    return next((f"guest/{MARKS[it][0]}" for it in words if it in MARKS and not is_built(it)), None)
+
+
 def has_cxx():
-    folder = os.environ.get("DTHREADS_LIBSTDCXX") or f"{guest_runs.KIT}/out"
-    return os.path.exists(f"{folder}/libstdcxx/lib/libstdc++.a")
+    return is_built("--c++")
+
+
+def of_compiler(words):
+    """Returns the words of a line that are of dthreads-cc."""
+    return [it for it in words if it.startswith("--argument=") or it in MARKS]
+
+
+def of_run(words):
+    """Returns the words of a line that are of `run`."""
+    return [part for it in words if it not in of_compiler(words) for part in it.split("=", 1)]
 
 
 def test_program(tally, room, name, status, *words):
     """Builds and runs a program of the list."""
-    if "--c++" in words and not has_cxx():
-        print(f"{name}: left out, guest/build-libstdcxx wasn't done")
+    if lacking(words):
+        print(f"{name}: left out, {lacking(words)} wasn't done")
         return
-    of_compiler = [it for it in words if it.startswith("--argument=")]
-    of_run = [part for it in words if it not in of_compiler and it != "--c++" for part in it.split("=", 1)]
     elf, given = f"{room}/{name}.elf", f"{FOLDER}/{name}.in"
-    said = guest_runs.compiled(["-O2", *of_compiler, source_of(name)], elf, FOLDER)
+    said = guest_runs.compiled(["-O2", *of_compiler(words), source_of(name)], elf, FOLDER)
     if said is not None:
         tally.fail(f"{said}{name}: doesn't build")
         return
-    guest = guest_runs.Guest([guest_runs.program(), "run", elf], of_run, given if os.path.exists(given) else None)
+    guest = guest_runs.Guest([guest_runs.program(), "run", elf], of_run(words), given if os.path.exists(given) else None)
     guest_runs.agree(tally, name, guest, room, contents(f"{FOLDER}/{name}.out"), int(status))
 
 

@@ -35,12 +35,12 @@ PARTS = [
     Part("table of functions", ["check", "c-functions"], 1, ["docs/C-FUNCTIONS.md"]),
     Part("samples", ["test", "c-samples"], 1, []),
     Part("builds of others", ["test", "builds"], 1, []),
-    Part("page", ["test", "c-page"], 1, ["docs/C.md"]),
+    Part("page", ["test", "c-page"], 1, ["docs/C.md", "docs/CLEAN-RUNS.md", "docs/OPENMP.md"]),
     Part("manual pages", ["test", "manual"], 1, ["guest/tests/manual"]),
 ]
 # The commands that build and debug guests; and what the environment says of them.
 TOOLS = [f"riscv64-unknown-elf-{it}" for it in ("gcc", "g++", "as", "ld", "ar", "nm", "strip", "objdump", "readelf")]
-SETTINGS = ["DTHREADS_LIBSTDCXX", "MANUAL"]
+SETTINGS = ["DTHREADS_LIBSTDCXX", "DTHREADS_LIBGOMP", "MANUAL"]
 
 
 def arguments(parser):
@@ -70,7 +70,7 @@ def machine():
     with open(guest_runs.program(), "rb") as it:
         yield hashlib.sha256(it.read()).hexdigest()
     marks = [it if it.startswith("/") else shutil.which(it) for it in packages.NEEDED.values()]
-    yield from map(state_of, [*marks, *map(shutil.which, TOOLS), f"{guest_runs.KIT}/out/libstdcxx/stamp"])
+    yield from map(state_of, [*marks, *map(shutil.which, TOOLS), *(f"{guest_runs.KIT}/out/{it}/stamp" for it in ("libstdcxx", "libgomp"))])
     yield from [sys.version, *(f"{it}={os.environ.get(it)}" for it in SETTINGS)]
     words = ["dpkg-query", "-W", *packages.NEEDED]
     yield subprocess.run(words, stdout=subprocess.PIPE, stderr=subprocess.DEVNULL, text=True).stdout if shutil.which("dpkg-query") else ""

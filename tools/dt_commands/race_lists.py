@@ -39,15 +39,16 @@ CASES = {
     "text_beside": [],
     "text_changed": ["texts: load end_from, store two"],
 }
-# The programs with a race: the sample of one, and the tests of loops on plain flags.
+# The programs with a race: the samples of one, and the tests of loops on plain flags.
 RACY = {
+    "openmp_race": ["total: store main._omp_fn.0, load main._omp_fn.0", "total: store main._omp_fn.0, store main._omp_fn.0"],
     "race": ["counter: store add, load add", "counter: store add, store add"],
     "spins": ["flag: load main, store sets"],
     "sleepers": ["slept: store sleeps, load deadlines", "stop: load computes, store main"],
 }
 LINE = re.compile(
     r"race address=[0-9a-f]{8} bytes=\d (load|store) thread=\d+ turn=\d+ pc=[0-9a-f]{8} (load|store) thread=\d+ turn=\d+ pc=[0-9a-f]{8}"
-    r" object=(\w+)\+\d+ in=(\w+)\+\d+ in=(\w+)\+\d+")
+    r" object=(\w+)\+\d+ in=([\w.]+)\+\d+ in=([\w.]+)\+\d+")
 
 
 def shown(text):
@@ -90,13 +91,11 @@ def test_case(tally, room, name, wanted):
 def test_right(tally, room, name, words, source, folder, given):
     """Tries a program, whose list must be empty but for those of RACY."""
     elf = f"{room}/{name}.elf"
-    of_compiler = [it for it in words if it.startswith("--argument=")]
-    of_run = [part for it in words if it not in of_compiler and it != "--c++" for part in it.split("=", 1)]
-    said = guest_runs.compiled(["-O2", "-g", *of_compiler, source], elf, folder)
+    said = guest_runs.compiled(["-O2", "-g", *guest_tests.of_compiler(words), source], elf, folder)
     if said is not None:
         tally.fail(f"{name}: doesn't build: {said}")
         return
-    found = shown(list_of(elf, of_run, given))
+    found = shown(list_of(elf, guest_tests.of_run(words), given))
     if found != RACY.get(name, []):
         tally.fail(f"{name}: {found[:5]}")
 
@@ -104,7 +103,7 @@ def test_right(tally, room, name, words, source, folder, given):
 def programs():
     """Yields the programs of the kit's tests and the samples: name, words, source, its folder, and input."""
     for name, _, *words in rows_of(f"{guest_tests.FOLDER}/list"):
-        if "--c++" not in words or guest_tests.has_cxx():
+        if not guest_tests.lacking(words):
             given = f"{guest_tests.FOLDER}/{name}.in"
             yield name, words, guest_tests.source_of(name), guest_tests.FOLDER, given if os.path.exists(given) else None
     for it in c_samples.samples():

@@ -172,11 +172,10 @@ def in_c(is_brief):
         print("guest/tests: left out, there is no compiler of guest programs")
         return
     for name, _, *words in rows_of(f"{guest_tests.FOLDER}/list"):
-        if "--c++" in words and not guest_tests.has_cxx():
+        if guest_tests.lacking(words):
             continue
-        of_compiler = [it for it in words if it.startswith("--argument=")]
-        of_run = [part for it in words if it not in of_compiler and it != "--c++" for part in it.split("=", 1)]
-        made = lambda file, name=name, words=of_compiler: guest_runs.compiled(
+        of_run = guest_tests.of_run(words)
+        made = lambda file, name=name, words=guest_tests.of_compiler(words): guest_runs.compiled(
             ["-O2", *words, guest_tests.source_of(name)], file, guest_tests.FOLDER)
         quanta = (None,) if "--quantum" in of_run else QUANTA["c"]
         yield Guest(f"tests/{name}", made, of_run, contents(f"{guest_tests.FOLDER}/{name}.in") or b"", quanta, None)

@@ -1,0 +1,2 @@
+/* The sample of OpenMP that is right. */
+#include "../../samples/openmp/primes.c"

@@ -1,0 +1,2 @@
+/* The sample of OpenMP with a race. */
+#include "../../samples/openmp/race.c"
