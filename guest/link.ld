@@ -38,9 +38,10 @@ SECTIONS
         __fini_array_end = .;
     } :constants
 
-    /* That the kit's library started the program, for guest/dthreads-exec. */
+    /* That the kit's library started the program, and where its clock is, for guest/dthreads-exec. */
     .note.dthreads : {
-        KEEP(*(.note.dthreads))
+        KEEP(*(.note.dthreads .note.dthreads.*))
+        *(.dthreads.clock)
     } :constants :note
 
     /* A thread's block keeps the template's place modulo the greater alignment of both parts. */

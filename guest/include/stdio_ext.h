@@ -16,6 +16,10 @@ enum { FSETLOCKING_QUERY, FSETLOCKING_INTERNAL, FSETLOCKING_BYCALLER };
 size_t __fbufsize(FILE *);
 size_t __fpending(FILE *);
 int __freading(FILE *);
+/* As of musl. */
+size_t __freadahead(FILE *);
+const char *__freadptr(FILE *, size_t *);
+void __freadptrinc(FILE *, size_t);
 int __fwriting(FILE *);
 int __freadable(FILE *);
 int __fwritable(FILE *);

@@ -124,11 +124,28 @@ static char *receive(uint32_t length)
     return bytes;
 }
 
+/* Tells guest/dthreads-exec that this library finds files in the image. */
+__attribute__((section(".note.dthreads.files"), used)) static const struct {
+    uint32_t name_bytes, bytes, type;
+    char name[12];
+    uint32_t version;
+} note = {sizeof "dthreads", 4, 3, "dthreads", 1};
+
+/* A file whose bytes are in the image: its record has their address and how many they are. */
+static void add_mapped(const char *path)
+{
+    uint32_t place[2];
+    packed_bytes((char *)place, sizeof place);
+    files_add(path, (const char *)(uintptr_t)place[0], place[1]);
+}
+
 void files_receive(bool is_file, uint32_t name, uint32_t bytes)
 {
     char *path = receive(name);
     if (is_file)
         files_add(path, receive(bytes), bytes);
+    else if (bytes > 0)
+        add_mapped(path);
     else
         want(path);
 }

@@ -5,7 +5,7 @@ bool deadline_of(clockid_t clock, const struct timespec *time, uint64_t *deadlin
 {
     if (time->tv_nsec < 0 || time->tv_nsec >= (long)SECOND || (clock != CLOCK_REALTIME && clock != CLOCK_MONOTONIC))
         return false;
-    int64_t seconds = time->tv_sec - (clock == CLOCK_REALTIME ? DTHREADS_EPOCH : 0);
+    int64_t seconds = time->tv_sec - (clock == CLOCK_REALTIME ? dthreads_epoch : 0);
     if (seconds >= (int64_t)(NEVER / SECOND))
         *deadline = NEVER;
     else

@@ -195,6 +195,8 @@ void monitor_one_less(void);
 /* A thread that has ended gets something to run. */
 void monitor_rouse(struct dthreads_thread *thread);
 
+/* The clock of the day at the run's start, in seconds since 1970. */
+extern const int64_t dthreads_epoch;
 /* The clock, which the reading moves on. */
 uint64_t read_clock(void);
 /* Deadlines as the clock counts them, from times of a clock of time.h; false for times that are none. */

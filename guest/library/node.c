@@ -4,7 +4,7 @@
 
 struct timespec file_time(void)
 {
-    return (struct timespec){.tv_sec = (time_t)(monitor.clock / SECOND) + DTHREADS_EPOCH, .tv_nsec = (long)(monitor.clock % SECOND)};
+    return (struct timespec){.tv_sec = (time_t)(monitor.clock / SECOND) + dthreads_epoch, .tv_nsec = (long)(monitor.clock % SECOND)};
 }
 
 struct node *node_make(enum kind kind, mode_t mode)

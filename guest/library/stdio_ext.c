@@ -26,6 +26,34 @@ size_t __fpending(FILE *file)
     return stream.is_writing ? stream.place : 0;
 }
 
+/* How many bytes were read from the descriptor and not yet by the program. */
+size_t __freadahead(FILE *file)
+{
+    struct stream stream = looked_at(file);
+    return stream.is_writing ? 0 : stream.length - stream.place + (file->unget != 0);
+}
+
+/* These bytes, or NULL if there are none; a character that was pushed back isn't among them, so it must be read first. */
+const char *__freadptr(FILE *file, size_t *length)
+{
+    struct stream stream = looked_at(file);
+    if (stream.is_writing || stream.place == stream.length || file->unget)
+        return NULL;
+    *length = stream.length - stream.place;
+    return stream.buffer + stream.place;
+}
+
+/* Skips some of them. */
+void __freadptrinc(FILE *file, size_t count)
+{
+    struct stream *stream = stream_of(file);
+    if (stream) {
+        stream_enter(stream);
+        stream->place += count;
+        stream_leave(stream);
+    }
+}
+
 /* Reading alone, or last. */
 int __freading(FILE *file)
 {

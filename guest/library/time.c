@@ -23,7 +23,7 @@ int clock_gettime(clockid_t clock, struct timespec *time)
     }
     *time = timespec_of(read_clock());
     if (clock == CLOCK_REALTIME)
-        time->tv_sec += DTHREADS_EPOCH;
+        time->tv_sec += dthreads_epoch;
     return 0;
 }
 
@@ -45,7 +45,7 @@ int timespec_get(struct timespec *time, int base)
 
 time_t time(time_t *place)
 {
-    time_t now = (time_t)(read_clock() / SECOND) + DTHREADS_EPOCH;
+    time_t now = (time_t)(read_clock() / SECOND) + dthreads_epoch;
     if (place)
         *place = now;
     return now;

@@ -73,6 +73,11 @@ static void test_stream_state(void)
     assert(__fpending(file) == 13 && __fbufsize(file) >= 13);
     rewind(file);
     assert(getc_unlocked(file) == 't' && __freading(file) && !__fwriting(file));
+    size_t length;
+    assert(__freadahead(file) == 12 && memcmp(__freadptr(file, &length), "welve", 5) == 0 && length == 12);
+    __freadptrinc(file, 6);
+    assert(getc(file) == 'b' && __freadahead(file) == 5);
+    assert(ungetc('?', file) == '?' && __freadahead(file) == 6 && !__freadptr(file, &length));
     __fpurge(file);
     assert(!ferror_unlocked(file));
     __fseterr(file);

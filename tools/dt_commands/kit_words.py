@@ -1,11 +1,16 @@
 """The words of dthreads-cc, as builds of other programs give them: each case is a command with what it must print or give."""
 import os
+import re
 import subprocess
 import tempfile
 
 from dt_commands import guest_runs
 from dt_commands.progress import Progress
 
+# Instructions that take less than a tenth of a second.
+SOON = 5000000
+# Bytes of a file that is larger than the input may be.
+LARGE = 40 << 20
 MAIN = "int main(void) { return 7; }\n"
 FORKS = '#include <unistd.h>\nint main(int count, char **words) { return count > 1 && (fork() || fork() || execv(words[1], words)); }\n'
 VISIBLE = """#if !defined _GNU_SOURCE || __GCC_ATOMIC_INT_LOCK_FREE != 2
@@ -28,6 +33,38 @@ int main(void)
     return pthread_join(thread, 0);
 }
 """
+DAY = """#include <stdio.h>
+#include <time.h>
+int main(void) { time_t now = time(NULL); return printf("%s", asctime(gmtime(&now))) < 0; }
+"""
+WHOLE = """#include <stdio.h>
+int main(void)
+{
+    static unsigned char bytes[65536];
+    unsigned long size = 0, sum = 0;
+    FILE *file = fopen("/data/large", "rb");
+    for (size_t count; (count = fread(bytes, 1, sizeof bytes, file)) > 0; size += count)
+        sum = sum * 31 + bytes[count - 1];
+    file = fopen("/data/small", "r+");
+    fputs("SMALL", file);
+    rewind(file);
+    return printf("%lu %lu %s", size, sum, fgets((char *)bytes, 100, file)) < 0;
+}
+"""
+FULL = """#include <errno.h>
+#include <stdio.h>
+#include <string.h>
+#include <unistd.h>
+int main(void)
+{
+    static char bytes[60000];
+    int count = 0;
+    while (write(1, bytes, sizeof bytes) == sizeof bytes)
+        count++;
+    fprintf(stderr, "%d, %s\\n", count, strerror(errno));
+    return 5;
+}
+"""
 LOCAL = "static __thread int local = 6;\nint main(void) { return ++local; }\n"
 
 
@@ -39,6 +76,23 @@ def call(words, room):
 def written(room, name, text):
     with open(f"{room}/{name}", "w", encoding="utf-8") as it:
         it.write(text)
+
+
+def started(command, room, name, *words):
+    """Runs a program by a command of the kit."""
+    how = {"stdin": subprocess.DEVNULL, "stdout": subprocess.PIPE, "stderr": subprocess.PIPE, "text": True, "check": False}
+    environment = {**os.environ, "DTHREADS": guest_runs.program()}
+    return subprocess.run([f"{guest_runs.KIT}/{command}", f"{room}/{name}.elf", *words], env=environment, **how)
+
+
+def executed(room, name, *words):
+    return started("dthreads-exec", room, name, *words)
+
+
+def with_workers(room, name, *words):
+    """Returns what dthreads-exec gives with 1, 4 and 64 workers: each different status and pair of texts once."""
+    runs = [executed(room, name, "--workers", str(it), *words) for it in (1, 4, 64)]
+    return {(it.returncode, it.stdout, it.stderr) for it in runs}
 
 
 def status(room, *words):
@@ -85,19 +139,60 @@ def models(room):
     return [status(room, f"-ftls-model={it}", "-fPIC", "local.c") for it in every], [7] * 4
 
 
+def instructions(trace):
+    with open(trace, encoding="utf-8") as lines:
+        return sum(int(it) for it in re.findall(r"ran=(\d+)", lines.read()))
+
+
 def quantum(room):
-    """dthreads-exec has a quantum, so that a sleep ends beside a thread that computes, or none, and says what a used-up bound is."""
+    """dthreads-exec has a quantum, so that a sleep ends soon beside a thread that computes, or none, and says what a used-up bound is."""
     written(room, "beside.c", BESIDE)
     call(["-O2", "beside.c", "-o", "beside.elf"], room)
-    ways = [["--bound", "100000000"], ["--bound", "100000000", "--quantum", "100000"], ["--bound", "3000000", "--quantum", "none"]]
-    command = [f"{guest_runs.KIT}/dthreads-exec", f"{room}/beside.elf"]
-    how = {"stdin": subprocess.DEVNULL, "stderr": subprocess.PIPE, "text": True, "env": {**os.environ, "DTHREADS": guest_runs.program()}}
-    runs = [subprocess.run([*command, *it], check=False, **how) for it in ways]
+    ways = [["--trace", f"{room}/trace"], ["--bound", "100000000", "--quantum", "100000"], ["--bound", "3000000", "--quantum", "none"]]
+    runs = [executed(room, "beside", *it) for it in ways]
     said = runs[-1].stderr.partition("dthreads-exec: ")[2]
-    return ([it.returncode for it in runs], "--bound" in said and "--quantum" in said), ([0, 0, 120], True)
+    is_soon = instructions(f"{room}/trace") < SOON
+    return ([it.returncode for it in runs], is_soon, "--bound" in said and "--quantum" in said), ([0, 0, 120], True, True)
 
 
-CASES = [preprocessed, main_in_archive, warns_once, visible, models, quantum]
+def clock(room):
+    """The clock of the day begins when the link, dthreads-exec or dthreads-gdb says."""
+    written(room, "day.c", DAY)
+    call(["-O2", "day.c", "-o", "day.elf"], room)
+    call(["-O2", "--clock=2026-11-30", "day.c", "-o", "linked.elf"], room)
+    runs = [with_workers(room, "day"), with_workers(room, "day", "--clock", "2026-11-30T17:45:09Z"), with_workers(room, "linked"),
+            with_workers(room, "linked", "--clock=1970-01-01T00:01")]
+    days = ["Sat Jan  1 00:00:00 2000", "Mon Nov 30 17:45:09 2026", "Mon Nov 30 00:00:00 2026", "Thu Jan  1 00:01:00 1970"]
+    debugged = started("dthreads-gdb", room, "day", "--clock", "2026-11-30", "--", "-batch", "-ex", "continue").stderr
+    refused = [executed(room, "day", "--clock", it).returncode for it in ("2026-02-29", "1969-12-31", "now")]
+    refused += [call([f"--clock={it}", "day.c", "-o", "other.elf"], room).returncode for it in ("2026-02-29", "1969-12-31", "now")]
+    return (runs, days[2] in debugged, refused), ([{(0, f"{it}\n", "")} for it in days], True, [2] * 3 + [1] * 3)
+
+
+def files(room):
+    """Files of dthreads-exec may be larger than the input, and may be written."""
+    written(room, "whole.c", WHOLE)
+    call(["-O2", "whole.c", "-o", "whole.elf"], room)
+    total = 0
+    with open(f"{room}/large", "wb") as file:
+        for number in range(LARGE // 65536):
+            file.write(bytes([number % 251]) * 65536)
+            total = (total * 31 + number % 251) % 2 ** 32
+    written(room, "small", "small, and more\n")
+    words = ["--file", f"/data/large={room}/large", "--file", f"/data/small={room}/small"]
+    found, more = with_workers(room, "whole", *words), executed(room, "whole", *words, "--file", f"/data/more={room}/large")
+    return (found, more.returncode, "has room for" in more.stderr), ({(0, f"{LARGE} {total} SMALL, and more\n", "")}, 2, True)
+
+
+def full(room):
+    """At the output's end dthreads-exec says so, and keeps texts apart."""
+    written(room, "full.c", FULL)
+    call(["-O2", "full.c", "-o", "full.elf"], room)
+    said = "279, No space left on device\ndthreads-exec: the output's limit of 16,777,216 bytes was reached: writes beyond it fail with ENOSPC\n"
+    return with_workers(room, "full"), {(5, "\0" * 60000 * 279, said)}
+
+
+CASES = [preprocessed, main_in_archive, warns_once, visible, models, quantum, clock, files, full]
 
 
 def test(_):
