@@ -51,10 +51,7 @@ def built(room):
     every = samples()
     with Progress("samples built", len(every)) as progress:
         for sample in progress.each(every, lambda it: it.name):
-            said = guest_runs.compiled(["-O2", "-s", f"{FOLDER}/{sample.name}.c"], f"{room}/{sample.name}.elf")
-            if said is not None:
-                raise SystemExit(f"{sample.name}: doesn't build:\n{said}")
-            yield sample, f"{room}/{sample.name}.elf"
+            yield sample, guest_runs.built(["-O2", "-s", f"{FOLDER}/{sample.name}.c"], f"{room}/{sample.name}.elf")
 
 
 def check(options):

@@ -29,6 +29,14 @@ def compiled(words, out, folder=None):
     return ran.stdout if ran.returncode else None
 
 
+def built(words, out, folder=None):
+    """Builds a guest program, which must build, and returns its file."""
+    said = compiled(words, out, folder)
+    if said is not None:
+        raise SystemExit(f"{os.path.basename(out)}: doesn't build:\n{said}")
+    return out
+
+
 def memory_of(process):
     """Returns how many KiB a process had at most so far, 0 if it has ended."""
     with open(f"/proc/{process.pid}/status", encoding="utf-8") as it:

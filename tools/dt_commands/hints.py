@@ -13,7 +13,7 @@ import tempfile
 from collections import namedtuple
 
 from dt_commands import guest_runs, guest_tests
-from dt_commands.measure_debugger import Debugged
+from dt_commands.gdb_packets import Debugged
 from dt_commands.progress import Progress
 from dt_commands.texts import contents, first_difference
 
@@ -65,10 +65,8 @@ class Traced(Debugged):
     """A program in the debugger, with a breakpoint at each of its hints."""
 
     def __init__(self, program, given):
-        words = [guest_runs.program(), "debug", program.elf, *(["--input", given] if given else [])]
-        self.process = subprocess.Popen(words, stdin=subprocess.PIPE, stdout=subprocess.PIPE, bufsize=0)
-        self.heard, self.program = b"", program
-        self.ask("QStartNoAckMode")
+        super().__init__(program.elf, *(["--input", given] if given else []))
+        self.program = program
         self.ask("qSupported:swbreak+")
         for at in program.hints:
             self.ask(f"Z0,{at:x},4")
@@ -77,17 +75,15 @@ class Traced(Debugged):
         """Yields the hints in the order in which the run executes them."""
         said = self.ask("vCont;c")
         while said.startswith("T05") and "replaylog" not in said:
-            pc = int.from_bytes(bytes.fromhex(re.search(r";20:([0-9a-f]{8})", said)[1]), "little")
-            if pc in self.program.hints:
-                yield self.hint(int(re.search(r"thread:([0-9a-f]+)", said)[1], 16) - 1, pc)
+            if self.pc_in(said) in self.program.hints:
+                yield self.hint(int(re.search(r"thread:([0-9a-f]+)", said)[1], 16) - 1, self.pc_in(said))
             # (a breakpoint at the place itself would stop the run again)
             said = self.ask("vCont;s")
-            if said.startswith("T05") and "replaylog" not in said and not self.stops_at_hint(said):
+            if said.startswith("T05") and "replaylog" not in said and self.pc_in(said) not in self.program.hints:
                 said = self.ask("vCont;c")
 
-    def stops_at_hint(self, said):
-        pc = int.from_bytes(bytes.fromhex(re.search(r";20:([0-9a-f]{8})", said)[1]), "little")
-        return pc in self.program.hints
+    def pc_in(self, said):
+        return int.from_bytes(bytes.fromhex(re.search(r";20:([0-9a-f]{8})", said)[1]), "little")
 
     def hint(self, thread, pc):
         word, registers = self.program.hints[pc], bytes.fromhex(self.ask("g"))
@@ -97,11 +93,8 @@ class Traced(Debugged):
 
 def traced(program, given=None):
     """Returns the hints that a run of the program executes."""
-    debugged = Traced(program, given)
-    try:
+    with Traced(program, given) as debugged:
         return list(debugged.hints())
-    finally:
-        debugged.end()
 
 
 def unbalanced(hints):
@@ -172,11 +165,7 @@ class Rows:
 
 
 def built(name, room):
-    elf = f"{room}/{name}.elf"
-    said = guest_runs.compiled(["-O2", "-w", guest_tests.source_of(name)], elf, guest_tests.FOLDER)
-    if said is not None:
-        raise SystemExit(f"{said}{name}: doesn't build")
-    return Program(elf)
+    return Program(guest_runs.built(["-O2", "-w", guest_tests.source_of(name)], f"{room}/{name}.elf", guest_tests.FOLDER))
 
 
 def rows(room):

@@ -1,76 +1,43 @@
 """Measures the samples in C.
 
 It prints a row of a table in Markdown for each. `small` are the samples as they are, measured from trace and report, which are the same on
-each machine. `large` are most of them built anew with more work, and without the part in which one thread works the result out again.
-`times` says how long the large ones take with 1, 2 and 4 workers, and four processes with 1 worker each side by side, which is what the
-machine gives at best: as ratios of the least times of some rounds. The last column is four processes' time over four times that of 4 workers, by
-medians. DTHREADS names the program to run them with, or else ./dthreads.
+each machine. All else measures large ones: most of them are built anew with more work, and without the part in which one thread works
+the result out again. `large` is their trace and report. `times` says how long they take with 1, 2 and 4 workers, and four processes with 1
+worker each side by side, which is what the machine gives at best: as ratios of the least times of some rounds. Its last column is four
+processes' time over four times that of 4 workers, by medians. `races` says how long a run with one worker takes, how many times the
+processor time of that a run with `--races` takes, and the most memory that each has. `detectors` compares detectors of races for programs of
+this machine: each sample is built for it by gcc with -O2, -g and -pthread, and run as it is, with ThreadSanitizer, and under
+valgrind's helgrind and drd: how many times the processor time that takes, and how many different reports it gives; then the same of
+`--races`. DTHREADS names the program to run them with, or else ./dthreads.
 """
+import os
 import re
 import statistics
 import subprocess
-import tempfile
-import time
 
-from dt_commands import c_samples, guest_runs
-from dt_commands.progress import Progress
+from dt_commands import c_samples
+from dt_commands.measuring import LARGER, Prepared, least, running, seconds_of, table, taken
+from dt_commands.texts import contents
 
-BOUND = "100000000000"
-# What makes a sample larger.
-LARGER = {
-    "histogram": ["-DPIXELS=400000"],
-    "kmeans": ["-DPOINTS=20000"],
-    "linear_regression": ["-DPOINTS=1000000"],
-    "matrix_multiply": ["-DSIZE=200"],
-    "principal_components": ["-DROWS=120", "-DCOLUMNS=300"],
-    "reverse_index": ["-DLINES=4800"],
-    "stencil": ["-DSIZE=240", "-DSTEPS=40"],
-    "string_match": ["-DINPUT=1000000"],
-    "word_count": ["-DINPUT=1000000"],
+DETECTORS = ["ThreadSanitizer", "helgrind", "drd"]
+COLUMNS = {
+    "small": ["Million instructions", "Turns", "Phases", "Changed pages", "Changes of pages", "Shared", "Clashes", "Side by side"],
+    "times": ["Milliseconds with 1 worker", "Rate with 2", "Rate with 4", "Four processes", "Rate with 4 over that of four processes"],
+    "races": ["Milliseconds without the list", "Times with it", "MiB without it", "MiB with it"],
+    "detectors": ["Milliseconds natively", *(f"{how} {it}" for it in DETECTORS for how in ("times with", "reports of")),
+                  "Milliseconds of `dthreads run`", "times with `--races`", "races"],
 }
-# How often a large sample's input has the text of the small one's.
-REPEATED = 300
-COUNTS = ["Sample", "Million instructions", "Turns", "Phases", "Changed pages", "Changes of pages", "Shared", "Clashes", "Side by side"]
-TIMES = ["Sample", "Milliseconds with 1 worker", "Rate with 2", "Rate with 4", "Four processes", "Rate with 4 over that of four processes"]
+# How many rounds there are by default.
+ROUNDS = {"times": 20, "races": 5, "detectors": 3}
 # What is timed: with how many workers, and how many processes side by side.
 TIMED = [(1, 1), (2, 1), (4, 1), (1, 4)]
+CONTEXTS = re.compile(r"ERROR SUMMARY: \d+ errors from (\d+) contexts")
+LEFT_OUT = re.compile(rb"^left out=(\d+)$", re.M)
 
 
 def arguments(parser):
-    parser.add_argument("what", nargs="?", choices=["small", "large", "times"], default="small")
-    parser.add_argument("rounds", nargs="?", type=int, default=20, metavar="ROUNDS", help="how many rounds of times (default: 20)")
-
-
-class Prepared:
-    """A sample's program and its input, as bytes."""
-
-    def __init__(self, sample, is_large, room):
-        self.name, self.program, self.given, self.room = sample.name, sample.program, b"", room
-        if sample.given:
-            with open(sample.given, "rb") as it:
-                self.given = it.read()
-        if is_large and sample.name in LARGER:
-            self.program, self.given = f"{room}/program.elf", self.given * REPEATED
-            words = ["-O2", "-s", "-DCHECK=0", *LARGER[sample.name], f"{c_samples.FOLDER}/{sample.name}.c"]
-            said = guest_runs.compiled(words, self.program)
-            if said is not None:
-                raise SystemExit(f"{sample.name}: doesn't build:\n{said}")
-        with open(f"{room}/input", "wb") as it:
-            it.write(self.given)
-
-    def start(self, *words):
-        command = [guest_runs.program(), "run", self.program, "--bound", BOUND, *words]
-        with open(f"{self.room}/input", "rb") as it:
-            return subprocess.Popen(command, stdin=it, stdout=subprocess.DEVNULL)
-
-    def run(self, *words):
-        self.start(*words).wait()
-
-    def seconds(self, workers, processes=1):
-        begun = time.perf_counter()
-        for started in [self.start("--workers", str(workers)) for _ in range(processes)]:
-            started.wait()
-        return time.perf_counter() - begun
+    parser.add_argument("what", nargs="?", choices=["small", "large", *ROUNDS], default="small")
+    parser.add_argument("rounds", nargs="?", type=int, metavar="ROUNDS", help="how many rounds (default: 20 of times, 5 of races, 3 of detectors)")
 
 
 class Trace:
@@ -95,33 +62,74 @@ class Trace:
         self.path += longest
 
 
-def counted(prepared, rounds):
+def counted(prepared, room, _):
     """Returns the cells of a sample's counts, from its trace and its report."""
-    trace, report = f"{prepared.room}/trace", f"{prepared.room}/report"
-    prepared.run("--trace", trace, "--report", report)
+    trace, report = f"{room}/trace", f"{room}/report"
+    seconds_of(running(prepared.program, "--trace", trace, "--report", report), given=prepared.given)
     told = Trace(trace)
-    with open(report, encoding="utf-8") as lines:
-        pages = [dict(word.split("=") for word in line.split()) for line in lines]
+    pages = [dict(word.split("=") for word in line.split()) for line in contents(report).decode().splitlines()]
     sums = [sum(int(it[name]) for it in pages) for name in ("turns", "shared", "clashes")]
     return [f"{told.instructions / 1e6:.1f}", told.turns, told.phases, len(pages), *sums, f"{told.instructions / told.path:.1f}"]
 
 
-def timed(prepared, rounds):
+def timed(prepared, _, rounds):
     """Returns the cells of a sample's times."""
-    times = [[prepared.seconds(*it) for it in TIMED] for _ in range(rounds)]
+    command = lambda workers: running(prepared.program, "--workers", str(workers))
+    times = [[seconds_of(*[command(workers)] * count, given=prepared.given) for workers, count in TIMED] for _ in range(rounds)]
     one, two, four, apart = map(min, zip(*times))
     _, _, middle, middle_apart = map(statistics.median, zip(*times))
     rates = [one / two, one / four, 4 * one / apart, middle_apart / (4 * middle)]
     return [f"{1000 * one:.0f}", *(f"{it:.2f}" for it in rates)]
 
 
+def with_list(prepared, races, rounds):
+    """Returns the processor seconds and the MiB of a run with one worker, and those of one that writes a list of races."""
+    command = running(prepared.program, "--workers", "1")
+    return [least(rounds, lambda more=more: taken([*command, *more], prepared.given)[:2]) for more in ([], ["--races", races])]
+
+
+def listed(prepared, _, rounds):
+    """Returns the cells of a sample's runs without and with a list of races."""
+    (plain, memory), (told, of_list) = with_list(prepared, os.devnull, rounds)
+    return [f"{1000 * plain:.0f}", f"{told / plain:.1f}", f"{memory:.0f}", f"{of_list:.0f}"]
+
+
+def native(name, room, *more):
+    """Builds a sample for this machine, and returns its program."""
+    program, larger = f"{room}/native{''.join(more)}", ["-DCHECK=0", *LARGER[name]] if name in LARGER else []
+    words = ["gcc", "-O2", "-g", "-pthread", *more, *larger, f"{c_samples.FOLDER}/{name}.c", "-o", program, "-lm"]
+    subprocess.run(words, check=True)
+    return program
+
+
+def reports_in(said):
+    """Returns how many different reports a detector gave."""
+    found = CONTEXTS.search(said)
+    return int(found[1]) if found else said.count("WARNING: ThreadSanitizer")
+
+
+def detected(prepared, room, rounds):
+    """Returns the cells of a sample's runs on this machine, and as a guest."""
+    plain, checked = native(prepared.name, room), native(prepared.name, room, "-fsanitize=thread")
+    seconds = least(rounds, lambda: taken([plain], prepared.given)[:1])[0]
+    cells = [f"{1000 * seconds:.0f}"]
+    for command in ([checked], *(["valgrind", f"--tool={it}", plain] for it in DETECTORS[1:])):
+        took = least(rounds, lambda command=command: taken(command, prepared.given)[:1])[0]
+        cells += [f"{took / seconds:.0f}" if seconds else "-", reports_in(taken(command, prepared.given)[2])]
+    (alone, _), (told, _) = with_list(prepared, f"{room}/races", rounds)
+    races = contents(f"{room}/races")
+    count = races.count(b"race ") + sum(map(int, LEFT_OUT.findall(races)))
+    return [*cells, f"{1000 * alone:.0f}", f"{told / alone:.1f}", count]
+
+
+CELLS = {"small": counted, "large": counted, "times": timed, "races": listed, "detectors": detected}
+
+
 def measure(options):
-    """Measures the samples in C: what they execute, or how long they take with several workers."""
-    columns, cells = (TIMES, timed) if options.what == "times" else (COUNTS, counted)
-    print("| " + " | ".join(columns) + " |\n" + "|---" * len(columns) + "|", flush=True)
-    every = c_samples.samples()
-    with tempfile.TemporaryDirectory() as room, Progress("samples", len(every)) as progress:
-        for sample in progress.each(every, lambda it: it.name):
-            prepared = Prepared(sample, options.what != "small", room)
-            print("| " + " | ".join(map(str, [sample.name, *cells(prepared, options.rounds)])) + " |", flush=True)
-    return 0
+    """Measures the samples in C: what they execute, how long they take with several workers, or what finding races takes."""
+    what, rounds = options.what, options.rounds or ROUNDS.get(options.what)
+
+    def rows(sample, room):
+        yield [sample.name, *CELLS[what](Prepared(sample, what != "small", room), room, rounds)]
+
+    return table(["Sample", *COLUMNS["small" if what == "large" else what]], c_samples.samples(), rows)

@@ -1,18 +1,16 @@
 """Measures where the time of the samples goes, by part of the program.
 
-It prints a table in Markdown. For each large sample in C that shares its work out, run with four workers, it has a row for the caller and one for the three
-others: how many percent of the run's wall time each is at work, and what percent of that goes to each part of the program. Linux's perf samples the runs. DTHREADS
+It prints a table in Markdown. For each large sample in C that shares its work out, run with four workers, it has a row for the caller and
+one for the three others: how many percent of the run's wall time each is at work, and what percent of that goes to each part of the program. Linux's perf samples the runs. DTHREADS
 names the program to run them with, which must have its symbols, or else crates/command/out/command.
 """
 import collections
 import os
 import shutil
 import subprocess
-import tempfile
 
 from dt_commands import c_samples
-from dt_commands.measure_c_samples import BOUND, LARGER, Prepared
-from dt_commands.progress import Progress
+from dt_commands.measuring import BOUND, LARGER, Prepared, table, with_rounds
 from dt_commands.repository import TOP
 
 WORKERS = 4
@@ -31,7 +29,7 @@ COLUMNS = ["Sample", "Host threads", "At work", *PARTS, KERNEL, OTHER]
 
 
 def arguments(parser):
-    parser.add_argument("rounds", nargs="?", type=int, default=5, metavar="ROUNDS", help="how many rounds (default: 5)")
+    with_rounds(parser, 5)
 
 
 def program():
@@ -61,16 +59,17 @@ def looked_at(prepared, room):
     data = f"{room}/perf.data"
     command = [program(), "run", prepared.program, "--bound", BOUND, "--workers", str(WORKERS)]
     record = ["perf", "record", "-q", "-F", str(LOOKS), "-e", "cpu-clock", "-o", data, *command]
-    subprocess.run(record, input=prepared.given, stdout=subprocess.DEVNULL, stderr=subprocess.DEVNULL, check=False)
+    with open(prepared.given, "rb") as given:
+        subprocess.run(record, stdin=given, stdout=subprocess.DEVNULL, stderr=subprocess.DEVNULL, check=False)
     script = ["perf", "script", "-i", data, "-F", "pid,tid,time,ip,sym,dso"]
     return counted(subprocess.run(script, capture_output=True, text=True, check=True).stdout)
 
 
 def row(sample, threads, count, seen, looks):
-    """Returns the row of some host threads: so many looks could have seen each of them at work."""
+    """Returns the cells of some host threads: so many looks could have seen each of them at work."""
     total = sum(seen.values()) or 1
     shares = [f"{100 * seen[part] / total:.1f}" for part in [*PARTS, KERNEL, OTHER]]
-    return "| " + " | ".join([sample, threads, f"{100 * total / count / looks:.0f}", *shares]) + " |"
+    return [sample, threads, f"{100 * total / count / looks:.0f}", *shares]
 
 
 def rows(prepared, room, rounds):
@@ -88,10 +87,5 @@ def measure(options):
     """Measures where the time of the samples goes, by part of the program."""
     if not shutil.which("perf"):
         raise SystemExit("it needs Linux's perf")
-    print("| " + " | ".join(COLUMNS) + " |\n" + "|---" * len(COLUMNS) + "|", flush=True)
-    every = [it for it in c_samples.samples() if it.name in LARGER]
-    with tempfile.TemporaryDirectory() as room, Progress("samples", len(every)) as progress:
-        for sample in progress.each(every, lambda it: it.name):
-            for text in rows(Prepared(sample, True, room), room, options.rounds):
-                print(text, flush=True)
-    return 0
+    samples = [it for it in c_samples.samples() if it.name in LARGER]
+    return table(COLUMNS, samples, lambda it, room: rows(Prepared(it, True, room), room, options.rounds))

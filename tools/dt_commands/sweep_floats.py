@@ -25,11 +25,9 @@ def sweep(options):
     """Compares sums, differences, products and quotients of many operands with those of this host."""
     cases = f"-DCASES={options.count}"
     with tempfile.TemporaryDirectory() as room, Progress("sweeps of operands", 1):
-        said = guest_runs.compiled(["-O2", cases, SOURCE], f"{room}/guest.elf")
-        if said is not None:
-            raise SystemExit(said)
+        elf = guest_runs.built(["-O2", cases, SOURCE], f"{room}/guest.elf")
         subprocess.run(["cc", "-O2", "-ffp-contract=off", cases, "-o", f"{room}/host", SOURCE], check=True)
-        guest = output([guest_runs.program(), "run", f"{room}/guest.elf", "--bound", BOUND])
+        guest = output([guest_runs.program(), "run", elf, "--bound", BOUND])
         host = output([f"{room}/host"])
     if guest != host:
         print(first_difference(guest, host))

@@ -22,6 +22,7 @@ import sys
 import tempfile
 
 from dt_commands import fixed_guests
+from dt_commands.gdb_packets import framed
 from dt_commands.progress import Progress
 from dt_commands.repository import TOP
 from dt_commands.texts import contents
@@ -254,11 +255,6 @@ def replays(room, program):
         for workers in numbers:
             words = [program, "replay", *files, "--workers", workers]
             yield f"replay race, {schedule}, {workers} workers", Sweep(room, words)
-
-
-def framed(text):
-    """Returns a packet of gdb's remote protocol."""
-    return b"$%s#%02x" % (text.encode(), sum(text.encode()) % 256)
 
 
 def debugs(room, program):

@@ -15,7 +15,7 @@ PARTS = {
     "check": ["sources", "clauses", "layers", "pages", "samples", "pictures", "c-samples", "c-functions"],
     "test": ["c-samples", "guest", "manual", "c-page", "programs", "timeline", "kit"],
     "sweep": ["memory", "changes", "workers", "schedules"],
-    "measure": ["workers", "c-samples", "turns", "debugger"],
+    "measure": ["workers", "c-samples", "library", "debugger"],
     "write": ["pages", "samples", "pictures", "c-samples", "c-functions"],
 }
 ALONE = ["mutants", "digest", "picture", "build", "release", "install", "packages", "self-test"]

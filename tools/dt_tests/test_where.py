@@ -21,7 +21,7 @@ class Where(unittest.TestCase):
     def test_a_row_has_percents(self):
         _, seen = measure_where.counted(LOOKS)
         text = measure_where.row("one", "caller", 1, seen["caller"], 4)
-        self.assertEqual(text, "| one | caller | 50 | 50.0 | 0.0 | 0.0 | 0.0 | 0.0 | 50.0 | 0.0 |")
+        self.assertEqual(text, ["one", "caller", "50", "50.0", "0.0", "0.0", "0.0", "0.0", "50.0", "0.0"])
 
     def test_the_first_part_that_fits_counts(self):
         for name, part in (("twins::view::View::near", "Instructions"), ("twins::pages::take", "Pages"), ("std_alloc::vec::grow", "Allocator")):

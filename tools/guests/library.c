@@ -7,6 +7,14 @@
 #include <string.h>
 #include <unistd.h>
 
+/* How many threads wait beside the operation, and whether it needs files. */
+#ifndef THREADS
+#define THREADS 0
+#endif
+#ifndef FILES
+#define FILES 0
+#endif
+
 enum { ROOM = 4096 + 64, STREAM = 1 << 20 };
 
 static _Alignas(64) char from[ROOM], to[ROOM], text[1001], other[1001];

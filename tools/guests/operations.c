@@ -1,4 +1,4 @@
-// The program by which tools/dt measure turns counts the turns of an operation: it does OPERATION TIMES times.
+// The program by which tools/dt measure library counts the turns of an operation beside another thread: it does OPERATION TIMES times.
 #include <pthread.h>
 #include <semaphore.h>
 #include <stdatomic.h>
