@@ -1,13 +1,31 @@
 """Out-of-memory errors that a source makes up.
 
-It prints each value that says out of memory although no allocator refused anything, each exception of its lists that matches no
-line, and ends with 1 if there is any. Files that only tests use (modules under `#[cfg(test)]`, and the fakes listed here) may make such values.
+A function that was refused memory hands the error on, by `?` or in an arm whose pattern names it. So these are refused:
+- a value `AllocError`;
+- a value `..::OutOfMemory` with no error inside, except in the `impl From<AllocError>` of its type, in an arm whose pattern or
+  guard names out of memory, and in the block of an `if` whose condition names it.
+A name is a pattern if `=>`, `|`, `if` or the `=` of a `let` follows it; whatever else follows, it is a value. Which arm or block is round it
+is seen by indentation, as `rt fmt` makes it.
+
+It prints each such value, each exception of its lists that matches no line, and ends with 1 if there is any. Files that only tests use
+(modules under `#[cfg(test)]`, and the fakes listed here) may make such values.
 """
 import os
 import re
 
-from . import sources
 from .repository import TOP
+
+# What holds no code: comments, texts, imports, attributes, contracts and what else is for proofs, and the declarations of types.
+NO_CODE = re.compile(
+    r"""//[^\n]*|"(?:[^"\\]|\\.)*"|^ *(?:pub )?(?:ghost )?use [^;]*;|#!?\[[^\]]*\]|^ *(?:requires|ensures)\*? ?\w* ?\{.*?\}$|^ *ghost .*?;$"""
+    r"""|^(?P<indent> *)(?:pub(?:\(\w+\))? )?(?:enum|struct) \w[^\n;]*\{\n.*?^(?P=indent)\}""", re.M | re.S)
+VALUE = re.compile(r"\bAllocError\b|\b\w+::OutOfMemory\b(?!\()")
+# What stands right before or behind a type, a pattern, and what is compared.
+BEFORE_TYPE, BEHIND_TYPE = re.compile(r"((?<!:):|->|<|\b(for|as|dyn)|&)\s*\Z"), re.compile(r">|::")
+BEHIND_PATTERN = re.compile(r"\)*\s*(=>|\|(?!\|)|if\b)|\)+\s*=(?!=)")
+BEFORE_COMPARED, BEHIND_COMPARED = re.compile(r"[=!]=\s*\Z"), re.compile(r"\s*[=!]=")
+# The head of an arm or of the block of an `if`, up to what it gives.
+HEAD = re.compile(r"(.*)=>|(?:.*\W)?if\b(.*)\{$")
 
 # Fakes that tests put in the place of a reader or a writer, and the programs that tell refusals by themselves.
 FAKES = {
@@ -39,6 +57,48 @@ BEYOND_ANY_HOST = {
     ("crates/races/src/page.rt", "return Err(AllocError);"),
     ("crates/trace_events/src/sum.rt", "None => Err(TurnFault::OutOfMemory),"),
 }
+
+
+def is_in_matches(before):
+    """Whether what follows a text is the pattern of a `matches!`."""
+    inside = before.rpartition("matches!(")[2] if "matches!(" in before else ""
+    while re.search(r"\([^()]*\)", inside):
+        inside = re.sub(r"\([^()]*\)", "", inside)
+    return ")" not in inside and "," in inside.partition("(")[0]
+
+
+def heads_round(lines, at, column):
+    """Yields the heads of the arms, blocks and items round a place, the innermost first."""
+    yield lines[at][:column]
+    indent = len(lines[at]) - len(lines[at].lstrip())
+    for line in reversed(lines[:at]):
+        own = len(line) - len(line.lstrip())
+        if line.strip() and own < indent:
+            indent = own
+            yield line
+
+
+def is_handed_on(lines, at, column):
+    """Whether a place is in a conversion of an allocator's error, or the innermost arm or block round it names out of memory."""
+    heads = list(heads_round(lines, at, column))
+    named = next((it[1] or it[2] for it in map(HEAD.match, heads) if it), "")
+    return bool(re.search(r"\b(OutOfMemory|AllocError)\b", named)) or any(it.startswith("impl From<AllocError> for ") for it in heads)
+
+
+def complaints(source):
+    """Returns, for each value of a source that says out of memory and was not told, its line and its name."""
+    code = NO_CODE.sub(lambda it: re.sub(r"[^\n]", " ", it[0]), source)
+    lines, found = code.split("\n"), []
+    for value in VALUE.finditer(code):
+        before, behind, name = code[: value.start()], code[value.end() :], value[0].rpartition("::")[2]
+        is_type = name == "AllocError" and (BEFORE_TYPE.search(before[-9:]) or BEHIND_TYPE.match(behind))
+        is_compared = BEFORE_COMPARED.search(before[-9:]) or BEHIND_COMPARED.match(behind)
+        if is_type or is_compared or BEHIND_PATTERN.match(behind) or is_in_matches(before.rpartition(";")[2]):
+            continue
+        at = before.count("\n")
+        if name == "AllocError" or not is_handed_on(lines, at, value.start() - before.rfind("\n") - 1):
+            found.append((at + 1, name))
+    return found
 
 
 def files_of(top):
@@ -73,7 +133,7 @@ def lines_found(top):
             continue
         text = read(file)
         lines = text.split("\n")
-        found += [(name, number, what, lines[number - 1].strip()) for number, what in sources.complaints(text)]
+        found += [(name, number, what, lines[number - 1].strip()) for number, what in complaints(text)]
     return len(files), found
 
 

@@ -2,7 +2,7 @@
 import os
 import unittest
 
-from dt_commands import made_up_errors, sources
+from dt_commands import made_up_errors
 
 FOLDER = f"{os.path.dirname(os.path.abspath(__file__))}/sources"
 
@@ -13,10 +13,10 @@ class Sources(unittest.TestCase):
             text = made_up_errors.read(f"{FOLDER}/{name}")
             wanted = [number for number, line in enumerate(text.split("\n"), 1) if line.endswith("// bad")]
             with self.subTest(name):
-                self.assertEqual(wanted, [line for line, _ in sources.complaints(text)])
+                self.assertEqual(wanted, [line for line, _ in made_up_errors.complaints(text)])
 
     def test_brackets_in_texts_are_no_brackets(self):
-        self.assertEqual([], sources.complaints('fn f() { let a = "{("; match b { Fault::OutOfMemory => Other::OutOfMemory, } }'))
+        self.assertEqual([], made_up_errors.complaints('fn f() { let a = "{("; match b { Fault::OutOfMemory => Other::OutOfMemory, } }'))
 
 
 if __name__ == "__main__":
