@@ -2,8 +2,7 @@
 
 Guests are the samples, the programs of crates/test_guest_runs/data, random programs, the samples in C and, if the compiler is there, the
 programs of guest/tests, with no quantum and with others. Each timeline is compared byte by byte with the one that timelines.py works out
-from the run's trace, for 1, 2, 4 and 64 workers, and is looked at by itself: its JSON, the keys of each event, its tracks, flows and sums.
-How many pages a turn changed isn't in the trace. These numbers are worked out for programs of crates/test_guest_runs/data and for runs
+from the run's trace, for 1, 2, 4 and 64 workers. How many pages a turn changed isn't in the trace. These numbers are worked out for programs of crates/test_guest_runs/data and for runs
 whose report has one page, and the debugger is asked for those of other short runs. The rest is taken from the timeline, within bounds.
 All numbers together must be the report's. The timeline and the races beside the sample race are compared too. DTHREADS names the program
 that runs the guests, or else ./dthreads.
@@ -17,7 +16,7 @@ import subprocess
 import tempfile
 from collections import namedtuple
 
-from dt_commands import c_samples, changed_pages, guest_runs, guest_tests, random_guests, sample_pictures, timeline_form, timelines, written_guests
+from dt_commands import c_samples, changed_pages, guest_runs, guest_tests, random_guests, sample_pictures, timelines, written_guests
 from dt_commands.progress import Progress
 from dt_commands.repository import TOP
 from dt_commands.texts import contents, first_difference, rows_of
@@ -56,6 +55,8 @@ def run(guest, file, quantum, room, workers, kinds):
 def pages_of(text):
     """Returns the pages that a timeline says of each turn, by its number."""
     told = [it["args"] for it in json.loads(text)["traceEvents"] if it.get("cat") == "segment"]
+    if not all(type(it["pages"]) is int for it in told):
+        raise TypeError("a number of pages is none")
     return {it["turn"]: it["pages"] for it in told}
 
 
@@ -88,11 +89,11 @@ def known_pages(guest, file, quantum, texts, room):
 def faults(known, texts):
     """Yields what is wrong with the timeline of a run, by its trace and its report, and the pages that are known."""
     trace, report, text = (it.decode() for it in texts)
-    found = list(timeline_form.faults(text))
-    if found:
-        yield from found[:3]
+    try:
+        pages = {**pages_of(text), **known}
+    except (ValueError, KeyError, TypeError) as why:
+        yield f"it is no timeline: {why!r}"
         return
-    pages = {**pages_of(text), **known}
     yield from list(page_faults(pages, timelines.turns_of(trace), report))[:3]
     wanted = timelines.timeline(trace, pages)
     if text != wanted:

@@ -2,7 +2,7 @@
 import json
 import unittest
 
-from dt_commands import timeline_files, timeline_form, timelines, written_guests
+from dt_commands import timeline_files, timelines, written_guests
 
 ONE_TURN = "1 0 exit 00000007 00000000 00000000 -> end changed=0 ran=3\n"
 ITS_TIMELINE = """{"traceEvents":[
@@ -60,6 +60,16 @@ class Reference(unittest.TestCase):
     def test_the_text_of_one_turn(self):
         self.assertEqual(timelines.timeline(ONE_TURN, {}), ITS_TIMELINE)
 
+    def test_the_text_of_what_waits_and_of_what_wakes_it(self):
+        lines = timelines.timeline(CONDITIONS, {}).splitlines()
+        for it in (
+            '{"ph":"X","pid":1,"tid":1,"ts":14,"dur":14,"name":"wait 0","cat":"wait","args":{"turn":3}},',
+            '{"ph":"X","pid":1,"tid":1,"ts":7,"dur":7,"name":"token","cat":"wait","args":{"turn":3}},',
+            '{"ph":"s","pid":1,"tid":0,"ts":23,"name":"signal","cat":"flow","id":8},',
+            '{"ph":"f","bp":"e","pid":1,"tid":1,"ts":28,"name":"signal","cat":"flow","id":8},',
+        ):
+            self.assertIn(it, lines)
+
     def test_the_slices_of_conditions(self):
         self.assertEqual(slices(timelines.timeline(CONDITIONS, {1: 1, 9: 1})), [
             "0 segment 0-4 of 1", "0 segment 4-14 of 2", "1 segment 4-7 of 3", "1 token 7-14 of 3",
@@ -109,25 +119,6 @@ class Reference(unittest.TestCase):
         self.assertEqual(str(told.exception), "line 2 is none of a trace: 1 0 exit")
 
 
-class Form(unittest.TestCase):
-    def test_the_timelines_of_the_reference_are_well(self):
-        for trace in (ONE_TURN, CONDITIONS, BARRIERS):
-            self.assertEqual(list(timeline_form.faults(timelines.timeline(trace, {}))), [])
-
-    def test_each_change_is_told(self):
-        text = timelines.timeline(CONDITIONS, {1: 1, 9: 1})
-        changes = [
-            ("],\"otherData\"", "], \"otherData\""), ('"ph":"X","pid":1', '"pid":1,"ph":"X"'), ('"dur":10,', '"dur":11,'), ('"ts":4,', '"ts":4.0,'),
-            ('"bp":"e",', ""), ('"name":"signal","cat":"flow","id":8', '"name":"join","cat":"flow","id":8'), ('"token":98', '"token":97'),
-            ('1.13', '1.1'), ('"pages":1}},', '"pages":"1"}},'), ('"name":"wait 0"', '"name":"wait"'), ('"args":{"turn":2,"text":', '"args":{"turn":3,"text":'),
-            ('"instructions":155', '"instructions":154'), ("},\n", "}, \n"), ('"pid":1,"tid":0,"name":"thread_name"', '"pid":1,"tid":2,"name":"thread_name"'),
-        ]
-        for old, new in changes:
-            with self.subTest(old):
-                self.assertIn(old, text)
-                self.assertNotEqual(list(timeline_form.faults(text.replace(old, new, 1))), [])
-
-
 class Pages(unittest.TestCase):
     TURNS = timelines.turns_of(CONDITIONS)
 
@@ -146,6 +137,23 @@ class Pages(unittest.TestCase):
     def test_pages_of_addresses(self):
         self.assertEqual(written_guests.pages(self.TURNS, [0x20FFF, 0x21000, 0x20000])[1], 2)
         self.assertEqual(written_guests.pages(self.TURNS, [0x20FFF, 0x20000, 0x20000])[9], 1)
+
+
+class Faults(unittest.TestCase):
+    def test_each_change_is_told(self):
+        text, report = timelines.timeline(CONDITIONS, {1: 1, 9: 1}), "page=00020000 turns=2 bytes=3 threads=2 shared=0 clashes=0\n"
+        faults = lambda timeline: list(timeline_files.faults({}, [it.encode() for it in (CONDITIONS, report, timeline)]))
+        self.assertEqual(faults(text), [])
+        for old, new in (
+            ("],\"otherData\"", "], \"otherData\""), ('"ph":"X","pid":1', '"pid":1,"ph":"X"'), ('"dur":10,', '"dur":11,'), ('"ts":4,', '"ts":4.0,'),
+            ('"bp":"e",', ""), ('"name":"signal","cat":"flow","id":8', '"name":"join","cat":"flow","id":8'), ('"token":98', '"token":97'),
+            ('1.13', '1.1'), ('"pages":1}},', '"pages":"1"}},'), ('"name":"wait 0"', '"name":"wait"'), ('"args":{"turn":2,"text":', '"args":{"turn":3,"text":'),
+            ('"instructions":155', '"instructions":154'), ("},\n", "}, \n"), ('"pid":1,"tid":0,"name":"thread_name"', '"pid":1,"tid":2,"name":"thread_name"'),
+            ('{"traceEvents":[', '{"traceEvents":'), ('"pages":1', '"page":1'),
+        ):
+            with self.subTest(old):
+                self.assertIn(old, text)
+                self.assertNotEqual(faults(text.replace(old, new, 1)), [])
 
 
 class Guests(unittest.TestCase):
