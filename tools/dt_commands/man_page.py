@@ -8,45 +8,14 @@ import textwrap
 
 from dt_commands.repository import TOP
 
-SOURCE, FILE = "docs/CLI.md", "man/dthreads.1"
+# What it is made of, the page, and what is before and behind the sections.
+SOURCE, FILE, FORM = "docs/CLI.md", "man/dthreads.1", "tools/pages/dthreads.1"
 # How wide a line is, and how it is broken: between words alone.
 WIDTH, WHOLE = 78, {"break_long_words": False, "break_on_hyphens": False}
 # The column of a table whose cells need no name.
 PLAIN = "meaning"
 # Where the program's version is, and the day of that version.
 VERSION, DATE = "crates/command_requests/src/commands.rt", "2026-11-26"
-
-HEAD = r'''.\" Written by tools/dt write pages from docs/CLI.md.
-.TH DTHREADS 1 "{date}" "dthreads {version}" "User Commands"
-.SH NAME
-dthreads \- run multithreaded RV32IM programs with the same result each time
-.SH SYNOPSIS
-{synopsis}
-.SH DESCRIPTION
-.B dthreads
-runs multithreaded RV32IM programs deterministically:
-the result depends on the file, its input, the bound and the quantum alone,
-never on the host's scheduling.
-'''
-FOOT = r'''.SH SEE ALSO
-The pages in share/doc/dthreads/docs:
-GUEST.md on the guest machine, C.md on programs in C,
-CLEAN-RUNS.md on what a run without faults doesn't tell,
-DEBUGGING.md on debugging in gdb, PROVED.md on what is proved.
-.PP
-.BR dthreads\-cc ,
-.B dthreads\-c++
-and
-.B dthreads\-exec
-compile and run programs in C and C++;
-.B dthreads\-gdb
-debugs them,
-.B dthreads\-lines
-names the lines of a list of races, and
-.B dthreads\-picture
-draws a timeline.
-'''
-
 
 def read(page):
     with open(f"{TOP}/{page}", encoding="utf-8") as it:
@@ -141,4 +110,4 @@ def page():
     text = read(SOURCE)
     version = re.search(r'const VERSION: &str = "(.*)";', read(VERSION))[1]
     sections = text[text.index("\n## ") :]
-    return HEAD.format(version=version, date=DATE, synopsis=synopsis(text)) + "\n".join(body_of(sections)) + "\n" + FOOT
+    return read(FORM).format(version=version, date=DATE, synopsis=synopsis(text), body="\n".join(body_of(sections)))

@@ -1,10 +1,10 @@
 """The generated parts of the pages.
 
-Generated are docs/CONFORMANCE.md as a whole, from tools/changes; docs/CRATES.md as a whole, from crates.txt and the first sentence of
+Generated are docs/CONFORMANCE.md as a whole, from tools/changes and tools/pages; docs/CRATES.md as a whole, from crates.txt and the first sentence of
 each crate root; the limits in docs/GUEST.md, from the definitions; the list of the definitions that the headline
 needs in docs/LAW.md, from the contracts of run, run_into and run_recorded; how many public functions have no `ensures` in
 docs/PROVED.md; the transcripts in docs/DEBUGGING.md, from the
-sessions of guest/tests/gdb; and man/dthreads.1, from docs/CLI.md. Besides,
+sessions of guest/tests/gdb; and man/dthreads.1, from docs/CLI.md and tools/pages. Besides,
 each line of a block marked `antt` must be in the sources, so that no page quotes what isn't there, each link must lead to a file
 and a heading, the picture of the layers in docs/ARCHITECTURE.md must show what crates.txt has, what README.md says of speed must be in
 docs/BENCH.md, docs/PROVED.md must name the toolchain of the release, and the pages that are read as a whole have a size that they

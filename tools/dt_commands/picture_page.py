@@ -1,4 +1,5 @@
 """The page of a picture: one HTML file with nothing from elsewhere, which is complete without its script; the script zooms."""
+import os
 from xml.sax.saxutils import escape
 
 from dt_commands import picture_svg
@@ -13,94 +14,16 @@ BUTTONS = (
     ("+", "+", "zooms in (+, a double click, or the wheel with Ctrl or Shift)"), ("0", "all", "shows all (0)"),
 )
 
-STYLE = f"""
-html {{ color-scheme: light; background: #fff; color: #1f2937; font: 15px/1.5 {FONT}; }}
-body {{ max-width: 1240px; margin: 1.2rem auto; padding: 0 1rem; }}
-h1 {{ font-size: 1.5rem; margin: 0 0 .2rem; }} h2 {{ font-size: 1.1rem; margin: 1.6rem 0 .4rem; }}
-p {{ max-width: 62rem; margin: .4rem 0; }} svg {{ max-width: 100%; height: auto; display: block; }}
-.tiles {{ display: flex; flex-wrap: wrap; gap: .8rem; margin: .9rem 0; }}
-.tiles div {{ border-left: 3px solid #0b5fa5; background: #f4f7fb; padding: .45rem .9rem; min-width: 10.5rem; }}
-.tiles b {{ display: block; font-size: 1.45rem; line-height: 1.3; }} .tiles span, .quiet {{ color: #5b6472; font-size: .85rem; }}
-table {{ border-collapse: collapse; font-size: .9rem; }}
-th, td {{ text-align: right; padding: .18rem .9rem .18rem 0; border-bottom: 1px solid #e5e7eb; font-variant-numeric: tabular-nums; }}
-th:first-child, td:first-child {{ text-align: left; }} th {{ color: #5b6472; font-weight: 500; }}
-code {{ font-size: .82rem; }} .zoom {{ float: right; display: none; gap: .3rem; align-items: center; }}
-.zoom button {{ font: inherit; min-width: 2rem; border: 1px solid #cbd2da; border-radius: 4px; background: #fff; cursor: pointer; }}
-.scripted .zoom {{ display: flex; }} .scripted .plot {{ cursor: grab; }}
-.u {{ transform: scaleX(var(--narrow, 1)); }}
-@media print {{ .zoom {{ display: none !important; }} }}
-"""
-
-SCRIPT = """
-const picture = document.querySelector('figure > svg'), plot = picture.querySelector('.plot'), ticks = picture.querySelector('.ticks');
-const [from, to] = [Number(picture.dataset.start), Number(picture.dataset.end)], box = plot.viewBox.baseVal;
-const [left, wide, height, margin] = [Number(picture.dataset.left), box.width, box.height, -box.x], across = wide - 2 * margin;
-const y = Number(ticks.dataset.y), marks = [...plot.querySelectorAll('[data-zoom]')], patterns = [...picture.querySelectorAll('pattern')];
-let zoom = 1, start = 0, waits = false;
-function tick(text, x) {
-    const line = document.createElementNS(picture.namespaceURI, 'line'), words = document.createElementNS(picture.namespaceURI, 'text');
-    for (const [key, value] of Object.entries({x1: x, x2: x, y1: y, y2: y + 4, stroke: '#6b7280'})) line.setAttribute(key, value);
-    for (const [key, value] of Object.entries({x: x, y: y + 16, class: 'm s'})) words.setAttribute(key, value);
-    words.textContent = text;
-    ticks.append(line, words);
-}
-function draw() {
-    waits = false;
-    box.x = start - margin / zoom;
-    box.width = wide / zoom;
-    picture.style.setProperty('--narrow', 1 / zoom);
-    for (const it of marks) it.setAttribute('visibility', Number(it.dataset.zoom) <= zoom ? 'inherit' : 'hidden');
-    for (const it of patterns) it.setAttribute('patternTransform', `scale(${1 / zoom} 1) ${it.dataset.turned}`);
-    while (ticks.children.length > 1) ticks.lastChild.remove();
-    const each = Math.max(1, (to - from) / zoom / 12), power = 10 ** Math.floor(Math.log10(each));
-    const step = [1, 2, 5, 10].map(it => it * power).find(it => it >= each);
-    const first = from + start / across * (to - from), last = first + (to - from) / zoom;
-    for (let at = Math.ceil(first / step) * step; at <= last + step / 1e6; at += step)
-        tick(Math.round(at).toLocaleString('en'), left + (at - first) / (to - from) * across * zoom);
-}
-function show(nextZoom, nextStart) {
-    zoom = Math.min(Math.max(nextZoom, 1), 16384);
-    start = Math.min(Math.max(nextStart, 0), across * (1 - 1 / zoom));
-    if (!waits) requestAnimationFrame(draw);
-    waits = true;
-}
-function place(event) {
-    const seen = picture.getBoundingClientRect();
-    return start + ((event.clientX - seen.left) * picture.viewBox.baseVal.width / seen.width - left) / zoom;
-}
-function nearer(factor, at) { show(zoom * factor, at - (at - start) / Math.min(factor, 16384 / zoom)); }
-const middle = () => start + across / zoom / 2;
-const moves = {'+': () => nearer(2, middle()), '=': () => nearer(2, middle()), '-': () => nearer(.5, middle()), '0': () => show(1, 0),
-    ArrowLeft: () => show(zoom, start - across / zoom / 4), ArrowRight: () => show(zoom, start + across / zoom / 4)};
-document.addEventListener('keydown', event => {
-    if (moves[event.key] && !event.ctrlKey && !event.metaKey && !event.altKey) { moves[event.key](); event.preventDefault(); }
-});
-for (const it of document.querySelectorAll('.zoom button')) it.onclick = moves[it.dataset.key];
-plot.addEventListener('wheel', event => {
-    if (event.ctrlKey || event.shiftKey) { nearer((event.deltaY || event.deltaX) < 0 ? 1.25 : .8, place(event)); event.preventDefault(); }
-}, {passive: false});
-plot.addEventListener('dblclick', event => nearer(event.shiftKey ? .5 : 2, place(event)));
-plot.addEventListener('pointerdown', event => {
-    const [x, first, factor] = [event.clientX, start, picture.viewBox.baseVal.width / picture.getBoundingClientRect().width];
-    const move = event => show(zoom, first - (event.clientX - x) * factor / zoom);
-    addEventListener('pointermove', move);
-    addEventListener('pointerup', () => removeEventListener('pointermove', move), {once: true});
-    event.preventDefault();
-});
-function range() {
-    const told = /^#(\\d+)-(\\d+)$/.exec(location.hash);
-    if (told && Number(told[2]) > Number(told[1]))
-        show((to - from) / (told[2] - told[1]), (told[1] - from) / (to - from) * across);
-}
-document.body.classList.add('scripted');
-addEventListener('hashchange', range);
-range();
-"""
-
 READING = """<p>A row is a thread, and time runs to the right, in instructions, as if each thread had a processor of its own. The threads of a
 phase begin together, each on its own copy of memory. A turn is a mark: there the thread's changes are merged, and its call is made. Turns
 come in one fixed order, so a thread may wait for the token that the turn before it holds. The dark line below slices is the critical path:
 no number of processors makes the run shorter. Point at anything to see what it is.</p>"""
+
+
+def beside(name):
+    """Returns the text of a file beside this one."""
+    with open(os.path.join(os.path.dirname(__file__), name), encoding="utf-8") as it:
+        return it.read()
 
 
 def table(heads, rows):
@@ -174,4 +97,5 @@ def page(run, name, report, list_of_races, others):
         races(list_of_races, others) if list_of_races is not None else "", pages(report) if report else "",
     ]
     head = f'<meta charset="utf-8"><meta name="viewport" content="width=device-width"><title>{escape(name)}: timeline</title>'
-    return f'<!doctype html>\n<html lang="en"><head>{head}<style>{STYLE}</style></head>\n<body>\n{"".join(parts)}<script>{SCRIPT}</script>\n</body></html>\n'
+    style, script = beside("picture_page.css").replace("FONT", FONT), beside("picture_page.js")
+    return f'<!doctype html>\n<html lang="en"><head>{head}<style>\n{style}</style></head>\n<body>\n{"".join(parts)}<script>\n{script}</script>\n</body></html>\n'
