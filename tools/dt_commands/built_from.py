@@ -7,6 +7,7 @@ import os
 import subprocess
 
 from dt_commands.repository import TOP
+from dt_commands.texts import read_text, write_file
 
 VERSION = "# rt version: "
 # The record of the program that was built here.
@@ -23,16 +24,14 @@ def read(file):
     """Returns the toolchain and the list of a record, or None if there is no such file."""
     if not os.path.isfile(file):
         return None
-    with open(file, encoding="utf-8") as it:
-        lines = it.read().splitlines(True)
+    lines = read_text(file).splitlines(True)
     version = [it[len(VERSION) :].strip() for it in lines if it.startswith(VERSION)]
     return (version + [""])[0], "".join(it for it in lines if not it.startswith(VERSION))
 
 
 def write(file, version, text):
     """Writes a record."""
-    with open(file, "w", encoding="utf-8") as it:
-        it.write(f"{VERSION}{version}\n{text}")
+    write_file(file, f"{VERSION}{version}\n{text}")
 
 
 def named(text):

@@ -3,13 +3,13 @@
 Each replaced place asks the switch. A change of a test gets a test of its own, which puts it on and then does what its row's test does;
 a program reads which change is on.
 """
-import os
 import re
 import shutil
 import subprocess
 
-from dt_commands.changes import PROGRAMS, read
+from dt_commands.changes import PROGRAMS
 from dt_commands.repository import TOP
+from dt_commands.texts import read_text, write_file
 
 SWITCH = "tried_change"
 
@@ -44,12 +44,6 @@ static uint32_t tried;
 bool tried_change_is(uint32_t number) { return tried == number; }
 void tried_change_set(uint32_t number) { tried = number; }
 """
-
-
-def write(file, text):
-    os.makedirs(os.path.dirname(file), exist_ok=True)
-    with open(file, "w", encoding="utf-8") as it:
-        it.write(text)
 
 
 def guarded(number, is_statement, old, new):
@@ -113,27 +107,27 @@ def copy(found, folder):
     shutil.copytree(f"{TOP}/crates", f"{folder}/crates", ignore=shutil.ignore_patterns("out", "must-fail", "mutants"))
     shutil.copy(f"{TOP}/HANDLES", folder)
     subprocess.run(["git", "init", "-q", folder], check=True)
-    listed = re.sub(r"^(\w+:)", rf"\1 {SWITCH}", read(f"{TOP}/crates.txt"), flags=re.M)
-    write(f"{folder}/crates.txt", f"{SWITCH}:\n{listed}")
-    write(f"{folder}/crates/{SWITCH}/src/lib.rt", SOURCE)
-    write(f"{folder}/crates/{SWITCH}/c/{SWITCH}.c", SOURCE_IN_C)
+    listed = re.sub(r"^(\w+:)", rf"\1 {SWITCH}", read_text(f"{TOP}/crates.txt"), flags=re.M)
+    write_file(f"{folder}/crates.txt", f"{SWITCH}:\n{listed}")
+    write_file(f"{folder}/crates/{SWITCH}/src/lib.rt", SOURCE)
+    write_file(f"{folder}/crates/{SWITCH}/c/{SWITCH}.c", SOURCE_IN_C)
     places, tests = {}, {}
     for number, change in enumerate(found, 1):
         for file, old, new in change.edits:
             if file.endswith(".rt"):
-                start = read(f"{TOP}/{file}").index(old)
+                start = read_text(f"{TOP}/{file}").index(old)
                 places.setdefault(file, []).append((start, start + len(old), number, new))
         if change.program_row()[0]:
             continue
         file, test = change.test()
-        head, body = function_of(read(f"{TOP}/{file}"), test)
+        head, body = function_of(read_text(f"{TOP}/{file}"), test)
         tests.setdefault(file, []).append(
             f"\n#[test]\nfn change_{number}{head}{{\n    {SWITCH}::set({number});\n{body}\n}}\n"
         )
     for file, those in places.items():
-        write(f"{folder}/{file}", with_guards(read(f"{TOP}/{file}"), those))
+        write_file(f"{folder}/{file}", with_guards(read_text(f"{TOP}/{file}"), those))
     for file, those in tests.items():
-        write(f"{folder}/{file}", read(f"{folder}/{file}") + "".join(those))
+        write_file(f"{folder}/{file}", read_text(f"{folder}/{file}") + "".join(those))
     head = "fn main(rt: HostRuntime) -> Result<()> {\n"
     for main in (f"{folder}/crates/{it}/src/main.rt" for it in PROGRAMS):
-        write(main, read(main).replace(head, head + SET_BY_INPUT))
+        write_file(main, read_text(main).replace(head, head + SET_BY_INPUT))

@@ -8,6 +8,7 @@ the file. In a source it is an expression, whole statements, an arm of a match, 
 import os
 
 from dt_commands.repository import TOP
+from dt_commands.texts import read_text, write_file
 
 FOLDER = f"{TOP}/tools/changes"
 PARTS = ["Harts", "Traps", "Memory", "Bound and quantum", "Files", "Calls", "Phases and turns", "Texts"]
@@ -17,18 +18,13 @@ ROWS = ["test_conformance"]
 PROGRAMS = {"test_parts": [], "test_guest_runs": ["brief"]}
 
 
-def read(file):
-    with open(file, encoding="utf-8") as it:
-        return it.read()
-
-
 class Change:
     """One file of tools/changes."""
 
     def __init__(self, name):
         self.name, self.part, self.sentence, self.row, self.case, self.edits = name, "", "", "", "", []
         given = {"file": None, "old": None}
-        for line in read(f"{FOLDER}/{name}.change").splitlines():
+        for line in read_text(f"{FOLDER}/{name}.change").splitlines():
             key, found, text = line.partition(": ")
             if not found:
                 raise SystemExit(f"{name}: no line of a change: {line}")
@@ -55,14 +51,13 @@ class Change:
     def apply(self, folder):
         """Makes the change in a copy of the repository."""
         for file, old, new in self.edits:
-            text = read(f"{folder}/{file}").replace(old, new)
-            with open(f"{folder}/{file}", "w", encoding="utf-8") as it:
-                it.write(text)
+            text = read_text(f"{folder}/{file}").replace(old, new)
+            write_file(f"{folder}/{file}", text)
 
 
 def names():
     """Returns the names of all changes, in the order of tools/changes/order, which must name each of them once."""
-    ordered = read(f"{FOLDER}/order").split()
+    ordered = read_text(f"{FOLDER}/order").split()
     files = [it[: -len(".change")] for it in os.listdir(FOLDER) if it.endswith(".change")]
     wrong = set(files) ^ set(ordered) | {it for it in ordered if ordered.count(it) > 1}
     if wrong:
@@ -78,7 +73,7 @@ def listed(chosen=()):
     found = [Change(it) for it in chosen or names()]
     for change in found:
         for file, old, _ in change.edits:
-            count = read(f"{TOP}/{file}").count(old)
+            count = read_text(f"{TOP}/{file}").count(old)
             if count != 1:
                 raise SystemExit(f"{change.name}: the old text is {count} times in {file}: {old}")
     return found

@@ -6,8 +6,9 @@ are one named record in specs/. Prints each line of a clause of more than 140 co
 import collections
 import re
 
-from .made_up_errors import files_of, read
+from .made_up_errors import files_of
 from .repository import TOP
+from .texts import read_text
 
 # A clause of a contract, from a line's start to the brace that ends it at a line's end.
 CLAUSE = re.compile(r"(?m)^ *(requires|ensures)\*? ?(\w*) ?\{(.*?)\}$", re.S)
@@ -34,7 +35,7 @@ def check(options):
     """Checks that no line of a clause is too long, and counts the clauses that stand again in their file."""
     every = again = found = 0
     for file in files_of(TOP):
-        clauses = clauses_of(read(file))
+        clauses = clauses_of(read_text(file))
         every, again = every + len(clauses), again + repeated(clauses)
         for number in long_lines(clauses):
             print(f"{file[len(TOP) + 1:]}:{number}: a clause of more than {COLUMNS} columns")

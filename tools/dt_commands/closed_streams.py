@@ -12,7 +12,7 @@ from collections import namedtuple
 
 from dt_commands import guest_runs
 from dt_commands.repository import TOP
-from dt_commands.texts import contents
+from dt_commands.texts import contents, write_file
 
 SAMPLES = f"{TOP}/samples"
 # What a run gave: its status, what came on standard output and on standard error, and what the file has that it was to write.
@@ -43,8 +43,7 @@ def lines():
 def ran(line, closed, room):
     """Runs a command line with these streams closed."""
     file = f"{room}/file"
-    with open(file, "wb") as it:
-        it.write(OLD)
+    write_file(file, OLD)
     words = [guest_runs.program(), *(it.replace(FILE, file) for it in line.words)]
     shell = ["sh", "-c", f'exec "$@" {" ".join(REDIRECTIONS[it] for it in closed)}', "sh", *words]
     done = subprocess.run(shell, input=INPUT, stdout=subprocess.PIPE, stderr=subprocess.PIPE)

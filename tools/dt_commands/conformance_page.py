@@ -1,6 +1,7 @@
 """The page docs/CONFORMANCE.md: each sentence with the row that pins it, of tools/changes, and the named bodies that the prover refuses."""
 from dt_commands import changes, named_bodies
 from dt_commands.repository import TOP
+from dt_commands.texts import read_text
 
 FORM = f"{TOP}/tools/pages/conformance.md"
 
@@ -20,4 +21,4 @@ def page():
     every = [changes.Change(it) for it in changes.names()]
     tests, programs = (" or ".join(f"`{it}`" for it in crates) for crates in (changes.ROWS, changes.PROGRAMS))
     parts = "".join(rows(it, every) for it in changes.PARTS)
-    return changes.read(FORM).format(count=len(every), tests=tests, programs=programs, parts=parts, named=named_bodies.table())
+    return read_text(FORM).format(count=len(every), tests=tests, programs=programs, parts=parts, named=named_bodies.table())

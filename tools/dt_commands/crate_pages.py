@@ -3,6 +3,7 @@ import os
 import re
 
 from .repository import TOP
+from .texts import read_text
 
 # The list of limits: what is limited, and the crate, the file and the name of the definition with the number.
 LIMITS = [
@@ -16,15 +17,10 @@ LIMITS = [
 ]
 
 
-def read(file):
-    with open(file, encoding="utf-8") as it:
-        return it.read()
-
-
 def sections():
     """Returns the sections of crates.txt, in its order: a heading each, with the names of its crates."""
     found = [("", [])]
-    for line in read(f"{TOP}/crates.txt").split("\n"):
+    for line in read_text(f"{TOP}/crates.txt").split("\n"):
         if line.startswith("#"):
             found.append((line.lstrip("# ").strip(), []))
         elif ":" in line:
@@ -37,7 +33,7 @@ def first_sentence(crate):
     for root in ("lib.rt", "main.rt"):
         file = f"{TOP}/crates/{crate}/src/{root}"
         if os.path.exists(file):
-            lines = re.match(r"(?://!.*\n)*", read(file))[0]
+            lines = re.match(r"(?://!.*\n)*", read_text(file))[0]
             paragraph = re.sub(r"^//! ?", "", lines, flags=re.M).split("\n\n")[0]
             words = " ".join(paragraph.split())
             if not words:
@@ -63,7 +59,7 @@ def page():
 
 def value(crate, file, name):
     """Returns the number of a definition as a page writes it."""
-    found = re.search(rf"^{name} = (.*)$", read(f"{TOP}/crates/{crate}/specs/{file}.antt"), re.M)
+    found = re.search(rf"^{name} = (.*)$", read_text(f"{TOP}/crates/{crate}/specs/{file}.antt"), re.M)
     if not found:
         raise SystemExit(f"{crate}/specs/{file}.antt: no number {name}")
     number = found[1].replace("_", "")

@@ -5,6 +5,7 @@ import shlex
 
 from dt_commands import gdb_transcripts
 from dt_commands.repository import TOP
+from dt_commands.texts import read_text
 
 PAGE = "docs/DEBUGGING.md"
 PART = re.compile(r"(<!-- generated: session (\S+) -->\n).*?(<!-- end of generated: session \2 -->)", re.S)
@@ -23,5 +24,4 @@ def shown(session):
 
 def page():
     """Returns the page with its transcripts as the sessions have them."""
-    with open(f"{TOP}/{PAGE}", encoding="utf-8") as it:
-        return PART.sub(lambda found: found[1] + shown(gdb_transcripts.read(found[2])) + found[3], it.read())
+    return PART.sub(lambda found: found[1] + shown(gdb_transcripts.read(found[2])) + found[3], read_text(f"{TOP}/{PAGE}"))

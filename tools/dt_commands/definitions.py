@@ -3,6 +3,7 @@ import os
 import re
 
 from .repository import TOP, crates
+from .texts import read_text
 
 # The functions that carry the headline, by crate.
 CARRIERS = [("runtime", "run"), ("runtime", "run_into"), ("runtime", "run_recorded")]
@@ -15,11 +16,6 @@ def sources(folder, ending):
     for where, _, names in sorted(os.walk(folder)):
         if "/out" not in where:
             yield from (f"{where}/{it}" for it in sorted(names) if it.endswith(ending))
-
-
-def read(file):
-    with open(file, encoding="utf-8") as it:
-        return it.read()
 
 
 def without_comments(text):
@@ -44,7 +40,7 @@ class Module:
 
     def __init__(self, crate, file):
         self.file = file
-        text = read(file)
+        text = read_text(file)
         self.items, self.modules = imported(text)
         self.texts = {}
         heads = list(HEAD.finditer(text))
@@ -86,7 +82,7 @@ def used(text, items, aliases, own, path):
 def contract(crate, function):
     """Returns the contract of a public function and what it refers to; None if the crate has no such function."""
     for file in sources(f"{TOP}/crates/{crate}/src", ".rt"):
-        text = read(file)
+        text = read_text(file)
         head = re.search(rf"^pub fn {function}\b.*?^\{{", text, re.M | re.S)
         if head:
             clauses = re.findall(r"^    (?:requires|ensures).*?(?=^    (?:requires|ensures)|\Z|^\{)", head[0], re.M | re.S)

@@ -5,6 +5,7 @@ import subprocess
 import time
 
 from dt_commands import guest_runs
+from dt_commands.texts import read_text
 
 PACKET = re.compile(rb"\$([^#]*)#..")
 # How a stop begins at which a thread was created.
@@ -59,8 +60,7 @@ class Debugged:
 
     def processor_seconds(self):
         """Returns how much processor time it took so far."""
-        with open(f"/proc/{self.process.pid}/stat", encoding="utf-8") as it:
-            fields = it.read().rpartition(")")[2].split()
+        fields = read_text(f"/proc/{self.process.pid}/stat").rpartition(")")[2].split()
         return (int(fields[11]) + int(fields[12])) / os.sysconf("SC_CLK_TCK")
 
     def __enter__(self):

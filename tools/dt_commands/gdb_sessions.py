@@ -26,6 +26,7 @@ import time
 from dt_commands import guest_runs
 from dt_commands.gdb_transcripts import FOLDER, INTERRUPT, KILL, PROMPT, SILENT, Session, faults, names, rewritten, text_of
 from dt_commands.progress import Progress
+from dt_commands.texts import read_text, write_file
 
 PACKAGES = {"gdb-multiarch": "gdb-multiarch", "riscv64-unknown-elf-gcc": "gcc-riscv64-unknown-elf"}
 # How long a command may take, and how long after its command gdb is interrupted or killed, in seconds.
@@ -45,8 +46,7 @@ class Debugger:
     def __init__(self, session, program, room):
         self.room, self.limit = room, int(session.head.get("seconds", LIMIT))
         # (the debugged program's own process is in a session of its own: what it is, it writes down itself)
-        with open(f"{room}/dthreads", "w", encoding="utf-8") as it:
-            it.write(f"#!/bin/sh\necho $$ > {room}/pid\nexec {shlex.quote(guest_runs.program())} \"$@\"\n")
+        write_file(f"{room}/dthreads", f"#!/bin/sh\necho $$ > {room}/pid\nexec {shlex.quote(guest_runs.program())} \"$@\"\n")
         os.chmod(f"{room}/dthreads", 0o755)
         settings = [word for it in SETTINGS for word in ("-iex", it)]
         words = [f"{guest_runs.KIT}/dthreads-gdb", program, *session.words("options"), "--", "-nx", *settings]
@@ -101,8 +101,7 @@ class Debugger:
 
     def left(self, limit=10):
         """Whether the program that debugs is still there after some seconds; if so, it is ended."""
-        with open(f"{self.room}/pid", encoding="utf-8") as it:
-            number = int(it.read())
+        number = int(read_text(f"{self.room}/pid"))
         end = time.time() + limit
         while os.path.exists(f"/proc/{number}") and time.time() < end:
             time.sleep(0.02)
@@ -160,8 +159,7 @@ def write(options):
             raise SystemExit(f"{session.name}: {found if isinstance(found, str) else SILENT}")
         fresh = rewritten(text, session, found[0])
         if fresh != text:
-            with open(f"{FOLDER}/{session.name}.session", "w", encoding="utf-8") as it:
-                it.write(fresh)
+            write_file(f"{FOLDER}/{session.name}.session", fresh)
             print(f"{session.name}: written")
     return 0
 

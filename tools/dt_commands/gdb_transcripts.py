@@ -6,6 +6,7 @@ import signal
 
 from dt_commands import guest_runs
 from dt_commands.repository import TOP
+from dt_commands.texts import read_text
 
 FOLDER = f"{guest_runs.KIT}/tests/gdb"
 PROMPT, INTERRUPT, KILL, ANY = "(gdb) ", "^C", "^KILL", "..."
@@ -52,8 +53,7 @@ class Session:
 
 
 def text_of(name):
-    with open(f"{FOLDER}/{name}.session", encoding="utf-8") as it:
-        return it.read()
+    return read_text(f"{FOLDER}/{name}.session")
 
 
 def read(name):

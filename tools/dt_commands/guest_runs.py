@@ -7,7 +7,7 @@ import time
 from collections import namedtuple
 
 from dt_commands.repository import TOP
-from dt_commands.texts import contents, first_difference
+from dt_commands.texts import contents, first_difference, read_text
 
 KIT = f"{TOP}/guest"
 WORKERS = (1, 2, 4, 64)
@@ -39,8 +39,7 @@ def built(words, out, folder=None):
 
 def memory_of(process):
     """Returns how many KiB a process had at most so far, 0 if it has ended."""
-    with open(f"/proc/{process.pid}/status", encoding="utf-8") as it:
-        found = re.search(r"VmHWM:\s+(\d+)", it.read())
+    found = re.search(r"VmHWM:\s+(\d+)", read_text(f"/proc/{process.pid}/status"))
     return int(found[1]) if found else 0
 
 

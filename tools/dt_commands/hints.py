@@ -15,7 +15,7 @@ from collections import namedtuple
 from dt_commands import guest_runs, guest_tests
 from dt_commands.gdb_packets import Debugged
 from dt_commands.progress import Progress
-from dt_commands.texts import contents, first_difference
+from dt_commands.texts import contents, first_difference, write_file
 
 NAME = "hints"
 WANTED = f"{guest_tests.FOLDER}/{NAME}.wanted"
@@ -171,8 +171,7 @@ def built(name, room):
 def rows(room):
     """Returns the text of the rows, and what is wrong with the whole trace."""
     program, given = built(NAME, room), f"{room}/input"
-    with open(given, "w", encoding="utf-8") as file:
-        file.write("a line of input\n" * 2000)
+    write_file(given, "a line of input\n" * 2000)
     found, hints = Rows(program), traced(program, given)
     for it in hints:
         found.take(it)
@@ -207,6 +206,5 @@ def write(options):
         text, wrong = rows(room)
     for it in wrong:
         print(it, file=sys.stderr)
-    with open(WANTED, "w", encoding="utf-8") as file:
-        file.write(text)
+    write_file(WANTED, text)
     return 1 if wrong else 0

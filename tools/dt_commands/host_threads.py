@@ -3,7 +3,6 @@ too, since the gate calls this for the one that it built.
 
 DTHREADS names the program to run the guests with, or else ./dthreads.
 """
-import os
 import re
 import resource
 import subprocess
@@ -11,6 +10,7 @@ import tempfile
 import time
 
 from dt_commands import closed_streams, fixed_guests, guest_runs
+from dt_commands.texts import write_file
 
 # Workers, threads of the guest that have long work in one phase, and how many host threads there are then.
 ROWS = [(1, 5, 1), (2, 2, 2), (2, 5, 2), (3, 5, 3), (4, 3, 3), (64, 1, 1), (64, 2, 2), (64, 5, 5)]
@@ -51,8 +51,7 @@ def started(file, workers, wanted):
 def count_fails_in(room, guest, workers, wanted, what):
     """Counts host threads of an endless run. Returns whether it has others than it should."""
     file = f"{room}/guest.elf"
-    with open(file, "wb") as it:
-        it.write(guest)
+    write_file(file, guest)
     found = started(file, workers, wanted)
     print(f"{workers} workers, {what}: {found} host threads{'' if found == wanted else f', not {wanted}'}", flush=True)
     return found != wanted
@@ -78,8 +77,7 @@ def wait_fails(room):
     """Looks at the processor time of runs in which all but one thread wait. Returns how many took more than their time."""
     file, failed = f"{room}/waiting.elf", 0
     for workers, rounds in WAITING:
-        with open(file, "wb") as it:
-            it.write(fixed_guests.waiting(rounds))
+        write_file(file, fixed_guests.waiting(rounds))
         before, begun = processor_seconds(), time.monotonic()
         words = [guest_runs.program(), "run", file, "--workers", str(workers), "--bound", BOUND]
         ran = subprocess.run(words, stdin=subprocess.DEVNULL, stdout=subprocess.DEVNULL, stderr=subprocess.DEVNULL)

@@ -18,6 +18,7 @@ import sys
 from dt_commands import built_from, executable, installed_pages, release
 from dt_commands.progress import Progress
 from dt_commands.repository import TOP
+from dt_commands.texts import read_text, write_file
 
 # The folders below the prefix.
 BIN, SHARE, DOC, MAN = "bin", "share/dthreads", "share/doc/dthreads", "share/man/man1"
@@ -49,9 +50,7 @@ def program():
 
 def put(data, file):
     """Writes an executable file in one step, so that a run of the old one goes on."""
-    with open(f"{file}.new", "wb") as it:
-        it.write(data)
-    os.chmod(f"{file}.new", 0o755)
+    write_file(f"{file}.new", data, 0o755)
     os.replace(f"{file}.new", file)
 
 
@@ -97,10 +96,8 @@ def install_picture(prefix):
 
 def write_installed(page, file):
     """Writes a page as it is installed in place of a copy of it."""
-    with open(file, encoding="utf-8") as it:
-        text = it.read()
-    with open(file, "w", encoding="utf-8") as it:
-        it.write(installed_pages.installed(page, text))
+    text = read_text(file)
+    write_file(file, installed_pages.installed(page, text))
 
 
 def install_pages(prefix):

@@ -11,6 +11,7 @@ import os
 import re
 
 from .repository import TOP
+from .texts import read_text
 
 # The sections of the product, in the order of their layers.
 PRODUCT = ["ground", "machine", "memory", "calls", "law", "hands", "schedules", "debugging", "records", "program"]
@@ -62,8 +63,7 @@ def complaints(text, folders):
 
 def check(options):
     """Checks that crates.txt shows the layers: sections in their order, each crate on earlier lines alone."""
-    with open(f"{TOP}/crates.txt", encoding="utf-8") as it:
-        text = it.read()
+    text = read_text(f"{TOP}/crates.txt")
     found = complaints(text, sorted(os.listdir(f"{TOP}/crates")))
     for it in found:
         print(f"crates.txt: {it}")

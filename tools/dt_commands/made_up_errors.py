@@ -14,6 +14,7 @@ import os
 import re
 
 from .repository import TOP
+from .texts import read_text
 
 # What holds no code: comments, texts, imports, attributes, contracts and what else is for proofs, and the declarations of types.
 NO_CODE = re.compile(
@@ -108,17 +109,12 @@ def files_of(top):
             yield from (f"{folder}/{it}" for it in sorted(names) if it.endswith(".rt"))
 
 
-def read(file):
-    with open(file, encoding="utf-8") as it:
-        return it.read()
-
-
 def test_modules(files):
     """Returns the files and folders of the modules that are there for tests alone."""
     found = set()
     for file in files:
         base = os.path.dirname(file) if re.search(r"/(lib|main)\.rt$", file) else file[:-3]
-        for name in re.findall(r"#\[cfg\(test\)\]\s*(?:pub\(\w+\) )?mod (\w+);", read(file)):
+        for name in re.findall(r"#\[cfg\(test\)\]\s*(?:pub\(\w+\) )?mod (\w+);", read_text(file)):
             found |= {f"{base}/{name}.rt", f"{base}/{name}/"}
     return found
 
@@ -131,7 +127,7 @@ def lines_found(top):
         name = os.path.relpath(file, top)
         if name in FAKES or any(file == it or it.endswith("/") and file.startswith(it) for it in tests):
             continue
-        text = read(file)
+        text = read_text(file)
         lines = text.split("\n")
         found += [(name, number, what, lines[number - 1].strip()) for number, what in complaints(text)]
     return len(files), found

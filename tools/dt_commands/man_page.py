@@ -7,6 +7,7 @@ import re
 import textwrap
 
 from dt_commands.repository import TOP
+from dt_commands.texts import read_text
 
 # What it is made of, the page, and what is before and behind the sections.
 SOURCE, FILE, FORM = "docs/CLI.md", "man/dthreads.1", "tools/pages/dthreads.1"
@@ -18,8 +19,7 @@ PLAIN = "meaning"
 VERSION, DATE = "crates/command_requests/src/commands.rt", "2026-11-26"
 
 def read(page):
-    with open(f"{TOP}/{page}", encoding="utf-8") as it:
-        return it.read()
+    return read_text(f"{TOP}/{page}")
 
 
 def escaped(text):

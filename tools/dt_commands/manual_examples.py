@@ -11,7 +11,7 @@ import tempfile
 
 from dt_commands import guest_runs
 from dt_commands.progress import Progress
-from dt_commands.texts import contents, rows_of
+from dt_commands.texts import contents, rows_of, write_file
 
 WANTED = f"{guest_runs.KIT}/tests/manual"
 PAGES = os.environ.get("MANUAL") or "/usr/share/man/man3"
@@ -49,8 +49,7 @@ def program_of(page):
 
 def test_example(tally, room, page, name, *words):
     source, elf = f"{room}/{page}.c", f"{room}/program.elf"
-    with open(source, "w", encoding="utf-8") as it:
-        it.write(program_of(page))
+    write_file(source, program_of(page))
     said = guest_runs.compiled(["-O2", "-w", *(f"--argument={it}" for it in words), source], elf)
     if said is not None:
         tally.fail(f"{said}{page}: doesn't build")

@@ -5,7 +5,7 @@ import time
 
 from dt_commands import c_samples, guest_runs
 from dt_commands.progress import Progress
-from dt_commands.texts import contents
+from dt_commands.texts import contents, write_file
 
 BOUND = "100000000000"
 # What makes a sample larger, and how often its input then has the text of the small one's.
@@ -81,5 +81,4 @@ class Prepared:
         if is_larger:
             words = ["-O2", "-s", "-DCHECK=0", *LARGER[sample.name], f"{c_samples.FOLDER}/{sample.name}.c"]
             self.program = guest_runs.built(words, f"{room}/{sample.name}.elf")
-        with open(self.given, "wb") as it:
-            it.write(text * (REPEATED if is_larger else 1))
+        write_file(self.given, text * (REPEATED if is_larger else 1))

@@ -4,6 +4,7 @@ import os
 import re
 
 from .repository import TOP
+from .texts import read_text
 
 
 def pages():
@@ -12,8 +13,7 @@ def pages():
 
 
 def read(page):
-    with open(f"{TOP}/{page}", encoding="utf-8") as it:
-        return re.sub(r"^```.*?^```$", "", it.read(), flags=re.M | re.S)
+    return re.sub(r"^```.*?^```$", "", read_text(f"{TOP}/{page}"), flags=re.M | re.S)
 
 
 def anchors(text):

@@ -15,6 +15,7 @@ import re
 
 from . import conformance_page, crate_pages, debugging_page, definitions, layer_picture, man_page, page_links, uncontracted
 from .repository import TOP
+from .texts import read_text, write_file
 
 
 # The pages that are read as a whole, and how many bytes each may have.
@@ -22,8 +23,7 @@ LIMITS = {"README.md": 9_500, "docs/C.md": 7_168, "docs/CLEAN-RUNS.md": 4_096, "
 
 
 def read(page):
-    with open(f"{TOP}/{page}", encoding="utf-8") as it:
-        return it.read()
+    return read_text(f"{TOP}/{page}")
 
 
 def with_part(page, name, text):
@@ -60,7 +60,7 @@ def misquoted():
     sources = set()
     for file in definitions.sources(f"{TOP}/crates", (".antt", ".rt")):
         if "/proofs/" not in file:
-            sources |= {it.strip() for it in definitions.read(file).split("\n")}
+            sources |= {it.strip() for it in read_text(file).split("\n")}
     return [f"{page}: {line}" for page, line in quoted() if line.strip() not in sources]
 
 
@@ -114,8 +114,7 @@ def write(options):
     """Writes the generated parts of the pages."""
     differ = differing()
     for page, text in differ.items():
-        with open(f"{TOP}/{page}", "w", encoding="utf-8") as it:
-            it.write(text)
+        write_file(f"{TOP}/{page}", text)
         print(f"{page}: written")
     wrong = told_wrong()
     if not differ and not wrong:

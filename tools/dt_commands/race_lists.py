@@ -12,7 +12,7 @@ import tempfile
 from dt_commands import c_samples, guest_runs, guest_tests
 from dt_commands.progress import Progress
 from dt_commands.repository import TOP
-from dt_commands.texts import rows_of
+from dt_commands.texts import read_text, rows_of
 
 SOURCE = "guest/tests/races/cases.c"
 WORKERS, QUANTA, SECONDS = (1, 2, 3, 4, 64), (1, 7, 1000), 120
@@ -68,8 +68,7 @@ def list_of(elf, words=(), given=None):
         ran = subprocess.run(command, stdin=it, stdout=subprocess.DEVNULL, stderr=subprocess.PIPE, timeout=SECONDS, check=False)
         if not os.path.exists(races):
             return f"no list: status {ran.returncode}, {ran.stderr[:200].decode(errors='replace')}"
-        with open(races, encoding="utf-8") as text:
-            return text.read()
+        return read_text(races)
 
 
 def test_case(tally, room, name, wanted):

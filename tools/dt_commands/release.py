@@ -10,6 +10,7 @@ import sys
 
 from dt_commands import built_from, executable, toolchain
 from dt_commands.repository import TOP
+from dt_commands.texts import write_file
 
 FILE, RECORD = "release/x86_64-linux/dthreads", "release/sources.sha256"
 BUILT = f"{TOP}/crates/command/out/command"
@@ -110,12 +111,8 @@ def make(top=TOP, version=None):
         say("no program built from these sources is here: run `./dthreads --build` or `.ci/run` first")
         return 1
     text, data = built_from.listed(top), executable.stripped(bytes_of(f"{top}/crates/command/out/command"))
-    os.makedirs(os.path.dirname(f"{top}/{FILE}"), exist_ok=True)
-    part = f"{top}/{FILE}.part"
-    with open(part, "wb") as it:
-        it.write(data)
-    os.chmod(part, 0o755)
-    os.replace(part, f"{top}/{FILE}")
+    write_file(f"{top}/{FILE}.part", data, 0o755)
+    os.replace(f"{top}/{FILE}.part", f"{top}/{FILE}")
     built_from.write(f"{top}/{RECORD}", version or toolchain.version(), text)
     say(f"{FILE} has {len(data):,} bytes, sha256 {sum_of(data)}; {RECORD} lists {len(built_from.named(text))} sources")
     return 0

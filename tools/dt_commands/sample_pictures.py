@@ -7,7 +7,7 @@ import os
 
 from dt_commands import picture_run, picture_svg, timelines
 from dt_commands.repository import TOP
-from dt_commands.texts import contents
+from dt_commands.texts import contents, write_file
 
 SAMPLES, NAME = f"{TOP}/samples", "race"
 TIMELINE, RACES, PICTURE = f"{SAMPLES}/{NAME}.timeline", f"{SAMPLES}/{NAME}.races", f"{TOP}/docs/pictures/{NAME}.svg"
@@ -46,8 +46,6 @@ def check(options):
 def write(options):
     """Draws the picture in the pages."""
     for file, text in differing().items():
-        os.makedirs(os.path.dirname(file), exist_ok=True)
-        with open(file, "w", encoding="utf-8") as it:
-            it.write(text)
+        write_file(file, text)
         print(f"{os.path.relpath(file, TOP)}: written")
     return check(options)

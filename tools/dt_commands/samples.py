@@ -10,7 +10,7 @@ import subprocess
 
 from dt_commands import written_guests
 from dt_commands.repository import TOP
-from dt_commands.texts import contents
+from dt_commands.texts import contents, write_file
 
 DATA, SAMPLES = written_guests.DATA, f"{TOP}/samples"
 ENDINGS = ("elf", "listing", "trace", "report", "schedule")
@@ -54,8 +54,7 @@ def made():
 def write(options):
     """Makes the ELF files of the samples, and copies all to samples/."""
     for file, data in made().items():
-        with open(file, "wb") as it:
-            it.write(data)
+        write_file(file, data)
     for copy, source in copies().items():
         shutil.copyfile(source, copy)
     subprocess.run(["git", "-C", TOP, "status", "--short", "samples", DATA, os.path.dirname(OF_COMMAND)])

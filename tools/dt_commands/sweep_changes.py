@@ -11,9 +11,10 @@ import subprocess
 import tempfile
 
 from dt_commands import changes, lanes
-from dt_commands.changed_copy import copy, write
+from dt_commands.changed_copy import copy
 from dt_commands.changes import PROGRAMS, ROWS
 from dt_commands.progress import Progress
+from dt_commands.texts import write_file
 
 
 def rt_try(crate, words, seconds):
@@ -38,8 +39,8 @@ def write_cases(cases, words, numbered):
     change on all these rows.
     """
     for number, rows in [(0, sorted(set(numbered.values()))), *((it, [row]) for it, row in numbered.items())]:
-        write(f"{cases}/change_{number}", f"{number}\n")
-        write(f"{cases}/change_{number}.args", "\n".join([*words, *rows]) + "\n")
+        write_file(f"{cases}/change_{number}", f"{number}\n")
+        write_file(f"{cases}/change_{number}.args", "\n".join([*words, *rows]) + "\n")
 
 
 def cases_in(said):

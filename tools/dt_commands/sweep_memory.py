@@ -25,7 +25,7 @@ from dt_commands import fixed_guests
 from dt_commands.gdb_packets import framed
 from dt_commands.progress import Progress
 from dt_commands.repository import TOP
-from dt_commands.texts import contents
+from dt_commands.texts import contents, write_file
 
 OUT_OF_MEMORY = (125, b"out of memory\n")
 # How much of a wrong answer is shown.
@@ -235,8 +235,7 @@ def by_workers(room, program):
     """Yields the sweeps of the gate, each with its name: two guests with long jobs by two and by four workers."""
     for guest, code in (("racing", fixed_guests.racing()), ("gaps", fixed_guests.gaps())):
         file = f"{room}/{guest}.elf"
-        with open(file, "wb") as it:
-            it.write(code)
+        write_file(file, code)
         for workers in "24":
             words = [program, "run", file, "--workers", workers]
             yield f"run {guest}, {workers} workers", Sweep(room, words, seconds=GATE_SECONDS)

@@ -12,7 +12,7 @@ import time
 
 from dt_commands import guest_runs, random_guests
 from dt_commands.progress import Progress
-from dt_commands.texts import contents
+from dt_commands.texts import contents, write_file
 
 WORKERS = [1, 2, 3, 4, 8, 64]
 INPUT = b"some input to be read by several threads"
@@ -49,8 +49,7 @@ def tries(seed, room):
     """Returns whether all runs of a seed's program are one, and what the first of them gave."""
     source = random.Random(seed)
     file = f"{room}/seed-{seed}.elf"
-    with open(file, "wb") as it:
-        it.write(random_guests.guest(source))
+    write_file(file, random_guests.guest(source))
     limits = limits_of(source)
     wanted = outcome(room, file, WORKERS[0], limits)
     for workers in WORKERS[1:]:

@@ -24,7 +24,7 @@ import types
 from dt_commands import lanes, toolchain
 from dt_commands.progress import minutes
 from dt_commands.repository import TOP, below, crates
-from dt_commands.texts import contents, first_difference
+from dt_commands.texts import contents, first_difference, write_file
 from dt_mutants.edits import BadEdit, made, pairs_of, text_of
 from dt_mutants.progress import processor_seconds
 
@@ -117,16 +117,10 @@ def as_unproved(folder):
     with tempfile.TemporaryDirectory(prefix="dt-test-") as top:
         for it in below(name):
             shutil.copytree(f"{crates_folder}/{it}", f"{top}/crates/{it}", ignore=unread)
-        write(f"{top}/crates.txt", "".join(f"{it}: {' '.join(crates()[it])}\n" for it in below(name)))
+        write_file(f"{top}/crates.txt", "".join(f"{it}: {' '.join(crates()[it])}\n" for it in below(name)))
         for path, text in texts.items():
-            write(f"{top}/crates/{name}/{path}", text)
+            write_file(f"{top}/crates/{name}/{path}", text)
         yield f"{top}/crates/{name}"
-
-
-def write(file, text):
-    os.makedirs(os.path.dirname(file), exist_ok=True)
-    with open(file, "w", encoding="utf-8") as it:
-        it.write(text)
 
 
 def wanted_of(folder):
@@ -192,7 +186,7 @@ def expected_seconds(folder):
 
 
 def keep_seconds(folder, results):
-    write(f"{folder}/out/test.seconds", f"{sum(it.seconds for it in results):.1f}\n")
+    write_file(f"{folder}/out/test.seconds", f"{sum(it.seconds for it in results):.1f}\n")
 
 
 def show(name, result):

@@ -10,6 +10,21 @@ def contents(file):
         return it.read()
 
 
+def read_text(file):
+    """Returns the text of a file, which must be there."""
+    with open(file, encoding="utf-8") as it:
+        return it.read()
+
+
+def write_file(file, text, mode=None):
+    """Writes a file, of text or of bytes, in a folder that is made if it isn't there."""
+    os.makedirs(os.path.dirname(os.path.abspath(file)), exist_ok=True)
+    with open(file, "wb") as it:
+        it.write(text if isinstance(text, (bytes, bytearray)) else text.encode())
+    if mode is not None:
+        os.chmod(file, mode)
+
+
 def rows_of(file):
     """Returns the rows of a list, each as its words. Empty lines and those that begin with # are none."""
     with open(file, encoding="utf-8") as lines:

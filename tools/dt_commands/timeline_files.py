@@ -19,7 +19,7 @@ from collections import namedtuple
 from dt_commands import c_samples, changed_pages, guest_runs, guest_tests, random_guests, sample_pictures, timelines, written_guests
 from dt_commands.progress import Progress
 from dt_commands.repository import TOP
-from dt_commands.texts import contents, first_difference, rows_of
+from dt_commands.texts import contents, first_difference, rows_of, write_file
 
 SECONDS, SEEDS, PAGE = 120, range(1, 61), 4096
 # A quantum that would give a run more turns than these is left out.
@@ -79,8 +79,7 @@ def known_pages(guest, file, quantum, texts, room):
         return written_guests.pages(turns, guest.changed)
     pages = timelines.pages_if_one(trace, report)
     if pages is None and changed_pages.is_short(turns, addresses):
-        with open(f"{room}/input", "wb") as it:
-            it.write(guest.given)
+        write_file(f"{room}/input", guest.given)
         words = [*guest.words, *(["--quantum", str(quantum)] if quantum else []), "--input", f"{room}/input"]
         pages = changed_pages.pages(file, words, turns, addresses)
     return pages or {}
@@ -149,8 +148,7 @@ def writer(data):
     """Returns what writes these bytes to a file."""
 
     def write(file):
-        with open(file, "wb") as it:
-            it.write(data)
+        write_file(file, data)
 
     return write
 

@@ -11,8 +11,6 @@ from collections import defaultdict, namedtuple
 LINE = re.compile(r"(\d+) (\d+) (\S.*) changed=(\d+) ran=(\d+)")
 # A turn: its number, from 1 on, phase, thread, what the trace says that it did, how many bytes it changed, and its instructions.
 Turn = namedtuple("Turn", "number phase thread text changed ran")
-# The calls that may wait.
-WAITS = ("join", "wait", "barrier")
 
 
 def turns_of(trace):

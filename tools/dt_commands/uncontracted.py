@@ -4,6 +4,7 @@ import re
 from dt_commands import layers
 from dt_commands.made_up_errors import files_of
 from dt_commands.repository import TOP
+from dt_commands.texts import read_text
 from dt_mutants.functions import functions_of
 
 PUBLIC = re.compile(r"^ *pub (?:const )?fn ", re.M)
@@ -37,13 +38,11 @@ def told(counts):
 
 def listed():
     """Returns the sentence for the product's crates, in the order of crates.txt."""
-    with open(f"{TOP}/crates.txt", encoding="utf-8") as it:
-        rows = list(layers.rows_of(it.read()))
+    rows = list(layers.rows_of(read_text(f"{TOP}/crates.txt")))
     counts = {name: [0, 0] for section, name, _ in rows if section in layers.PRODUCT}
     for file in files_of(TOP):
         crate = file[len(TOP) + 1 :].split("/")[1]
         if crate in counts:
-            with open(file, encoding="utf-8") as it:
-                found = counted(file, it.read())
+            found = counted(file, read_text(file))
             counts[crate] = [old + new for old, new in zip(counts[crate], found)]
     return told(counts)

@@ -14,6 +14,8 @@ from unittest import mock
 from dt_commands import build, built_from, lanes, toolchain
 from dt_commands.progress import minutes
 from dt_commands.repository import TOP
+from dt_commands.texts import read_text
+from rooms import WithRoom
 
 class Lanes(unittest.TestCase):
     def test_there_is_a_lane_at_least(self):
@@ -111,26 +113,19 @@ esac
 """
 
 
-class Whole(unittest.TestCase):
+class Whole(WithRoom):
     """Whole builds by ./dthreads in a checkout of four crates, with that command rt."""
 
     def setUp(self):
-        room = tempfile.TemporaryDirectory()
-        self.addCleanup(room.cleanup)
-        self.top, self.notes = f"{room.name}/top", f"{room.name}/notes"
+        super().setUp()
+        self.top, self.notes = f"{self.room}/top", f"{self.room}/notes"
         shutil.copytree(f"{TOP}/tools/dt_commands", f"{self.top}/tools/dt_commands", ignore=shutil.ignore_patterns("__pycache__"))
         for file in ("dthreads", "tools/dt", "tools/list-sources"):
             shutil.copy(f"{TOP}/{file}", f"{self.top}/{file}")
-        self.write("crates.txt", "low:\nside:\nhigh: low\ncommand: high side\n")
+        self.write("top/crates.txt", "low:\nside:\nhigh: low\ncommand: high side\n")
         for name, lines in (("low", 9), ("side", 1), ("high", 9), ("command", 1)):
-            self.write(f"crates/{name}/src/lib.rt", "//! Some.\n" * lines)
-        self.write("bin/rt", RT)
-        os.chmod(f"{self.top}/bin/rt", 0o755)
-
-    def write(self, file, text):
-        os.makedirs(os.path.dirname(f"{self.top}/{file}"), exist_ok=True)
-        with open(f"{self.top}/{file}", "w", encoding="utf-8") as it:
-            it.write(text)
+            self.write(f"top/crates/{name}/src/lib.rt", "//! Some.\n" * lines)
+        self.write("top/bin/rt", RT, 0o755)
 
     def ran(self, *words, **environment):
         """Runs ./dthreads, and returns what it wrote and what it asked rt for."""
@@ -139,8 +134,7 @@ class Whole(unittest.TestCase):
         how = {"stdout": subprocess.PIPE, "stderr": subprocess.PIPE, "universal_newlines": True}
         ran = subprocess.run([f"{self.top}/dthreads", *words], env=environment, **how)
         self.status, self.said = ran.returncode, ran.stderr
-        with open(self.notes, encoding="utf-8") as it:
-            return ran.stdout, it.read().splitlines()
+        return ran.stdout, read_text(self.notes).splitlines()
 
     def test_the_crates_are_built_and_the_program_is_started(self):
         wrote, asked = self.ran("run", "x y")

@@ -4,6 +4,7 @@ import re
 import unittest
 
 from dt_commands.repository import TOP
+from dt_commands.texts import read_text
 from dt_mutants import weak
 from dt_mutants.edits import edits_of
 
@@ -25,8 +26,7 @@ class Edits(unittest.TestCase):
         self.assertEqual(len(there), count)
 
     def test_must_fail_has_wrong_bodies_with_a_name_alone(self):
-        with open(f"{TOP}/docs/CONFORMANCE.md", encoding="utf-8") as it:
-            table = it.read().partition("## Wrong bodies with a name")[2].partition("\n## ")[0]
+        table = read_text(f"{TOP}/docs/CONFORMANCE.md").partition("## Wrong bodies with a name")[2].partition("\n## ")[0]
         named = re.findall(r"`(\w+/\w+)`", table)
         found = [repr(it) for at in folders() for it in edits_of(os.path.basename(at), at, "must-fail")]
         others = [repr(it) for at in folders() for it in edits_of(os.path.basename(at), at, "mutants")]

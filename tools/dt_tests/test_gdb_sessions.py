@@ -7,6 +7,8 @@ import unittest
 from unittest import mock
 
 from dt_commands import debugging_page, gdb_sessions, gdb_transcripts, guest_runs
+from dt_commands.texts import write_file
+from rooms import WithRoom
 
 TEXT = """# A remark.
 program: a.c -g
@@ -50,9 +52,7 @@ def session(text=TEXT, name="a"):
 
 
 def script(file, text):
-    with open(file, "w", encoding="utf-8") as it:
-        it.write(text)
-    os.chmod(file, 0o755)
+    write_file(file, text, 0o755)
 
 
 class Reading(unittest.TestCase):
@@ -132,14 +132,12 @@ class Writing(unittest.TestCase):
         self.assertEqual(found, "```\n$ guest/dthreads-cc -O2 -g -o a.elf c/a.c\n$ guest/dthreads-gdb a.elf --input w\n(gdb) run\nno\n```\n")
 
 
-class Running(unittest.TestCase):
+class Running(WithRoom):
     """Sessions with the script in place of gdb, and another one in place of the program that debugs."""
 
     def setUp(self):
-        room = tempfile.TemporaryDirectory()
-        self.addCleanup(room.cleanup)
-        self.room, self.dthreads = room.name, f"{room.name}/program"
-        os.mkdir(f"{self.room}/bin")
+        super().setUp()
+        self.dthreads = f"{self.room}/program"
         script(f"{self.room}/bin/gdb-multiarch", GDB)
         script(self.dthreads, '#!/bin/sh\n[ "$1" = --version ] || { echo ready; cat > /dev/null; }\n')
 

@@ -8,11 +8,12 @@ import random
 import shutil
 import tempfile
 import unittest
-from unittest import mock
 
 from dt_commands import c_page, c_samples, guest_runs, guest_tests, manual_examples, measure_c_samples, random_guests, samples
 from dt_commands import sweep_schedules, texts, written_guests
 from dt_commands.progress import Progress
+from dt_commands.texts import read_text, write_file
+from rooms import WithRoom
 
 PAGE = """.SS Program source
 .EX
@@ -41,8 +42,7 @@ class Texts(unittest.TestCase):
 
     def test_a_list_has_rows_of_words(self):
         with tempfile.TemporaryDirectory() as room:
-            with open(f"{room}/list", "w", encoding="utf-8") as it:
-                it.write("# a remark\n\none  two\nthree\n")
+            write_file(f"{room}/list", "# a remark\n\none  two\nthree\n")
             self.assertEqual(texts.rows_of(f"{room}/list"), [["one", "two"], ["three"]])
 
     def test_progress_says_how_far_it_is(self):
@@ -78,8 +78,7 @@ class Runs(unittest.TestCase):
     def test_each_worker_count_is_a_run_of_a_command(self):
         with tempfile.TemporaryDirectory() as room:
             script = f"{room}/guest"
-            with open(script, "w", encoding="utf-8") as it:
-                it.write('#!/bin/sh\necho "$@"; echo trace > "$4"; [ "$2" != 64 ]\n')
+            write_file(script, '#!/bin/sh\necho "$@"; echo trace > "$4"; [ "$2" != 64 ]\n')
             os.chmod(script, 0o755)
             tally = guest_runs.Tally()
             guest = guest_runs.Guest([script], ["more"])
@@ -115,26 +114,19 @@ class Pages(unittest.TestCase):
 NOTES = '#!/bin/sh\necho "$(basename "$0") $*" >> "$NOTES"\n'
 
 
-class Programs(unittest.TestCase):
+class Programs(WithRoom):
     """What the commands ask of the program test_guest_runs, in a crate's folder of its own."""
 
     def setUp(self):
-        room = tempfile.TemporaryDirectory()
-        self.addCleanup(room.cleanup)
-        self.room, self.notes = room.name, f"{room.name}/notes"
-        os.mkdir(f"{self.room}/out")
+        super().setUp()
+        self.notes = f"{self.room}/notes"
         for file in ("rt", "out/test_guest_runs"):
-            with open(f"{self.room}/{file}", "w", encoding="utf-8") as it:
-                it.write(NOTES)
-            os.chmod(f"{self.room}/{file}", 0o755)
-        how = {"PATH": f"{self.room}:{os.environ['PATH']}", "NOTES": self.notes}
-        for patch in (mock.patch.dict(os.environ, how), mock.patch.object(sweep_schedules, "CRATE", self.room)):
-            patch.start()
-            self.addCleanup(patch.stop)
+            self.write(file, NOTES, 0o755)
+        self.set(PATH=f"{self.room}:{os.environ['PATH']}", NOTES=self.notes)
+        self.patch(sweep_schedules, "CRATE", self.room)
 
     def asked(self):
-        with open(self.notes, encoding="utf-8") as it:
-            return it.read().splitlines()
+        return read_text(self.notes).splitlines()
 
     def test_schedules_are_walked_by_the_built_program(self):
         options = argparse.Namespace(count=7, seed=3)
@@ -142,19 +134,16 @@ class Programs(unittest.TestCase):
         self.assertEqual(self.asked(), ["rt run -- comparison", "test_guest_runs walk 7 3"])
 
 
-class Samples(unittest.TestCase):
+class Samples(WithRoom):
     """The ELF files of samples, in copies of their folders."""
 
     def setUp(self):
-        room = tempfile.TemporaryDirectory()
-        self.addCleanup(room.cleanup)
-        self.data, of_command = f"{room.name}/data", f"{room.name}/letter.elf"
+        super().setUp()
+        self.data, of_command = f"{self.room}/data", f"{self.room}/letter.elf"
         shutil.copytree(samples.DATA, self.data)
         shutil.copyfile(samples.OF_COMMAND, of_command)
         for module, name, value in ((samples, "DATA", self.data), (samples, "OF_COMMAND", of_command), (written_guests, "DATA", self.data)):
-            patch = mock.patch.object(module, name, value)
-            patch.start()
-            self.addCleanup(patch.stop)
+            self.patch(module, name, value)
 
     def test_they_are_as_their_listings(self):
         self.assertEqual(samples.differing(), [])

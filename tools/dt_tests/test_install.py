@@ -4,11 +4,12 @@ import os
 import re
 import shutil
 import subprocess
-import tempfile
 import unittest
 
 from dt_commands import install, installed_pages, man_page, release
 from dt_commands.repository import TOP
+from dt_commands.texts import read_text, write_file
+from rooms import WithRoom
 
 HAS_COMPILER = subprocess.run([f"{TOP}/guest/dthreads-cc", "--version"], stdout=subprocess.DEVNULL, stderr=subprocess.DEVNULL).returncode == 0
 # What no installation reads.
@@ -82,31 +83,27 @@ class Pages(unittest.TestCase):
             installed_pages.installed("README.md", "# Name\n")
 
 
-class OfACopy(unittest.TestCase):
+class OfACopy(WithRoom):
     """Has a copy of the checkout, whose release is of its sources, and installs from it to a prefix."""
 
     is_long = True
 
     def setUp(self):
-        room = tempfile.TemporaryDirectory()
-        self.addCleanup(room.cleanup)
-        self.copy, self.prefix = f"{room.name}/copy", f"{room.name}/prefix"
+        super().setUp()
+        self.copy, self.prefix = f"{self.room}/copy", f"{self.room}/prefix"
         shutil.copytree(TOP, self.copy, symlinks=True, ignore=shutil.ignore_patterns(*UNUSED))
         os.makedirs(f"{self.copy}/crates/command/src")
         self.release()
 
     def release(self):
         """Has the copy's release be of its sources: of the one crate that the program has there, since it is not what this tests."""
-        with open(f"{self.copy}/crates.txt", "w", encoding="utf-8") as it:
-            it.write("command:\n")
-        with open(f"{self.copy}/crates/command/src/main.rt", "w", encoding="utf-8") as it:
-            it.write("//! The program.\n")
+        write_file(f"{self.copy}/crates.txt", "command:\n")
+        write_file(f"{self.copy}/crates/command/src/main.rt", "//! The program.\n")
         record = f"{self.copy}/{release.RECORD}"
         listed = subprocess.run([f"{self.copy}/tools/list-sources"], stdout=subprocess.PIPE, check=True, text=True).stdout
         with open(record, encoding="utf-8") as it:
             version = it.readline()
-        with open(record, "w", encoding="utf-8") as it:
-            it.write(version + listed)
+        write_file(record, version + listed)
 
     def install(self):
         """Installs, and returns what was said."""
@@ -138,8 +135,7 @@ class Library(OfACopy):
     @unittest.skipUnless(HAS_COMPILER, NO_COMPILER)
     def test_the_one_of_the_checkout_serves_as_long_as_no_source_of_it_changed(self):
         os.makedirs(f"{self.copy}/guest/out")
-        with open(f"{self.copy}/{install.LIBRARY}", "w", encoding="utf-8") as it:
-            it.write("a library\n")
+        write_file(f"{self.copy}/{install.LIBRARY}", "a library\n")
         self.install()
         with open(self.share(install.LIBRARY), "rb") as it:
             self.assertEqual(it.read(), b"a library\n")
@@ -189,8 +185,7 @@ class Installed(OfACopy):
         pages = glob.glob(f"{self.prefix}/share/**/*.md", recursive=True)
         self.assertGreater(len(pages), 15)
         for page in pages:
-            with open(page, encoding="utf-8") as it:
-                text = it.read()
+            text = read_text(page)
             self.assertEqual(re.findall(r"(?<![\w/.])\.\.?/dthreads\b(?! --build)|tools/dt picture|guest/dthreads-", text), [], page)
             for link in re.findall(r"\]\(([^)\s]+)\)", re.sub(r"^```.*?^```$", "", text, flags=re.M | re.S)):
                 if not re.match(r"[a-z]+:|#", link):

@@ -9,17 +9,16 @@ from unittest import mock
 from dt_commands import c_samples, guest_runs, guest_tests, kit_tests, packages, self_test
 from dt_commands.kit_tests import Part, Session
 from dt_commands.repository import TOP
+from dt_commands.texts import write_file
+from rooms import WithRoom
 
 PARTS = [Part("one", ["test", "one"], 2, []), Part("two", ["test", "two"], 1, [])]
 
 
-class Stamps(unittest.TestCase):
+class Stamps(WithRoom):
     def setUp(self):
-        room = tempfile.TemporaryDirectory()
-        self.addCleanup(room.cleanup)
-        patch = mock.patch.dict(os.environ, {"XDG_CACHE_HOME": room.name})
-        patch.start()
-        self.addCleanup(patch.stop)
+        super().setUp()
+        self.set(XDG_CACHE_HOME=self.room)
         self.sums, self.made = {"one": "1", "two": "2"}, []
         self.answers = {"one": (0, "3 things\n"), "two": (0, "5 things\n")}
 
@@ -105,8 +104,7 @@ class Sums(unittest.TestCase):
         with tempfile.TemporaryDirectory() as room:
             found = []
             for text in ("one", "two"):
-                with open(f"{room}/dthreads", "w", encoding="utf-8") as it:
-                    it.write(text)
+                write_file(f"{room}/dthreads", text)
                 with mock.patch.dict(os.environ, {"DTHREADS": f"{room}/dthreads"}):
                     found.append(list(kit_tests.machine()))
             self.assertNotEqual(*found)

@@ -2,10 +2,10 @@
 import os
 import shutil
 import subprocess
-import tempfile
 import unittest
 
 from dt_commands import guest_runs
+from rooms import WithRoom
 
 LINES = f"{guest_runs.KIT}/dthreads-lines"
 # A program whose places are found by their text.
@@ -38,26 +38,20 @@ done
 """
 
 
-class Lines(unittest.TestCase):
+class Lines(WithRoom):
     """What guest/dthreads-lines makes of a list of races."""
 
     def setUp(self):
-        room = tempfile.TemporaryDirectory()
-        self.addCleanup(room.cleanup)
-        self.room = os.path.realpath(room.name)
+        super().setUp()
+        self.room = os.path.realpath(self.room)
 
     def lines(self, text, *words, path=None):
         environment = {**os.environ, "PATH": f"{path or self.room}:{os.environ['PATH']}"}
         how = {"input": text, "stdout": subprocess.PIPE, "stderr": subprocess.PIPE, "universal_newlines": True}
         return subprocess.run([LINES, *words], cwd=self.room, env=environment, **how)
 
-    def write(self, name, text):
-        with open(f"{self.room}/{name}", "w", encoding="utf-8") as it:
-            it.write(text)
-        os.chmod(f"{self.room}/{name}", 0o755)
-
     def test_places_are_put_behind_what_they_are_of(self):
-        self.write("riscv64-unknown-elf-addr2line", ANSWERS)
+        self.write("riscv64-unknown-elf-addr2line", ANSWERS, 0o755)
         self.write("a.elf", "")
         race = "race address=00018203 bytes=1 load thread=0 turn=1 pc=00010100{} store thread=1 turn=2 pc=00010104{} object=it+3{} in=a+4\n"
         rest = "race address=00018300 bytes=4 load thread=0 turn=1 pc=00010108 store thread=1 turn=2 pc=0001010c object=a+0\nand 3 more\n"
@@ -67,7 +61,7 @@ class Lines(unittest.TestCase):
 
     @unittest.skipUnless(shutil.which("riscv64-unknown-elf-c++filt"), "needs binutils-riscv64-unknown-elf")
     def test_names_of_other_languages_are_those_of_the_program(self):
-        self.write("riscv64-unknown-elf-addr2line", ANSWERS)
+        self.write("riscv64-unknown-elf-addr2line", ANSWERS, 0o755)
         self.write("a.elf", "")
         race = "race address=00018200 bytes=1 load thread=0 turn=1 pc=00010100{} store thread=1 turn=2 pc=0001010c"
         race += " object={}+3 in={}+4 in={}+8\n"
@@ -76,7 +70,7 @@ class Lines(unittest.TestCase):
         self.assertEqual(ran.stdout, race.format(" at=one.c:7", "race::TABLE", "race::add", "race::X<unsigned_int>::add"))
 
     def test_a_program_without_lines_is_told(self):
-        self.write("riscv64-unknown-elf-addr2line", ANSWERS)
+        self.write("riscv64-unknown-elf-addr2line", ANSWERS, 0o755)
         self.write("a.elf", "")
         race = "race address=00018300 bytes=4 load thread=0 turn=1 pc=00010108 store thread=1 turn=2 pc=0001010c\n"
         ran = self.lines(race, "a.elf")
@@ -84,13 +78,13 @@ class Lines(unittest.TestCase):
         self.assertEqual(ran.stderr, "dthreads-lines: a.elf has none of these lines: compile it with -g\n")
 
     def test_an_empty_list_asks_nothing(self):
-        self.write("riscv64-unknown-elf-addr2line", "#!/bin/sh\nexit 1\n")
+        self.write("riscv64-unknown-elf-addr2line", "#!/bin/sh\nexit 1\n", 0o755)
         self.write("a.elf", "")
         ran = self.lines("", "a.elf")
         self.assertEqual((ran.returncode, ran.stdout, ran.stderr), (0, "", ""))
 
     def test_a_failure_of_the_tool_is_told(self):
-        self.write("riscv64-unknown-elf-addr2line", "#!/bin/sh\necho 'file format not recognized' >&2\nexit 1\n")
+        self.write("riscv64-unknown-elf-addr2line", "#!/bin/sh\necho 'file format not recognized' >&2\nexit 1\n", 0o755)
         self.write("a.elf", "")
         ran = self.lines("race address=00018300 bytes=4 load thread=0 turn=1 pc=00010108 store thread=1 turn=2 pc=0001010c\n", "a.elf")
         self.assertEqual((ran.returncode, ran.stdout, ran.stderr), (2, "", "dthreads-lines: file format not recognized\n"))

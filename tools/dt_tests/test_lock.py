@@ -14,8 +14,10 @@ from unittest import mock
 
 from dt_commands import mutants
 from dt_commands.repository import TOP
+from dt_commands.texts import read_text, write_file
 from dt_mutants import draw, left, lock, trials, verdicts
 from dt_mutants.lock import Entry
+from rooms import WithRoom
 
 # The crates with mutants, in the order of crates.txt, and what the lock has of them before a call: of the first the sum as it is.
 SUMS = {it: f"{it}-now" for it in ("same", "good", "other", "bad", "broken", "changed", "new")}
@@ -49,22 +51,13 @@ class FakeTrial:
         self.is_over = True
 
 
-def patched(case, *patches):
-    for what, name, fake in patches:
-        patch = mock.patch.object(what, name, fake)
-        patch.start()
-        case.addCleanup(patch.stop)
-
-
-class WithLock(unittest.TestCase):
+class WithLock(WithRoom):
     def setUp(self):
-        room = tempfile.TemporaryDirectory()
-        self.addCleanup(room.cleanup)
-        fakes = {"guard": lambda: None, "crate": lambda name, known: types.SimpleNamespace(name=name, folder=room.name, count=lambda _: 1)}
+        super().setUp()
+        fakes = {"guard": lambda: None, "crate": lambda name, known: types.SimpleNamespace(name=name, folder=self.room, count=lambda _: 1)}
         self.changed, self.number = [], 0
-        patched(
-            self,
-            (lock, "LOCK", f"{room.name}/mutants.lock"),
+        for it in (
+            (lock, "LOCK", f"{self.room}/mutants.lock"),
             (lock, "sum_of", lambda name: "later" if name in self.changed else SUMS[name]),
             (lock, "with_mutants", lambda: list(SUMS)),
             (lock, "edits_of", lambda *_: EDITS),
@@ -75,13 +68,13 @@ class WithLock(unittest.TestCase):
             (left, "serves", lambda _: True),
             (draw, "cost", len),
             (draw, "commit_number", lambda: self.number),
-        )
+        ):
+            self.patch(*it)
         self.put({name: Entry(sum, FOUND) for name, sum in OLD.items()})
 
     def put(self, entries):
         """Writes entries by hand."""
-        with open(lock.LOCK, "w", encoding="utf-8") as it:
-            it.write("".join(lock.text_of(name, entry) for name, entry in entries.items()))
+        write_file(lock.LOCK, "".join(lock.text_of(name, entry) for name, entry in entries.items()))
 
     def ran(self, *words):
         """Runs the command, and returns its status; `said` is what it printed."""
@@ -147,8 +140,7 @@ class Staleness(WithLock):
         self.assertIn("no line", lock.staleness("same", None))
 
     def test_a_line_with_a_sum_alone_is(self):
-        with open(lock.LOCK, "w", encoding="utf-8") as it:
-            it.write("good good-then\nsame same-now\n")
+        write_file(lock.LOCK, "good good-then\nsame same-now\n")
         self.assertIn("verdicts", lock.staleness("same", lock.read()["same"]))
 
     def test_a_mutant_too_many_or_too_few_is(self):
@@ -172,7 +164,7 @@ class Draw(WithLock):
 
     def setUp(self):
         super().setUp()
-        patched(self, (lock, "sum_of", SUMS.get))
+        self.patch(lock, "sum_of", SUMS.get)
 
     def test_ten_commits_in_a_row_draw_each_crate_once(self):
         drawn = []
@@ -239,8 +231,7 @@ class Modules(unittest.TestCase):
 
     def imported(self, module):
         """Returns the modules of the tools that one imports, by their paths."""
-        with open(f"{TOP}/tools/{module}", encoding="utf-8") as it:
-            found = [it for it in ast.walk(ast.parse(it.read())) if isinstance(it, (ast.Import, ast.ImportFrom))]
+        found = [it for it in ast.walk(ast.parse(read_text(f"{TOP}/tools/{module}"))) if isinstance(it, (ast.Import, ast.ImportFrom))]
         names = [name.name for it in found if isinstance(it, ast.Import) for name in it.names]
         for it in found:
             names += [f"{it.module}.{name.name}" for name in it.names] + [it.module] if isinstance(it, ast.ImportFrom) else []
@@ -280,23 +271,19 @@ class FakeKept:
 
 
 def sum_of(file):
-    with open(file, encoding="utf-8") as it:
-        return it.read().replace("/", "_")
+    return read_text(file).replace("/", "_")
 
 
-class Libraries(unittest.TestCase):
+class Libraries(WithRoom):
     """Which libraries that rt ci left count as those of the sources: of a crate, and of one below it."""
 
     def setUp(self):
-        room = tempfile.TemporaryDirectory()
-        self.addCleanup(room.cleanup)
-        self.top = room.name
+        super().setUp()
+        self.top = self.room
         self.rt = types.SimpleNamespace(Crate=types.SimpleNamespace(), handles_of=lambda _: (), Kept=FakeKept, rtlib=types.SimpleNamespace(sum_of=sum_of))
         fake_kit = types.SimpleNamespace(has_foreign_libraries=lambda _: True, loaded=lambda: self.rt)
         for name, fake in (("TOP", self.top), ("below", lambda name: ["low", "high"][: 1 + (name == "high")]), ("kit", fake_kit)):
-            patch = mock.patch.object(left, name, fake)
-            patch.start()
-            self.addCleanup(patch.stop)
+            self.patch(left, name, fake)
         for it in ("low", "high"):
             self.write(f"crates/{it}/src/lib.rt")
             self.write(f"crates/{it}/proofs/one/Proof.antt")
@@ -311,9 +298,7 @@ class Libraries(unittest.TestCase):
     def write(self, file, text=None):
         # (times have steps of some milliseconds)
         time.sleep(0.02)
-        os.makedirs(os.path.dirname(f"{self.top}/{file}"), exist_ok=True)
-        with open(f"{self.top}/{file}", "w", encoding="utf-8") as it:
-            it.write(text or file)
+        super().write(file, text or file)
 
     def serve(self):
         return left.serves(types.SimpleNamespace(below=lambda: self.crates))

@@ -1,12 +1,13 @@
 """Tests of what `tools/dt mutants` plans and judges: no check is run, each output was recorded. `tools/dt mutants --self-test` runs some."""
 import os
-import tempfile
 import unittest
 
+from dt_commands.texts import read_text
 from dt_mutants import verdicts
 from dt_mutants.edits import BadEdit, edits_of, made, pairs_of
 from dt_mutants.functions import changed_functions, functions_of, owner_of
 from dt_mutants.rounds import plan
+from rooms import WithRoom
 
 HERE = os.path.dirname(os.path.abspath(__file__))
 
@@ -45,27 +46,18 @@ fn plain() {}
 
 
 def said(name):
-    with open(f"{HERE}/said/{name}.txt", encoding="utf-8") as it:
-        return it.read()
+    return read_text(f"{HERE}/said/{name}.txt")
 
 
-class WithCrate(unittest.TestCase):
+class WithCrate(WithRoom):
     """Has a crate in a temporary folder, with one source file."""
-
-    def setUp(self):
-        self.room = tempfile.TemporaryDirectory()
-        self.addCleanup(self.room.cleanup)
 
     def edits(self, edits, file="src/lib.rt", source=SOURCE):
         """Returns the edits of a crate of this source, each given by its name as a list of old and new texts."""
-        for folder in ("src", "mutants"):
-            os.makedirs(f"{self.room.name}/{folder}", exist_ok=True)
-        with open(f"{self.room.name}/{file}", "w", encoding="utf-8") as it:
-            it.write(source)
+        self.write(file, source)
         for name, pairs in edits.items():
-            with open(f"{self.room.name}/mutants/{name}.edit", "w", encoding="utf-8") as it:
-                it.writelines(f"file: {file}\nold: {old}\nnew: {new}\n" for old, new in pairs)
-        return {it.name: it for it in edits_of("crate", self.room.name)}
+            self.write(f"mutants/{name}.edit", "".join(f"file: {file}\nold: {old}\nnew: {new}\n" for old, new in pairs))
+        return {it.name: it for it in edits_of("crate", self.room)}
 
 
 class Functions(unittest.TestCase):
@@ -171,9 +163,7 @@ class Judging(WithCrate):
         self.assertEqual(self.refused(text), ["b", "c"])
 
     def test_two_functions_of_one_label_are_told_by_their_lines(self):
-        os.makedirs(f"{self.room.name}/src")
-        with open(f"{self.room.name}/src/other.rt", "w", encoding="utf-8") as it:
-            it.write("impl CallKind {\n    fn name() -> u32 {\n        0\n    }\n}\n")
+        self.write("src/other.rt", "impl CallKind {\n    fn name() -> u32 {\n        0\n    }\n}\n")
         self.assertEqual(self.refused(said("four_functions")), ["a", "b", "c"])
         text = said("four_functions").replace("src/call_kind.rt:93:5", "src/other.rt:2:5")
         self.assertEqual(self.refused(text), ["a", "b"])

@@ -10,6 +10,7 @@ from unittest import mock
 
 from dt_commands import clauses, host_threads, layers, made_up_errors, page_links, pages, samples
 from dt_commands.repository import TOP
+from dt_commands.texts import write_file
 
 DT = """#!/bin/sh
 echo "dt $*"
@@ -62,8 +63,7 @@ class Gate(unittest.TestCase):
         with tempfile.TemporaryDirectory() as top:
             for file, text in (("tools/dt", DT), ("bin/rt", RT)):
                 os.makedirs(os.path.dirname(f"{top}/{file}"))
-                with open(f"{top}/{file}", "w", encoding="utf-8") as it:
-                    it.write(text)
+                write_file(f"{top}/{file}", text)
                 os.chmod(f"{top}/{file}", 0o755)
             os.mkdir(f"{top}/.ci")
             shutil.copy(f"{TOP}/.ci/run", f"{top}/.ci/run")

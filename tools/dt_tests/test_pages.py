@@ -3,6 +3,7 @@ import tempfile
 import unittest
 
 from dt_commands import changes, crate_pages, definitions, page_links, pages, uncontracted
+from dt_commands.texts import write_file
 
 
 class Definitions(unittest.TestCase):
@@ -40,8 +41,7 @@ class Sizes(unittest.TestCase):
     def test_a_page_that_is_too_long_is_told_with_its_size_and_its_limit(self):
         with tempfile.TemporaryDirectory() as top:
             for name, size in (("one", 1000), ("two", 1001)):
-                with open(f"{top}/{name}.md", "w", encoding="utf-8") as it:
-                    it.write("." * size)
+                write_file(f"{top}/{name}.md", "." * size)
             found = pages.too_long({"one.md": 1000, "two.md": 1000, "none.md": 1}, top)
         self.assertEqual(found, ["two.md: it has 1,001 bytes, and its limit is 1,000: 1 too many"])
 

@@ -3,12 +3,12 @@ import contextlib
 import io
 import os
 import re
-import tempfile
 import unittest
 from unittest import mock
 from xml.etree import ElementTree
 
 from dt_commands import picture, picture_legend, picture_marks, picture_run, picture_svg, sample_pictures, timelines
+from rooms import WithRoom
 from test_timelines import BARRIERS, CONDITIONS, ONE_TURN
 
 REPORT = "page=00020000 turns=2 bytes=3 threads=2 shared=1 clashes=1\npage=20000000 turns=1 bytes=1 threads=1 shared=0 clashes=0\n"
@@ -135,16 +135,10 @@ class Marks(unittest.TestCase):
         self.assertEqual((picture_marks.count(1, "turn"), picture_marks.count(2000, "turn")), ("1 turn", "2,000 turns"))
 
 
-class Command(unittest.TestCase):
+class Command(WithRoom):
     def setUp(self):
-        room = tempfile.TemporaryDirectory()
-        self.addCleanup(room.cleanup)
-        self.room = room.name
+        super().setUp()
         self.write("run.timeline", timelines.timeline(CONDITIONS, {}))
-
-    def write(self, name, text):
-        with open(f"{self.room}/{name}", "w", encoding="utf-8") as it:
-            it.write(text)
 
     def ran(self, *words):
         options = {"timeline": f"{self.room}/run.timeline", "report": None, "races": None, "phases": None, "name": None, "svg": False}

@@ -1,9 +1,9 @@
 """Tests of `tools/dt measure proofs`, over files with times that are given."""
 import os
-import tempfile
 import unittest
 
 from dt_commands import measure_proofs
+from rooms import WithRoom
 
 # Files of a check in the order in which they are written, and the seconds since the one before.
 FILES = [
@@ -18,19 +18,16 @@ FILES = [
 ]
 
 
-class Proofs(unittest.TestCase):
+class Proofs(WithRoom):
     def setUp(self):
-        room = tempfile.TemporaryDirectory()
-        self.addCleanup(room.cleanup)
+        super().setUp()
         time = 10**9
-        os.mkdir(f"{room.name}/records")
         for at, (name, seconds) in enumerate(FILES):
-            file = f"{room.name}/{'records/' * (at % 2)}{name}.oantt"
+            file = f"{'records/' * (at % 2)}{name}.oantt"
             time += seconds
-            with open(file, "w", encoding="utf-8"):
-                pass
-            os.utime(file, (time, time))
-        self.files = measure_proofs.kept_in(room.name)
+            self.write(file, "")
+            os.utime(f"{self.room}/{file}", (time, time))
+        self.files = measure_proofs.kept_in(self.room)
 
     def test_the_files_come_in_the_order_of_their_times(self):
         self.assertEqual([name for _, name in self.files], [name for name, _ in FILES])

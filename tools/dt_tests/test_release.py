@@ -9,6 +9,8 @@ import unittest
 
 from dt_commands import built_from, executable, release
 from dt_commands.repository import TOP
+from dt_commands.texts import write_file
+from rooms import WithRoom
 
 CRATES = """# Each crate, and what it stands on.
 low: byteorder
@@ -46,22 +48,15 @@ def with_symbols(*names):
     return bytes(data)
 
 
-class Tree(unittest.TestCase):
+class Tree(WithRoom):
     """A checkout of five crates."""
 
     def setUp(self):
-        room = tempfile.TemporaryDirectory()
-        self.addCleanup(room.cleanup)
-        self.top = f"{room.name}/top"
+        super().setUp()
+        self.top = self.room = f"{self.room}/top"
         self.write("crates.txt", CRATES)
         for file in FILES:
             self.write(f"crates/{file}", f"//! {file}\n")
-
-    def write(self, file, text, mode=0o644):
-        os.makedirs(os.path.dirname(f"{self.top}/{file}"), exist_ok=True)
-        with open(f"{self.top}/{file}", "wb") as it:
-            it.write(text if isinstance(text, (bytes, bytearray)) else text.encode())
-        os.chmod(f"{self.top}/{file}", mode)
 
     def listed(self):
         return built_from.listed(self.top)
@@ -136,8 +131,7 @@ class Stripped(unittest.TestCase):
         with open(shutil.which("true"), "rb") as it:
             data = executable.stripped(it.read())
         with tempfile.TemporaryDirectory() as room:
-            with open(f"{room}/true", "wb") as it:
-                it.write(data)
+            write_file(f"{room}/true", data)
             os.chmod(f"{room}/true", 0o755)
             self.assertEqual(subprocess.run([f"{room}/true"]).returncode, 0)
 

@@ -3,6 +3,7 @@ import os
 import unittest
 
 from dt_commands import made_up_errors
+from dt_commands.texts import read_text
 
 FOLDER = f"{os.path.dirname(os.path.abspath(__file__))}/sources"
 
@@ -10,7 +11,7 @@ FOLDER = f"{os.path.dirname(os.path.abspath(__file__))}/sources"
 class Sources(unittest.TestCase):
     def test_each_marked_line_and_no_other_is_refused(self):
         for name in sorted(it for it in os.listdir(FOLDER) if it.endswith(".txt")):
-            text = made_up_errors.read(f"{FOLDER}/{name}")
+            text = read_text(f"{FOLDER}/{name}")
             wanted = [number for number, line in enumerate(text.split("\n"), 1) if line.endswith("// bad")]
             with self.subTest(name):
                 self.assertEqual(wanted, [line for line, _ in made_up_errors.complaints(text)])

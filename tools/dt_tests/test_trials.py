@@ -7,6 +7,7 @@ import unittest
 from unittest import mock
 
 from dt_commands import kit
+from dt_commands.texts import write_file
 from dt_mutants import trials
 from dt_mutants.edits import edits_of
 
@@ -93,11 +94,9 @@ class Trials(unittest.TestCase):
         with tempfile.TemporaryDirectory() as folder:
             for part in ("src", "mutants", *(["out/incremental"] if how.get("keeps") else [])):
                 os.makedirs(f"{folder}/{part}")
-            with open(f"{folder}/src/lib.rt", "w", encoding="utf-8") as it:
-                it.write(source())
+            write_file(f"{folder}/src/lib.rt", source())
             for at, (name, body) in enumerate(zip(NAMES, bodies), 1):
-                with open(f"{folder}/mutants/{name}.edit", "w", encoding="utf-8") as it:
-                    it.write(f"file: src/lib.rt\nold: {at}00\nnew: {body}\n")
+                write_file(f"{folder}/mutants/{name}.edit", f"file: src/lib.rt\nold: {at}00\nnew: {body}\n")
             fake = FakeKit()
             fake.is_seed_changed = how.get("is_seed_changed", False)
             with mock.patch.object(trials, "kit", fake), mock.patch.object(trials.weak, "lines_of", lambda _: how.get("listed", {})):

@@ -1,11 +1,12 @@
 """Tests of how `tools/dt test` reads what `rt try` says, and of what it calls a failure."""
 import os
-import tempfile
 import unittest
 from unittest import mock
 
 from dt_commands import test
 from dt_commands.repository import TOP, crates
+from dt_commands.texts import read_text
+from rooms import WithRoom
 
 SAID = """tests: 3
 test tests::beyond ... FAILED
@@ -42,16 +43,10 @@ class Tests(unittest.TestCase):
         self.assertTrue(test.of_tests("tests: 1\ntest a ... ok\n", 2).failures)
 
 
-class Programs(unittest.TestCase):
+class Programs(WithRoom):
     def setUp(self):
-        room = tempfile.TemporaryDirectory()
-        self.addCleanup(room.cleanup)
-        self.folder = room.name
-
-    def write(self, name, text):
-        os.makedirs(os.path.dirname(f"{self.folder}/{name}"), exist_ok=True)
-        with open(f"{self.folder}/{name}", "w", encoding="utf-8") as it:
-            it.write(text)
+        super().setUp()
+        self.folder = self.room
 
     def test_output_and_status_are_the_wanted_ones(self):
         self.write("stdout", "one\ntwo\n")
@@ -107,20 +102,14 @@ class Programs(unittest.TestCase):
         self.assertEqual(found, ["new", "long", "said", "short"])
 
 
-class SmallerNumbers(unittest.TestCase):
+class SmallerNumbers(WithRoom):
     """What src.unproved changes, in a crate of one file, and of those that have it."""
 
     def setUp(self):
-        room = tempfile.TemporaryDirectory()
-        self.addCleanup(room.cleanup)
-        self.folder = f"{room.name}/crates/small"
+        super().setUp()
+        self.folder = self.room = f"{self.room}/crates/small"
         self.write("src/lib.rt", "const TIMES: u32 = 100;\nconst EACH: [u32; 2] = [1, u32::MAX];\nfn f() {}\n")
         self.write("out/kept", "")
-
-    def write(self, name, text):
-        os.makedirs(os.path.dirname(f"{self.folder}/{name}"), exist_ok=True)
-        with open(f"{self.folder}/{name}", "w", encoding="utf-8") as it:
-            it.write(text)
 
     def edit(self, *pairs):
         self.write("src.unproved", "file: src/lib.rt\n" + "".join(f"old: {old}\nnew: {new}\n" for old, new in pairs))
@@ -130,12 +119,10 @@ class SmallerNumbers(unittest.TestCase):
         with mock.patch.object(test, "below", lambda _: ["small"]), mock.patch.object(test, "crates", lambda: {"small": []}):
             with test.as_unproved(self.folder) as copy:
                 self.assertNotEqual(copy, self.folder)
-                with open(f"{copy}/src/lib.rt", encoding="utf-8") as it:
-                    self.assertEqual(it.read(), "const TIMES: u32 = 5;\nconst EACH: [u32; 1] = [4];\nfn f() {}\n")
+                self.assertEqual(read_text(f"{copy}/src/lib.rt"), "const TIMES: u32 = 5;\nconst EACH: [u32; 1] = [4];\nfn f() {}\n")
                 self.assertFalse(os.path.exists(f"{copy}/out"))
         self.assertFalse(os.path.exists(copy))
-        with open(f"{self.folder}/src/lib.rt", encoding="utf-8") as it:
-            self.assertIn("u32 = 100;", it.read())
+        self.assertIn("u32 = 100;", read_text(f"{self.folder}/src/lib.rt"))
 
     def test_without_it_the_crate_is_run_where_it_is(self):
         with test.as_unproved(self.folder) as folder:

@@ -1,0 +1,30 @@
+"""What tests share: a folder of their own with files, and patches that end with the test."""
+import os
+import tempfile
+import unittest
+from unittest import mock
+
+from dt_commands.texts import write_file
+
+
+class WithRoom(unittest.TestCase):
+    """A test with a folder of its own."""
+
+    def setUp(self):
+        room = tempfile.TemporaryDirectory()
+        self.addCleanup(room.cleanup)
+        self.room = room.name
+
+    def write(self, file, text, mode=None):
+        """Writes a file of the folder."""
+        write_file(f"{self.room}/{file}", text, mode)
+
+    def patch(self, what, name, value):
+        self.begin(mock.patch.object(what, name, value))
+
+    def set(self, **environment):
+        self.begin(mock.patch.dict(os.environ, environment))
+
+    def begin(self, patch):
+        patch.start()
+        self.addCleanup(patch.stop)
