@@ -46,35 +46,22 @@ void tried_change_set(uint32_t number) { tried = number; }
 """
 
 
+# The places that are no expression and no statements: the heads of an `if` or a `while`, arms, fields, and bindings. Of each what is
+# before its expression, the expression, and what is behind it; the first is the same in the changed text.
+PLACES = [re.compile(it, re.S) for it in (r"((?:if|while) )(.*)( \{)", r"(.*? => )(.*)(,)", r"(\w+: )(.*)(,)", r"()(.*)(,)")]
+BOUND = re.compile(r"let (mut )?(\w+|\([\w, ]+\)) = .*;", re.S)
+
+
 def guarded(number, is_statement, old, new):
     """Returns the text of a place that is the new one where this change is tried."""
-    head = re.fullmatch(r"(if|while) (.*) \{", old, re.S)
-    if head:
-        condition = re.fullmatch(r"(if|while) (.*) \{", new, re.S)[2]
-        return f"{head[1]} (if {SWITCH}::is({number}) {{ {condition} }} else {{ {head[2]} }}) {{"
-    arm = re.fullmatch(r"(.*?) => (.*),", old, re.S)
-    if arm and new.startswith(arm[1] + " => "):
-        body = new[len(arm[1]) + 4:].rstrip(",")
-        return f"{arm[1]} => (if {SWITCH}::is({number}) {{ {body} }} else {{ {arm[2]} }}),"
-    field = re.fullmatch(r"(\w+): (.*),", old, re.S)
-    if field and new.startswith(field[1] + ": "):
-        body = new[len(field[1]) + 2:].rstrip(",")
-        return f"{field[1]}: (if {SWITCH}::is({number}) {{ {body} }} else {{ {field[2]} }}),"
-    bound = re.fullmatch(r"let (mut \w+|\w+|\([\w, ]+\)) = (.*);", old, re.S)
+    asked, bound = f"if {SWITCH}::is({number})", BOUND.fullmatch(old)
+    for place in () if is_statement else PLACES:
+        was, now = place.fullmatch(old), place.fullmatch(new)
+        if was and now and was[1] == now[1]:
+            return f"{was[1]}({asked} {{ {now[2]} }} else {{ {was[2]} }}){was[3]}"
     if bound:
-        other = re.fullmatch(r"let (mut \w+|\w+|\([\w, ]+\)) = (.*);", new, re.S)
-        same = f"let {bound[1]} = {bound[2]}; {bound_names(bound[1])}"
-        changed = f"let {other[1]} = {other[2]}; {bound_names(bound[1])}"
-        return f"let {bound[1]} = if {SWITCH}::is({number}) {{ {changed} }} else {{ {same} }};"
-    if is_statement:
-        return f"if {SWITCH}::is({number}) {{ {new} }} else {{ {old} }}"
-    if old.endswith(",") and new.endswith(","):
-        return f"(if {SWITCH}::is({number}) {{ {new[:-1]} }} else {{ {old[:-1]} }}),"
-    return f"(if {SWITCH}::is({number}) {{ {new} }} else {{ {old} }})"
-
-
-def bound_names(pattern):
-    return pattern[4:] if pattern.startswith("mut ") else pattern
+        return f"let {bound[1] or ''}{bound[2]} = {asked} {{ {new} {bound[2]} }} else {{ {old} {bound[2]} }};"
+    return f"{asked} {{ {new} }} else {{ {old} }}" if is_statement else f"({asked} {{ {new} }} else {{ {old} }})"
 
 
 def with_guards(text, places):

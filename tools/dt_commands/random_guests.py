@@ -1,6 +1,8 @@
 """Random guest programs: threads that compute, meet and trap. Each is fixed by the numbers that it is picked by."""
 import struct
 
+from dt_commands import written_guests
+
 CODE, DATA, ROOM = 0x10000, 0x20000, 0x10000
 EXIT, THREAD_EXIT, CREATE, JOIN, LOCK, UNLOCK, WAIT, SIGNAL, BROADCAST, BARRIER, WRITE, READ, MEMORY, SYNC, RELEASE = range(1, 16)
 ZERO, T0, T1, T2, S0, S1, A0, A1, A2, A7, S2, S3 = 0, 5, 6, 7, 8, 9, 10, 11, 12, 17, 18, 19
@@ -113,9 +115,7 @@ def file_of(main, first, words):
     """The file of a program whose code begins with these words, and goes on with others after so many."""
     assert len(main) <= first
     code = b"".join(struct.pack("<I", word & 0xFFFFFFFF) for word in main + [0] * (first - len(main)) + words)
-    header = bytes.fromhex("7f454c46010101000000000000000000") + struct.pack("<HHIIIIIHHHHHH", 2, 243, 1, CODE, 52, 0, 0, 52, 32, 2, 0, 0, 0)
-    rows = struct.pack("<8I", 1, 116, CODE, CODE, len(code), len(code), 5, 0) + struct.pack("<8I", 1, 116, DATA, DATA, 0, ROOM, 6, 0)
-    return header + rows + code
+    return written_guests.elf_of(CODE, code, [(DATA, ROOM)])
 
 
 def guest(random):

@@ -37,51 +37,19 @@ SECONDS, GATE_SECONDS = 600, 60
 
 # The guests with their input and what else their runs are given.
 GUESTS = [
-    ("quotients", b"", []),
-    ("race", b"", []),
-    ("signal", b"", []),
-    ("counter", b"", ["--bound", "60"]),
-    ("letter", b"x", []),
-    ("echo", b"ab", []),
-    ("release-race", b"", []),
+    ("quotients", b"", []), ("race", b"", []), ("signal", b"", []), ("counter", b"", ["--bound", "60"]), ("letter", b"x", []),
+    ("echo", b"ab", []), ("release-race", b"", []),
 ]
 RECORDS = ["trace", "timeline", "report", "races", "core", "digest"]
-
 # The schedules of `race`, each with the numbers of workers that it is replayed with.
 SCHEDULES = [("one-worker", "14"), ("three-workers", "34"), ("early-turn", "24")]
-
-
 # The guests that are debugged, and what gdb asks of each: forward to breakpoints and watched words, back, by single steps, and by commands.
 DEBUGGED = ["race", "signal", "release-race"]
 PACKETS = [
-    "QStartNoAckMode",
-    "qSupported:swbreak+;hwbreak+",
-    "?",
-    "Z0,10018,4",
-    "vCont;c",
-    "g",
-    "m20000,10",
-    "vCont;s:1;c",
-    "z0,10018,4",
-    "Z2,20000,4",
-    "vCont;c",
-    "vCont;s:1",
-    "bs",
-    "vCont;c",
-    "bc",
-    "z2,20000,4",
-    "qRcmd," + b"turn 3".hex(),
-    "qRcmd," + b"go 7".hex(),
-    "bs",
-    "vCont;c",
-    "qRcmd," + b"trace".hex(),
-    "qRcmd," + b"writers 20000 4".hex(),
-    "qRcmd," + b"threads".hex(),
-    "qRcmd," + b"locks".hex(),
-    "qXfer:threads:read::0,fff",
-    "bc",
-    "vCont;c",
-    "vCont;c",
+    "QStartNoAckMode", "qSupported:swbreak+;hwbreak+", "?", "Z0,10018,4", "vCont;c", "g", "m20000,10", "vCont;s:1;c", "z0,10018,4",
+    "Z2,20000,4", "vCont;c", "vCont;s:1", "bs", "vCont;c", "bc", "z2,20000,4", *(f"qRcmd,{it.hex()}" for it in (b"turn 3", b"go 7")),
+    "bs", "vCont;c", *(f"qRcmd,{it.hex()}" for it in (b"trace", b"writers 20000 4", b"threads", b"locks")),
+    "qXfer:threads:read::0,fff", "bc", "vCont;c", "vCont;c",
 ]
 
 
@@ -284,16 +252,6 @@ def dthreads():
     return f"{TOP}/crates/command/out/command"
 
 
-def sweep_gate():
-    """Sweeps runs by several workers."""
-    with tempfile.TemporaryDirectory(prefix="sweep-memory-") as room:
-        library(room)
-        program = dthreads()
-        for name, one in (*by_workers(room, program), *one_file(room, program)):
-            one.each(name)
-    return 0
-
-
 def arguments(parser):
     parser.add_argument("word", nargs="?", default="", metavar="WORD", help="the lines whose names have this word (default: all)")
     parser.add_argument("--gate", action="store_true", help="the gate's part alone: runs by several workers")
@@ -301,17 +259,15 @@ def arguments(parser):
 
 def sweep(options):
     """Refuses each request for memory of some programs, one after another, and looks at what they answer."""
-    if options.gate:
-        return sweep_gate()
     with tempfile.TemporaryDirectory(prefix="sweep-memory-") as room, Progress("lines") as progress:
         library(room)
-        for name, does in (("test_alloc_failures", calls), ("test_phase_failures", phases)):
+        for name, does in () if options.gate else (("test_alloc_failures", calls), ("test_phase_failures", phases)):
             if options.word in name:
                 progress.at = name
                 does(room, built(name))
+        kinds = (by_workers, one_file) if options.gate else (runs, by_workers, one_file, replays, debugs)
         program = dthreads()
-        every = [*runs(room, program), *by_workers(room, program), *one_file(room, program), *replays(room, program), *debugs(room, program)]
-        chosen = [it for it in every if options.word in it[0]]
+        chosen = [it for kind in kinds for it in kind(room, program) if options.word in it[0]]
         progress.total = len(chosen)
         for name, one in progress.each(chosen, lambda it: it[0]):
             one.each(name)

@@ -41,12 +41,16 @@ def listing(name):
 
 
 def elf(name):
-    """Returns the file of a program: a segment of code, and its segments of zeros."""
+    """Returns the file of a program of this name."""
     words = listing(name)
     start, code = min(words), b"".join(struct.pack("<I", words[it]) for it in sorted(words))
     if len(code) != max(words) + 4 - start:
         raise SystemExit(f"{name}: its listing has gaps")
-    zeros = [(int(at, 16), int(size)) for at, size in re.findall(r"^zeros ([0-9a-f]+) (\d+)$", text_of(name), re.M)]
+    return elf_of(start, code, [(int(at, 16), int(size)) for at, size in re.findall(r"^zeros ([0-9a-f]+) (\d+)$", text_of(name), re.M)])
+
+
+def elf_of(start, code, zeros):
+    """Returns the file of a program: a segment of code, where it begins, and segments of zeros, each with its address and size."""
     count = 1 + len(zeros)
     at = 52 + 32 * count
     header = bytes.fromhex("7f454c46010101000000000000000000")

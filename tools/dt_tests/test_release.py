@@ -68,34 +68,23 @@ class Lists(Tree):
         names = ["command in crates.txt", "high in crates.txt", "low in crates.txt", *files]
         self.assertEqual(sorted(built_from.named(self.listed())), sorted(names))
 
-    def changes(self, file, text, name):
-        before = self.listed()
-        self.write(file, text)
-        self.assertEqual(built_from.differences(before, self.listed()), [name] if name else [])
-
-    def test_a_source_changes_it(self):
-        self.changes("crates/low/src/lib.rt", "//! Other.\n", "crates/low/src/lib.rt")
-
-    def test_a_specification_changes_it(self):
-        self.changes("crates/low/specs/Lib.antt", "-- Other.\n", "crates/low/specs/Lib.antt")
-
-    def test_a_proof_changes_it(self):
-        self.changes("crates/high/proofs/one/Proof.antt", "-- Other.\n", "crates/high/proofs/one/Proof.antt")
-
-    def test_a_new_file_changes_it(self):
-        self.changes("crates/high/src/more.rt", "//! More.\n", "crates/high/src/more.rt")
-
-    def test_a_line_of_crates_txt_changes_it(self):
-        self.changes("crates.txt", CRATES.replace("low: byteorder", "low: byteorder itoa"), "low in crates.txt")
-
-    def test_a_crate_of_tests_does_not_change_it(self):
-        self.changes("crates/tests/src/lib.rt", "//! Other.\n", None)
-        self.changes("crates.txt", CRATES.replace("tests: high", "tests: high low"), None)
-
-    def test_what_no_check_reads_does_not_change_it(self):
-        self.changes("crates/low/out/rlib/stamp", "1", None)
-        self.changes("crates/low/must-fail/one.edit", "file: src/lib.rt\n", None)
-        self.changes("crates/low/src/.lib.rt.swp", "1", None)
+    def test_what_it_is_built_from_changes_it_and_nothing_else(self):
+        for file, text, name in (
+            ("crates/low/src/lib.rt", "//! Other.\n", "crates/low/src/lib.rt"),
+            ("crates/low/specs/Lib.antt", "-- Other.\n", "crates/low/specs/Lib.antt"),
+            ("crates/high/proofs/one/Proof.antt", "-- Other.\n", "crates/high/proofs/one/Proof.antt"),
+            ("crates/high/src/more.rt", "//! More.\n", "crates/high/src/more.rt"),
+            ("crates.txt", CRATES.replace("low: byteorder", "low: byteorder itoa"), "low in crates.txt"),
+            ("crates.txt", CRATES.replace("low: byteorder", "low: byteorder itoa").replace("tests: high", "tests: high low"), None),
+            ("crates/tests/src/lib.rt", "//! Other.\n", None),
+            ("crates/low/out/rlib/stamp", "1", None),
+            ("crates/low/must-fail/one.edit", "file: src/lib.rt\n", None),
+            ("crates/low/src/.lib.rt.swp", "1", None),
+        ):
+            before = self.listed()
+            self.write(file, text)
+            with self.subTest(file, name=name):
+                self.assertEqual(built_from.differences(before, self.listed()), [name] if name else [])
 
     def test_the_time_of_a_file_does_not_change_it(self):
         before = self.listed()
@@ -167,91 +156,56 @@ class Releases(Tree):
         self.write(BUILT, data, 0o755)
         built_from.write(f"{self.top}/{built_from.OF_BUILD}", "kit 1", self.listed())
 
-    def compared(self, version="kit 1 logic a"):
-        return release.comparison(self.top, version)
-
     def make(self):
         return release.make(self.top, "kit 1 logic a")
 
+    def compared(self, is_at_odds, text, version="kit 1 logic a"):
+        found, said = release.comparison(self.top, version)
+        with self.subTest(version):
+            self.assertEqual(found, is_at_odds)
+            self.assertIn(text, said)
+
     def setUp(self):
         super().setUp()
-        self.addCleanup(setattr, release, "say", release.say)
-        release.say = lambda text: None
+        self.patch(release, "say", lambda text: None)
+        self.build()
+        self.other = ELF.replace(b"segment.", b"another.")
 
     def test_a_checkout_without_one_is_refused(self):
-        self.build()
-        is_at_odds, text = self.compared()
-        self.assertTrue(is_at_odds)
-        self.assertIn("there is no", text)
+        self.compared(True, "there is no")
 
-    def test_it_is_what_was_built(self):
-        self.build()
+    def test_it_is_what_was_built_whatever_its_symbols_are(self):
         self.assertEqual(self.make(), 0)
         self.assertTrue(os.access(f"{self.top}/{RELEASED}", os.X_OK))
-        self.assertEqual(self.compared(), (False, f"the program is {RELEASED}, byte for byte (kit 1 logic a)"))
-
-    def test_other_symbols_are_no_difference(self):
-        self.build()
-        self.make()
+        self.compared(False, f"the program is {RELEASED}, byte for byte (kit 1 logic a)")
         self.build(ELF[:-1] + b"x")
-        self.assertFalse(self.compared()[0])
+        self.compared(False, "byte for byte")
+        both = "kit 1 logic a, and kit 2 logic a of the same logic"
+        self.compared(False, f"the program is {RELEASED}, byte for byte ({both})", "kit 2 logic a")
 
-    def test_another_program_of_the_same_sources_is_refused(self):
-        self.build()
+    def test_another_program_of_the_same_sources_is_refused_for_one_kit_and_told_for_others(self):
         self.make()
-        self.build(ELF.replace(b"segment.", b"another."))
-        is_at_odds, text = self.compared()
-        self.assertTrue(is_at_odds)
-        self.assertIn("is not the program", text)
+        self.build(self.other)
+        self.compared(True, "is not the program")
+        warning = f"WARNING: {RELEASED} DIFFERS from the program built here from the same sources, by another kit"
+        self.compared(False, warning, "kit 2 logic a")
+        for version in ("kit 2 logic b", "kit 1", ""):
+            self.compared(False, "another logic, and not compared: kit 1 logic a", version)
 
     def test_a_release_of_older_sources_is_told_and_not_refused(self):
-        self.build()
         self.make()
         self.write("crates/low/src/lib.rt", "//! Other.\n")
-        is_at_odds, text = self.compared()
-        self.assertFalse(is_at_odds)
-        self.assertIn("other sources: crates/low/src/lib.rt", text)
+        self.compared(False, "other sources: crates/low/src/lib.rt")
 
-    def test_a_release_of_another_logic_is_told_and_not_compared(self):
-        self.build()
-        self.make()
-        self.build(ELF.replace(b"segment.", b"another."))
-        for version in ("kit 2 logic b", "kit 1", ""):
-            is_at_odds, text = self.compared(version)
-            self.assertFalse(is_at_odds)
-            self.assertIn("another logic, and not compared: kit 1 logic a", text)
-
-    def test_a_release_of_another_kit_of_one_logic_is_compared(self):
-        self.build()
-        self.make()
-        both = "kit 1 logic a, and kit 2 logic a of the same logic"
-        self.assertEqual(self.compared("kit 2 logic a"), (False, f"the program is {RELEASED}, byte for byte ({both})"))
-
-    def test_a_difference_under_another_kit_of_one_logic_is_told_and_not_refused(self):
-        self.build()
-        self.make()
-        self.build(ELF.replace(b"segment.", b"another."))
-        is_at_odds, text = self.compared("kit 2 logic a")
-        self.assertFalse(is_at_odds)
-        self.assertIn(f"WARNING: {RELEASED} DIFFERS from the program built here from the same sources, by another kit", text)
-        self.assertTrue(self.compared()[0])
-
-    def test_under_another_kit_too_a_program_has_to_be_there(self):
-        self.build()
-        self.make()
-        os.remove(f"{self.top}/{BUILT}")
-        self.assertTrue(self.compared("kit 2 logic a")[0])
-
-    def test_half_a_release_is_refused(self):
-        self.build()
-        self.make()
-        os.remove(f"{self.top}/{RELEASED}")
-        self.assertTrue(self.compared()[0])
-        self.make()
-        os.remove(f"{self.top}/{release.RECORD}")
-        self.assertTrue(self.compared()[0])
+    def test_what_lacks_of_a_release_or_of_the_program_is_refused(self):
+        for file, version in ((BUILT, "kit 2 logic a"), (RELEASED, "kit 1 logic a"), (release.RECORD, "kit 1 logic a")):
+            self.build()
+            self.make()
+            os.remove(f"{self.top}/{file}")
+            self.compared(True, "", version)
 
     def test_nothing_is_released_that_was_not_built_from_the_sources(self):
+        os.remove(f"{self.top}/{BUILT}")
         self.assertEqual(self.make(), 1)
         self.build()
         time.sleep(0.02)
@@ -260,13 +214,13 @@ class Releases(Tree):
         self.assertFalse(os.path.exists(f"{self.top}/{RELEASED}"))
 
     def test_what_the_gate_built_has_no_record_and_is_newer_than_the_sources(self):
+        os.remove(f"{self.top}/{built_from.OF_BUILD}")
         time.sleep(0.02)
         self.write(BUILT, ELF, 0o755)
         self.assertEqual(self.make(), 0)
-        self.assertFalse(self.compared()[0])
+        self.compared(False, "byte for byte")
 
     def test_a_program_that_came_after_its_record_is_not_taken_for_that_build(self):
-        self.build()
         os.utime(f"{self.top}/{built_from.OF_BUILD}", (1, 1))
         os.utime(f"{self.top}/{BUILT}", (2, 2))
         self.assertFalse(release.is_built(self.top))
@@ -303,27 +257,19 @@ class Choices(Tree):
         self.said, self.status = ran.stderr, ran.returncode
         return ran.stdout.strip()
 
-    def test_the_program_built_here_comes_first(self):
-        self.build()
-        self.release()
-        self.assertEqual(self.started("run", "a b"), f"{BUILT} run a b")
-        self.assertEqual(self.said, "")
-
-    def test_the_release_is_started_without_a_word(self):
+    def test_the_program_built_here_comes_first_and_then_the_release(self):
         self.release()
         self.assertEqual(self.started("run", "x"), f"{RELEASED} run x")
         self.assertEqual((self.said, self.status), ("", 0))
-
-    def test_a_clone_has_times_of_its_own(self):
-        self.release()
-        os.utime(f"{self.top}/crates/low/src/lib.rt")
-        self.assertEqual(self.started("run"), f"{RELEASED} run")
+        self.build()
+        self.assertEqual(self.started("run", "a b"), f"{BUILT} run a b")
+        self.assertEqual(self.said, "")
+        self.assertEqual(self.started("--build", "--lanes", "2"), "tools/dt build --lanes 2")
 
     def test_the_host_shows_the_name_dthreads(self):
-        shows = '#!/bin/sh\ncat /proc/$$/comm\n'
         for make, file in ((self.release, RELEASED), (self.build, BUILT)):
             make()
-            self.write(file, shows, 0o755)
+            self.write(file, "#!/bin/sh\ncat /proc/$$/comm\n", 0o755)
             os.utime(f"{self.top}/{file}", (1, 1))
             self.assertEqual(self.started("run"), "dthreads")
 
@@ -334,54 +280,39 @@ class Choices(Tree):
         self.build()
         self.assertEqual(self.started("run", "x"), f"{BUILT} run x")
 
-    def test_a_changed_source_is_built(self):
-        self.build()
+    def test_changed_sources_are_built_and_those_changed_back_or_with_other_times_are_not(self):
+        file, built = "crates/low/src/lib.rt", "tools/dt build --start --word=:run"
         self.release()
-        self.write("crates/low/src/lib.rt", "//! Other.\n")
-        self.assertEqual(self.started("run", "x", "--trace", "-"), "tools/dt build --start --word=:run --word=:x --word=:--trace --word=:-")
-
-    def test_a_source_that_is_changed_without_its_time_is_built(self):
-        file = f"{self.top}/crates/low/src/lib.rt"
-        self.release()
-        was = os.stat(file)
-        self.write("crates/low/src/lib.rt", "//! low/src/lib.rx\n")
-        os.utime(file, ns=(was.st_atime_ns, was.st_mtime_ns))
-        self.assertEqual(self.started("run"), "tools/dt build --start --word=:run")
-
-    def test_a_source_that_is_changed_back_is_not_built(self):
-        self.release()
-        self.write("crates/low/src/lib.rt", "//! Other.\n")
-        self.write("crates/low/src/lib.rt", "//! low/src/lib.rt\n")
+        os.utime(f"{self.top}/{file}")
         self.assertEqual(self.started("run"), f"{RELEASED} run")
+        was = os.stat(f"{self.top}/{file}")
+        self.write(file, "//! low/src/lib.rx\n")
+        os.utime(f"{self.top}/{file}", ns=(was.st_atime_ns, was.st_mtime_ns))
+        self.assertEqual(self.started("run"), built)
+        self.write(file, "//! low/src/lib.rt\n")
+        self.assertEqual(self.started("run"), f"{RELEASED} run")
+        self.build()
+        self.write(file, "//! Other.\n")
+        self.assertEqual(self.started("run", "x", "--trace", "-"), f"{built} --word=:x --word=:--trace --word=:-")
 
     def test_a_program_that_was_built_by_other_means_since_is_not_taken(self):
         self.build()
         os.utime(f"{self.top}/{built_from.OF_BUILD}", (1, 1))
         self.assertEqual(self.started("run"), "tools/dt build --start --word=:run")
 
-    def test_a_release_is_started_whichever_toolchain_is_here(self):
+    def test_a_release_is_started_whichever_toolchain_is_here_and_built_anew_if_it_does_not_run(self):
         self.release("kit 2")
         for has_rt in (False, True):
             self.assertEqual(self.started("run", has_rt=has_rt), f"{RELEASED} run")
             self.assertEqual((self.said, self.status), ("", 0))
-
-    def test_a_release_that_does_not_run_here_is_built_anew(self):
-        self.release()
-        self.write(RELEASED, "#!/bin/sh\nexit 1\n", 0o755)
-        self.assertEqual(self.started("run"), "tools/dt build --start --word=:run")
-        self.write(RELEASED, "#!/bin/sh\nexit 0\n", 0o644)
-        self.assertEqual(self.started("run"), "tools/dt build --start --word=:run")
+        for text, mode in (("#!/bin/sh\nexit 1\n", 0o755), ("#!/bin/sh\nexit 0\n", 0o644)):
+            self.write(RELEASED, text, mode)
+            self.assertEqual(self.started("run"), "tools/dt build --start --word=:run")
 
     def test_without_a_toolchain_it_says_in_a_line_what_lacks(self):
         self.assertEqual(self.started("run", has_rt=False), "")
-        self.assertEqual(self.status, 1)
-        self.assertEqual(len(self.said.splitlines()), 1)
+        self.assertEqual((self.status, len(self.said.splitlines())), (1, 1))
         self.assertIn("command rt of the Rattle toolchain is not on the PATH", self.said)
-
-    def test_build_is_asked_for_in_any_case(self):
-        self.build()
-        self.release()
-        self.assertEqual(self.started("--build", "--lanes", "2"), "tools/dt build --lanes 2")
 
     def test_it_is_started_by_a_link_and_from_any_folder(self):
         self.release()
