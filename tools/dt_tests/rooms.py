@@ -1,10 +1,15 @@
-"""What tests share: a folder of their own with files, and patches that end with the test."""
+"""What tests share: the texts in data/, a folder of their own with files, and patches that end with the test."""
 import os
 import tempfile
 import unittest
 from unittest import mock
 
-from dt_commands.texts import write_file
+from dt_commands.texts import read_text, write_file
+
+
+def data(name):
+    """Returns a text that tests look at."""
+    return read_text(os.path.join(os.path.dirname(os.path.abspath(__file__)), "data", name))
 
 
 class WithRoom(unittest.TestCase):

@@ -2,24 +2,9 @@
 import unittest
 
 from dt_commands import clauses
+from rooms import data
 
-SOURCE = """/// A half.
-fn half(of: u32) -> u32
-    requires even { of % 2 ≡ 0 }
-    ensures { result + result ≡ of }
-{
-    of / 2
-}
-
-fn quarter(of: u32) -> u32
-    requires { of % 2 ≡
-        0 }
-    ensures* exact { result ≡ of / 4 }
-    ensures { of % 2 ≡ 0 }
-{
-    half(of) / 2
-}
-"""
+SOURCE = data("clauses.txt")
 
 
 class Clauses(unittest.TestCase):

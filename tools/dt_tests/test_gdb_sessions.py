@@ -8,43 +8,12 @@ from unittest import mock
 
 from dt_commands import debugging_page, gdb_sessions, gdb_transcripts, guest_runs
 from dt_commands.texts import write_file
-from rooms import WithRoom
+from rooms import WithRoom, data
 
-TEXT = """# A remark.
-program: a.c -g
-options: --bound 5
-
-(gdb) first
-one {n}
-
-...
-last
-(gdb) second
-"""
+TEXT = data("session.txt")
 
 # A gdb that knows three commands; what it prints behind a prompt is all on its standard output.
-GDB = """#!/usr/bin/env python3
-import signal, subprocess, sys, time
-target = next(it for it in sys.argv if it.startswith("target remote | "))
-words = ["sh", "-c", target[len("target remote | "):]]
-child = subprocess.Popen(words, stdin=subprocess.PIPE, stdout=subprocess.PIPE, start_new_session=True)
-child.stdout.readline()
-interrupts = []
-signal.signal(signal.SIGINT, lambda *_: interrupts.append(1))
-print("greeting")
-while True:
-    print("(gdb) ", end="", flush=True)
-    line = sys.stdin.readline().strip()
-    if line == "continue":
-        end = time.time() + 20
-        while not interrupts and time.time() < end:
-            time.sleep(0.01)
-        print("stopped")
-    elif line == "leave" or not line:
-        sys.exit(3 if line else 0)
-    else:
-        print("what is", line)
-"""
+GDB = data("gdb.txt")
 
 
 def session(text=TEXT, name="a"):

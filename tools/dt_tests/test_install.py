@@ -9,29 +9,14 @@ import unittest
 from dt_commands import install, installed_pages, man_page, release
 from dt_commands.repository import TOP
 from dt_commands.texts import read_text, write_file
-from rooms import WithRoom
+from rooms import WithRoom, data
 
 HAS_COMPILER = subprocess.run([f"{TOP}/guest/dthreads-cc", "--version"], stdout=subprocess.DEVNULL, stderr=subprocess.DEVNULL).returncode == 0
 # What no installation reads.
 UNUSED = (".git", "out", "__pycache__", "crates", "changes", "dt_tests", "tests", "reference")
 NO_COMPILER = "the compiler of guest programs is missing"
 
-PAGE = """# Page
-
-## run
-
-`dthreads run FILE [N]` runs `a-b`. It ends.
-
-| Option | Default | Meaning |
-|---|---|---|
-| `--one N` | 1 | what it is |
-
-- One item.
-
-```
-.dots
-```
-"""
+PAGE = data("options.md")
 
 
 class ManPage(unittest.TestCase):
@@ -51,23 +36,7 @@ class ManPage(unittest.TestCase):
         self.assertEqual(ran.stderr, b"")
 
 
-README = """# Name
-
-## Install, build, first run
-
-In the clone.
-
-## The commands
-
-```
-$ ./dthreads run samples/race.elf
-guest/dthreads-c++ program.cc
-tools/dt test         runs every test
-.ci/run               the gate
-```
-
-`../dthreads` and `tools/dt picture`, [samples](samples/README.md); `./dthreads --build`.
-"""
+README = data("readme.md")
 
 
 class Pages(unittest.TestCase):

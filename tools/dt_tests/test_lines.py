@@ -5,37 +5,13 @@ import subprocess
 import unittest
 
 from dt_commands import guest_runs
-from rooms import WithRoom
+from rooms import WithRoom, data
 
 LINES = f"{guest_runs.KIT}/dthreads-lines"
 # A program whose places are found by their text.
-SOURCE = """struct { int first, others[7]; } table;
-int counter;
-
-__attribute__((noinline)) void add(int *number)
-{
-    *number += 1;
-}
-
-int main(void)
-{
-    add(&counter);
-    add(&table.others[2]);
-    return 0;
-}
-"""
+SOURCE = data("lines.c")
 # Answers of a script that stands for addr2line, by the addresses that it is given.
-ANSWERS = """#!/bin/sh
-while read address; do
-    case $address in
-    0x10100) echo "$PWD/one.c:7" ;;
-    0x10104) echo "/other/two words.c:12 (discriminator 3)" ;;
-    0x18200) echo "$PWD/below/three.c:1" ;;
-    0x18300) echo "four.c:?" ;;
-    *) echo "??:0" ;;
-    esac
-done
-"""
+ANSWERS = data("addr2line.txt")
 
 
 class Lines(WithRoom):

@@ -1,52 +1,18 @@
 """Tests of what `tools/dt mutants` plans and judges: no check is run, each output was recorded. `tools/dt mutants --self-test` runs some."""
-import os
 import unittest
 
-from dt_commands.texts import read_text
 from dt_mutants import verdicts
 from dt_mutants.edits import BadEdit, edits_of, made, pairs_of
 from dt_mutants.functions import changed_functions, functions_of, owner_of
 from dt_mutants.rounds import plan
-from rooms import WithRoom
-
-HERE = os.path.dirname(os.path.abspath(__file__))
+from rooms import WithRoom, data
 
 # A file of the kind that the recorded outputs speak of: the lines of its functions are those of the notes there.
-SOURCE = '''//! Numbers, and what is { odd " about them.
-ghost use Rattle.std.specs.Prelude.{◌≡◌};
-
-pub const LIMIT: u32 = 4;
-
-impl Number {
-    /// The number itself.
-    #[tactic(auto)]
-    pub fn get(&self) -> u32
-        ensures same { result ≡ self.now }
-    {
-        let brace = '{';
-        self.number
-    }
-
-    fn of<'a>(text: &'a str) -> Self {
-        fn inner() -> u32 { 1 }
-        Number { number: inner() }
-    }
-}
-
-impl<W: Write> Sink for Number<W> {
-    fn put(&mut self, bytes: &[u8]) -> Result<(), Fault>;
-
-    fn get(&self) -> u32 {
-        self.number + LIMIT
-    }
-}
-
-fn plain() {}
-'''
+SOURCE = data("mutants.txt")
 
 
 def said(name):
-    return read_text(f"{HERE}/said/{name}.txt")
+    return data(f"said/{name}.txt")
 
 
 class WithCrate(WithRoom):

@@ -4,6 +4,7 @@ import unittest
 
 from dt_commands import changes, crate_pages, definitions, page_links, pages, uncontracted
 from dt_commands.texts import write_file
+from rooms import data
 
 
 class Definitions(unittest.TestCase):
@@ -46,31 +47,7 @@ class Sizes(unittest.TestCase):
         self.assertEqual(found, ["two.md: it has 1,001 bytes, and its limit is 1,000: 1 too many"])
 
 
-SOURCE = """impl Table {
-    /// Has the one clause.
-    pub fn first(&self) -> u32
-        requires { 0 < 1 }
-        ensures { result ≡ 1 }
-    {
-        1
-    }
-
-    /// Has no clause that says what it answers.
-    pub const fn second(&self) -> u32
-        requires { 0 < 1 }
-    {
-        2
-    }
-
-    pub(crate) fn third(&self) {}
-}
-
-pub fn fourth() {
-    fifth()
-}
-
-fn fifth() {}
-"""
+SOURCE = data("uncontracted.txt")
 
 
 class Uncontracted(unittest.TestCase):

@@ -2,86 +2,10 @@
 import unittest
 
 from dt_mutants import served
+from rooms import data
 
-SOURCE = """//! Numbers.
-ghost use Rattle.std.specs.Prelude.{◌≡◌, ◌<◌};
-ghost use Rattle.numbers.specs.Numbers.{IsHalf, most};
-
-/// The most.
-pub const MOST: u32 = 7;
-
-/// A number.
-#[tactic(auto, using(crate::proofs::Numbers::numbers))]
-pub struct Number {
-    value: u32,
-}
-
-impl Number {
-    /// The number's value.
-    pub fn value(&self) -> u32
-        ensures value { result ≡ self.now.value }
-    {
-        // (it is a copy)
-        let url = "http://{";
-        self.value
-    }
-
-    pub const fn most() -> u32 {
-        MOST
-    }
-
-    /// Its half.
-    pub(crate) fn half(&self) -> u32
-        ensures half { IsHalf self.now.value result }
-    {
-        self.value / 2
-    }
-}
-
-impl Ordered for Number {
-    fn is_below(&self, other: &Self) -> bool
-        ensures { result ≡ less self.now other.now }
-    {
-        self.value < other.value
-    }
-}
-
-trait Counted {
-    fn count(&self) -> u32
-        ensures { result ≡ most }
-    {
-        7
-    }
-}
-
-fn is_small(number: &Number) -> bool
-    ensures small { IsSmall number.now }
-{
-    true
-}
-"""
-SPECS = """-- Numbers.
-use Rattle.std.specs.Prelude.{◌≡◌, ◌+◌, ℕ}
-use Rattle.std.specs.List.{length}
-
--- the most
-abbrev pub most : ℕ
-most = limit
-
-abbrev pub limit : ℕ
-limit = 7
-
--- whether a number is half of another
-pub record IsHalf (whole half : ℕ) : Type 0 where
-  pub exact : half + half ≡ whole
-
-unfoldable pub size : List ℕ → ℕ
-size [] = 0
-size list = length list
-
-pub data Sign : Type 0 where
-  Plus : Sign
-"""
+SOURCE = data("served.txt")
+SPECS = data("served-specs.txt")
 
 
 def crate(source=SOURCE, specs=SPECS, lemmas="-- none\n", above=()):

@@ -5,7 +5,7 @@ import unittest
 from dt_commands import made_up_errors
 from dt_commands.texts import read_text
 
-FOLDER = f"{os.path.dirname(os.path.abspath(__file__))}/sources"
+FOLDER = f"{os.path.dirname(os.path.abspath(__file__))}/data/sources"
 
 
 class Sources(unittest.TestCase):

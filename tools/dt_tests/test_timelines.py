@@ -3,6 +3,7 @@ import json
 import unittest
 
 from dt_commands import timeline_files, timelines, written_guests
+from rooms import data
 
 ONE_TURN = "1 0 exit 00000007 00000000 00000000 -> end changed=0 ran=3\n"
 ITS_TIMELINE = """{"traceEvents":[
@@ -14,21 +15,7 @@ ITS_TIMELINE = """{"traceEvents":[
 ],"otherData":{"unit":"instructions","critical_path":3,"instructions":3,"processors":1.00,"turns":1,"phases":1,"threads":[{"thread":0,"instructions":3,"token":0}]}}
 """
 # Thread 1 waits at condition 0, thread 2 behind it; thread 0 wakes one by a signal, the other by a broadcast.
-CONDITIONS = """1 0 create 00010000 00000000 00000000 -> 0 00000001 changed=2 ran=4
-2 0 create 00010000 00000000 00000000 -> 0 00000002 changed=0 ran=10
-2 1 wait 00000000 00000001 00000000 -> wait changed=0 ran=3
-3 0 sync 00000000 00000000 00000000 -> 0 changed=0 ran=6
-3 2 wait 00000000 00000001 00000000 -> wait changed=0 ran=8
-4 0 signal 00000000 00000000 00000000 -> 0 00000001 changed=0 ran=1
-5 0 broadcast 00000000 00000000 00000000 -> 0 00000001 changed=0 ran=5
-5 1 wake 1 changed=0 ran=0
-5 1 unlock 00000001 00000000 00000000 -> 0 changed=1 ran=2
-6 0 quantum 00010010 changed=0 ran=100
-6 1 thread_exit 00000000 00000000 00000000 -> end changed=0 ran=9
-6 2 wake 1 changed=0 ran=0
-6 2 call_000000ff 00000000 00000000 00000000 -> 1 changed=0 ran=7
-7 0 trap 3 00010014 00000000 changed=0 ran=0
-"""
+CONDITIONS = data("conditions.trace")
 # Thread 1 comes to barrier 2, which thread 0 completes before and behind it; in the end both threads join each other.
 BARRIERS = """1 0 create 00010000 00000000 00000000 -> 0 00000001 changed=0 ran=1
 2 0 barrier 00000002 00000001 00000000 -> 0 00000001 changed=0 ran=1

@@ -6,18 +6,9 @@ from unittest import mock
 from dt_commands import test
 from dt_commands.repository import TOP, crates
 from dt_commands.texts import read_text
-from rooms import WithRoom
+from rooms import WithRoom, data
 
-SAID = """tests: 3
-test tests::beyond ... FAILED
-    checked: fault kind=index-out-of-bounds at=src/tests.rt:17:17
-    run=fault
-test tests::good ... ok
-test tests::long ... FAILED
-    checked: no-answer: the program did not end within the time limit
-test result: FAILED. 1 passed; 2 failed; 0 ignored; 0 filtered out
-run=fault proved=no
-"""
+SAID = data("try.txt")
 ENDED = "checked: ended status=7\nrun=ended status=7 runners=1 races=unchecked proved=no\n"
 
 
