@@ -1,4 +1,4 @@
-    /* What a C++ program has among the constants of link.ld: the tables by which exceptions find their way. */
+    /* What a program in C++ or Rust has among the constants of link.ld: the tables by which exceptions find their way. */
     .eh_frame : ALIGN(4) {
         __dthreads_frames = .;
         KEEP(*(.eh_frame .eh_frame.*))

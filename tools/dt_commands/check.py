@@ -6,7 +6,7 @@ from dt_commands import clauses, layers, made_up_errors, pages, sample_pictures,
 
 PARTS = {
     "sources": "made_up_errors", "clauses": "clauses", "layers": "layers", "pages": "pages", "samples": "samples",
-    "pictures": "sample_pictures", "c-samples": "c_samples", "c-functions": "c_functions",
+    "pictures": "sample_pictures", "c-samples": "c_samples", "c-functions": "c_functions", "rust-libc": "rust_libc",
 }
 
 

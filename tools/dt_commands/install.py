@@ -1,9 +1,10 @@
 """Installs the program, the kit for programs in C, the samples and the pages below a prefix.
 
-Below PREFIX, bin/ has dthreads, and dthreads-cc, dthreads-c++, dthreads-exec, dthreads-gdb, dthreads-lines and dthreads-picture as links
-to the kit; share/dthreads/ has the kit (guest/), the samples and what draws pictures (tools/), share/doc/dthreads the pages, as they
-speak of what is installed, and share/man/man1 the manual page. All of it works without the checkout, from any folder, and may be moved
-as a whole. What an earlier call left below share/dthreads and share/doc/dthreads is replaced.
+Below PREFIX, bin/ has dthreads, and dthreads-cc, dthreads-c++, dthreads-rustc, dthreads-cargo, dthreads-exec, dthreads-gdb,
+dthreads-lines and dthreads-picture as links to the kit; share/dthreads/ has the kit (guest/), the samples and what draws pictures
+(tools/), share/doc/dthreads the pages, as they speak of what is installed, and share/man/man1 the manual page. All of it works without
+the checkout, from any folder, and may be moved as a whole. What an earlier call left below share/dthreads and share/doc/dthreads is
+replaced.
 
 The program is the one built here from the sources as they are, or the release if it is theirs; else build it first. If the compiler of
 guest programs is there, the C library is built, since a user may not write below PREFIX; what the checkout has built of it serves if no
@@ -24,9 +25,10 @@ from dt_commands.texts import read_text, write_file
 BIN, SHARE, DOC, MAN = "bin", "share/dthreads", "share/doc/dthreads", "share/man/man1"
 # What of guest/ isn't the kit: its tests, the lists that a page is made from, and what was built.
 NOT_KIT = ("tests", "reference", "out")
-COMMANDS = ("dthreads-cc", "dthreads-c++", "dthreads-exec", "dthreads-gdb", "dthreads-lines", "dthreads-picture")
-# C++'s library, if guest/build-libstdcxx was done, and C's, if a program was compiled here.
-LIBSTDCXX, LIBRARY = "guest/out/libstdcxx", "guest/out/libdthreads.a"
+COMMANDS = ("dthreads-cc", "dthreads-c++", "dthreads-rustc", "dthreads-cargo", "dthreads-exec", "dthreads-gdb", "dthreads-lines",
+            "dthreads-picture")
+# The libraries of C++ and Rust, if guest/build-libstdcxx and guest/build-rust were done, and C's, if a program was compiled here.
+OTHERS, LIBRARY = ("guest/out/libstdcxx", "guest/out/rust"), "guest/out/libdthreads.a"
 PAGES = ("README.md", "CONTRIBUTING.md", "LICENSE-APACHE", "LICENSE-MIT")
 
 
@@ -72,8 +74,9 @@ def install_kit(prefix):
     """Installs the kit, with the samples beside it, and the commands that a user calls."""
     copy_folder(f"{TOP}/guest", f"{prefix}/{SHARE}/guest", NOT_KIT)
     copy_folder(f"{TOP}/samples", f"{prefix}/{SHARE}/samples")
-    if os.path.isdir(f"{TOP}/{LIBSTDCXX}"):
-        shutil.copytree(f"{TOP}/{LIBSTDCXX}", f"{prefix}/{SHARE}/{LIBSTDCXX}")
+    for it in OTHERS:
+        if os.path.isdir(f"{TOP}/{it}"):
+            shutil.copytree(f"{TOP}/{it}", f"{prefix}/{SHARE}/{it}")
     if os.path.isfile(f"{TOP}/{LIBRARY}"):
         # (all files keep their times, so dthreads-cc sees there as here whether it is older than a source)
         os.makedirs(f"{prefix}/{SHARE}/guest/out", exist_ok=True)

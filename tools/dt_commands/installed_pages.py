@@ -11,7 +11,7 @@ LINES = ("tools/dt ", ".ci/run")
 # Words of a clone, and what they are called below a prefix.
 WORDS = [
     (r"\btools/dt picture\b", "dthreads-picture"),
-    (r"\bguest/(dthreads-(?:cc|exec|gdb|lines|picture)\b|dthreads-c\+\+)", r"\1"),
+    (r"\bguest/(dthreads-(?:cc|rustc|cargo|exec|gdb|lines|picture)\b|dthreads-c\+\+)", r"\1"),
     (r"(?<![\w/.])\.{1,2}/dthreads\b(?! --build)", "dthreads"),
 ]
 WHERE = (

@@ -12,7 +12,7 @@ import sys
 import time
 from collections import namedtuple
 
-from dt_commands import guest_runs, lanes, packages
+from dt_commands import guest_runs, lanes, packages, rust_tests
 from dt_commands.progress import minutes
 from dt_commands.repository import TOP
 from dt_mutants.progress import processor_seconds
@@ -38,9 +38,14 @@ PARTS = [
     Part("page", ["test", "c-page"], 1, ["docs/C.md", "docs/CLEAN-RUNS.md", "docs/OPENMP.md"]),
     Part("manual pages", ["test", "manual"], 1, ["guest/tests/manual"]),
 ]
+# What is made if guest/build-rust was done.
+OF_RUST = [
+    Part("programs in Rust", ["test", "rust"], 4, ["guest/tests/rust", "docs/RUST.md"]),
+    Part("the crate libc", ["check", "rust-libc"], 1, []),
+]
 # The commands that build and debug guests; and what the environment says of them.
 TOOLS = [f"riscv64-unknown-elf-{it}" for it in ("gcc", "g++", "as", "ld", "ar", "nm", "strip", "objdump", "readelf")]
-SETTINGS = ["DTHREADS_LIBSTDCXX", "DTHREADS_LIBGOMP", "MANUAL"]
+SETTINGS = ["DTHREADS_LIBSTDCXX", "DTHREADS_LIBGOMP", "DTHREADS_RUST", "MANUAL"]
 
 
 def arguments(parser):
@@ -70,7 +75,8 @@ def machine():
     with open(guest_runs.program(), "rb") as it:
         yield hashlib.sha256(it.read()).hexdigest()
     marks = [it if it.startswith("/") else shutil.which(it) for it in packages.NEEDED.values()]
-    yield from map(state_of, [*marks, *map(shutil.which, TOOLS), *(f"{guest_runs.KIT}/out/{it}/stamp" for it in ("libstdcxx", "libgomp"))])
+    stamps = [f"{guest_runs.KIT}/out/libstdcxx/stamp", f"{guest_runs.KIT}/out/libgomp/stamp", f"{rust_tests.folder()}/stamp"]
+    yield from map(state_of, [*marks, *map(shutil.which, TOOLS), *stamps])
     yield from [sys.version, *(f"{it}={os.environ.get(it)}" for it in SETTINGS)]
     words = ["dpkg-query", "-W", *packages.NEEDED]
     yield subprocess.run(words, stdout=subprocess.PIPE, stderr=subprocess.DEVNULL, text=True).stdout if shutil.which("dpkg-query") else ""
@@ -162,4 +168,6 @@ class Session:
 
 def test(options):
     """Runs what users of C run: the parts on guest programs, races, hints, core files, gdb, timelines and samples, in lanes."""
-    return Session(PARTS).run(lanes.count(options.lanes), options.anew)
+    if not rust_tests.has_rust():
+        print(f"programs in Rust: left out, {rust_tests.why_not()}", flush=True)
+    return Session(PARTS + (OF_RUST if rust_tests.has_rust() else [])).run(lanes.count(options.lanes), options.anew)

@@ -1,0 +1,6 @@
+//! The end by abort.
+
+fn main() {
+    println!("before");
+    std::process::abort();
+}

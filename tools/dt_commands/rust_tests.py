@@ -1,0 +1,179 @@
+"""The tests of the kit for Rust: the programs of guest/tests/rust and samples/rust, a project that cargo builds, and std's own tests.
+
+They need guest/build-rust, and Debian's packages for it. A line of guest/tests/rust/list has a program, its status, and the words of
+dthreads-exec. A program marked `host` gave the output of the host's build; --host compares them anew. --std builds std's own tests from
+the package rust-web-src and runs them, some minutes of a processor. DTHREADS names the program to run the others with, or else ./dthreads.
+"""
+import hashlib
+import os
+import re
+import shutil
+import subprocess
+import tempfile
+
+from dt_commands import c_page, guest_runs, rust_std
+from dt_commands.progress import Progress
+from dt_commands.repository import TOP
+from dt_commands.texts import contents, first_difference, rows_of
+
+FOLDER = f"{guest_runs.KIT}/tests/rust"
+SAMPLES = f"{TOP}/samples/rust"
+PACKAGES = {"rustc-web": "/usr/bin/rustc", "cargo-web": "/usr/bin/cargo", "rust-web-src": "/usr/lib/rustlib/src/rust/library/vendor"}
+EDITION = ["--edition", "2021"]
+# The programs whose list of races isn't empty: of each access its kind and its line.
+RACY = {
+    "races": ["store races.rs:15 load races.rs:15", "store races.rs:15 store races.rs:15", "store races.rs:20 store races.rs:20",
+              "store races.rs:25 store races.rs:25"],
+    "lost_update": ["store lost_update.rs:14 load lost_update.rs:14", "store lost_update.rs:14 store lost_update.rs:14"],
+}
+ACCESS = r"(load|store) \S+ \S+ pc=\S+ at=\S*?([^/\s]+:\d+)"
+RACE = re.compile(rf"race address=\S+ bytes=\d {ACCESS} {ACCESS}")
+
+
+def arguments(parser):
+    parser.add_argument("names", nargs="*", metavar="NAME", help="the programs, `project` or `page` (default: all)")
+    parser.add_argument("--host", action="store_true", help="compare with the host's builds, too")
+    parser.add_argument("--std", action="store_true", help="std's own tests in place of the programs")
+    guest_runs.with_share(parser)
+
+
+def folder():
+    """Returns the folder of Rust's library."""
+    return f"{os.environ.get('DTHREADS_RUST') or f'{guest_runs.KIT}/out'}/rust"
+
+
+def has_rust():
+    return os.path.exists(f"{folder()}/stamp")
+
+
+def why_not():
+    """Returns what is missing, and what to do."""
+    missing = [name for name, mark in PACKAGES.items() if not os.path.exists(mark)]
+    if missing:
+        return f"the packages {', '.join(missing)} are missing: apt-get install {' '.join(missing)}, and then guest/build-rust"
+    return "guest/build-rust wasn't done"
+
+
+def compiled(words, out, where):
+    """Builds a program by the kit, from a folder. Returns what the compiler said if it is not built, else None."""
+    how = {"cwd": where, "stdout": subprocess.PIPE, "stderr": subprocess.STDOUT, "errors": "replace"}
+    ran = subprocess.run([f"{guest_runs.KIT}/dthreads-rustc", "-g", "-O", *words, "-o", out], **how)
+    return ran.stdout if ran.returncode else None
+
+
+def races_of(elf, words, given, room):
+    """Returns the races of a run, each as RACY writes it."""
+    races = f"{room}/races"
+    command = [f"{guest_runs.KIT}/dthreads-exec", elf, "--races", races, *words]
+    with open(given or os.devnull, "rb") as it:
+        subprocess.run(command, stdin=it, stdout=subprocess.DEVNULL, stderr=subprocess.DEVNULL, env=environment())
+    with open(races, "rb") as it:
+        told = subprocess.run([f"{guest_runs.KIT}/dthreads-lines", elf], stdin=it, stdout=subprocess.PIPE, errors="replace").stdout
+    return [" ".join(RACE.match(line).groups()) if RACE.match(line) else line for line in told.splitlines()]
+
+
+def environment():
+    return {**os.environ, "DTHREADS": guest_runs.program()}
+
+
+def of_host(source, words, given, room):
+    """Returns the output and the status of the host's build of a program."""
+    name = os.path.basename(source)[:-3]
+    subprocess.run(["/usr/bin/rustc", "-O", "-Awarnings", *EDITION, source, "-o", f"{room}/{name}"], check=True)
+    arguments_of = words[words.index("--") + 1:] if "--" in words else []
+    variables = dict(words[at + 1].split("=", 1) for at, word in enumerate(words) if word == "--env")
+    with open(given or os.devnull, "rb") as it:
+        ran = subprocess.run([f"{room}/{name}", *arguments_of], stdin=it, stdout=subprocess.PIPE, stderr=subprocess.DEVNULL,
+                             env={**os.environ, **variables}, cwd=room)
+    return ran.stdout, ran.returncode % 256 if ran.returncode >= 0 else 128 - ran.returncode
+
+
+class Case:
+    """A line of a list: a program in a folder."""
+
+    def __init__(self, where, name, status, *words):
+        self.where, self.name, self.status, self.is_like_host = where, name, int(status), "host" in words[:1]
+        self.of_compiler = [it for it in words if it.startswith("-C")]
+        self.words = [it for it in words[self.is_like_host:] if it not in self.of_compiler]
+        self.given = f"{where}/{name}.in" if os.path.exists(f"{where}/{name}.in") else None
+        self.wanted = contents(f"{where}/{name}.out") or b""
+
+
+def test_program(tally, room, case, with_host):
+    """Builds and runs a program: output, status, one trace, and its races."""
+    elf = f"{room}/{case.name}.elf"
+    said = compiled([*EDITION, *case.of_compiler, f"{case.name}.rs"], elf, case.where)
+    if said is not None:
+        tally.fail(f"{said}{case.name}: doesn't build")
+        return
+    guest = guest_runs.Guest([f"{guest_runs.KIT}/dthreads-exec", elf], case.words, case.given, environment=environment())
+    guest_runs.agree(tally, case.name, guest, room, case.wanted, case.status)
+    found, wanted = races_of(elf, case.words, case.given, room), RACY.get(case.name, [])
+    if found != wanted:
+        tally.fail(f"{case.name}: the races {found[:5]}, wanted {wanted}")
+    if with_host and case.is_like_host:
+        output, status = of_host(f"{case.where}/{case.name}.rs", case.words, case.given, room)
+        if (output, status) != (case.wanted, case.status):
+            tally.fail(f"{case.name}: the host's status is {status}; {first_difference(case.wanted, output)}")
+
+
+def sums_of(where):
+    """Returns the sums of the files of a project, but for those that were built."""
+    found = {}
+    for at, folders, names in os.walk(where):
+        folders[:] = [it for it in folders if it != "target"]
+        found.update({f"{at}/{it}": hashlib.sha256(contents(f"{at}/{it}")).hexdigest() for it in names})
+    return found
+
+
+def without_times(text):
+    """Returns what the tests said without their seconds, which are the run's."""
+    return re.sub(r"finished in [\d.]+s", "finished in *", text)
+
+
+def test_project(tally, room):
+    """Builds, runs and tests a project of several crates by dthreads-cargo: it prints project.out, and its own files stay as they are."""
+    where, said = f"{room}/project", ""
+    shutil.copytree(f"{FOLDER}/project", where)
+    before = sums_of(where)
+    for words in (["run", "--", "one", "two"], ["run", "--release", "--workers", "4", "--races", "-"], ["test", "--workers=2"], ["bench"]):
+        how = {"cwd": where, "stdin": subprocess.DEVNULL, "stdout": subprocess.PIPE, "stderr": subprocess.PIPE, "errors": "replace"}
+        ran = subprocess.run([f"{guest_runs.KIT}/dthreads-cargo", words[0], "--offline", *words[1:]], env=environment(), **how)
+        said += f"$ {' '.join(words)}\n{without_times(ran.stdout)}status {ran.returncode}\n"
+        if "race " in ran.stderr or "error" in ran.stderr:
+            tally.fail(f"project: {ran.stderr[-600:]}")
+    if said.encode() != contents(f"{FOLDER}/project.out"):
+        tally.fail(f"project: {first_difference(said.encode(), contents(f'{FOLDER}/project.out'))}")
+    after = sums_of(where)
+    if after != before:
+        tally.fail(f"project: files were changed: {sorted(it for it in {**before, **after} if before.get(it) != after.get(it))}")
+
+
+def test_page(tally, room):
+    """Runs the commands of the page."""
+    if not c_page.is_as_told("docs/RUST.md"):
+        tally.fail("docs/RUST.md says something else")
+
+
+def tasks(options):
+    """Returns what is tried: a name and a call each."""
+    cases = [Case(where, *row) for where in (FOLDER, SAMPLES) if os.path.exists(f"{where}/list") for row in rows_of(f"{where}/list")]
+    found = [(it.name, lambda tally, room, it=it: test_program(tally, room, it, options.host)) for it in cases]
+    found += [("project", test_project), ("page", test_page)]
+    return [it for it in found if not options.names or it[0] in options.names]
+
+
+def test(options):
+    """Builds programs in Rust, and runs each with 1, 2, 4 and 64 workers: wanted output, status and races, and one trace."""
+    if not has_rust():
+        print(f"programs in Rust: left out, {why_not()}")
+        return 1
+    if options.std:
+        return rust_std.test(options)
+    tally = guest_runs.Tally()
+    every = guest_runs.share(options.share, tasks(options))
+    tally.tried = len(every)
+    with tempfile.TemporaryDirectory() as room, Progress("programs", len(every)) as progress:
+        for _, does in progress.each(every, lambda it: it[0]):
+            does(tally, room)
+    return tally.status("programs in Rust", ", each with 1, 2, 4 and 64 workers: the wanted output and races, and one trace")
