@@ -2,7 +2,8 @@
 
 They need guest/build-rust, and Debian's packages for it. A line of guest/tests/rust/list has a program, its status, and the words of
 dthreads-exec. A program marked `host` gave the output of the host's build; --host compares them anew. --std builds std's own tests from
-the package rust-web-src and runs them, some minutes of a processor. DTHREADS names the program to run the others with, or else ./dthreads.
+the package rust-web-src and runs them, --crates programs over crates of Debian's packages; each takes some minutes of a processor. DTHREADS
+names the program to run the others with, or else ./dthreads.
 """
 import hashlib
 import os
@@ -11,7 +12,7 @@ import shutil
 import subprocess
 import tempfile
 
-from dt_commands import c_page, guest_runs, rust_std
+from dt_commands import c_page, guest_runs, rust_crates, rust_std
 from dt_commands.progress import Progress
 from dt_commands.repository import TOP
 from dt_commands.texts import contents, first_difference, rows_of
@@ -34,6 +35,7 @@ def arguments(parser):
     parser.add_argument("names", nargs="*", metavar="NAME", help="the programs, `project` or `page` (default: all)")
     parser.add_argument("--host", action="store_true", help="compare with the host's builds, too")
     parser.add_argument("--std", action="store_true", help="std's own tests in place of the programs")
+    parser.add_argument("--crates", action="store_true", help="programs over Debian's crates in place of the programs")
     guest_runs.with_share(parser)
 
 
@@ -168,8 +170,8 @@ def test(options):
     if not has_rust():
         print(f"programs in Rust: left out, {why_not()}")
         return 1
-    if options.std:
-        return rust_std.test(options)
+    if options.std or options.crates:
+        return (rust_std if options.std else rust_crates).test(options)
     tally = guest_runs.Tally()
     every = guest_runs.share(options.share, tasks(options))
     tally.tried = len(every)
