@@ -24,7 +24,7 @@ KINDS = [
     Kind("OpenMP: a loop in 16 chunks", ["-fopenmp", "-DKIND=dynamic", f"{FOLDER}/openmp.c"]),
     Kind("OpenMP: 16 tasks", ["-fopenmp", "-DKIND=tasks", f"{FOLDER}/openmp.c"]),
 ]
-QUANTA = [None, 1000000, 300000, 100000]
+QUANTA = [None, 1000000, 200000, 100000]
 
 
 def arguments(parser):

@@ -168,7 +168,7 @@ class Starting(unittest.TestCase):
         ran, said = self.called(["it's a.elf", "--input", "a b", "--bound", "5", "--", "-batch", "-ex", "info x"], ["gdb-multiarch"])
         lines = ran.stdout.splitlines()
         self.assertEqual((ran.returncode, lines[:3], lines[-3:]), (0, ["gdb-multiarch", "-q", "it's a.elf"], ["-batch", "-ex", "info x"]))
-        self.assertEqual(said, "<debug><it's a.elf><--input><a b><--bound><5><--quantum><300000>")
+        self.assertEqual(said, "<debug><it's a.elf><--input><a b><--bound><5><--quantum><200000>")
 
     def test_a_quantum_is_the_one_that_is_named(self):
         for words, wanted in ((["--quantum", "7"], "<--quantum><7>"), (["--quantum=8"], "<--quantum><8>"), (["--quantum", "none"], "")):
