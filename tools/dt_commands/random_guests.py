@@ -115,7 +115,7 @@ def file_of(main, first, words):
     """The file of a program whose code begins with these words, and goes on with others after so many."""
     assert len(main) <= first
     code = b"".join(struct.pack("<I", word & 0xFFFFFFFF) for word in main + [0] * (first - len(main)) + words)
-    return written_guests.elf_of(CODE, code, [(DATA, ROOM)])
+    return written_guests.file_with(CODE, code, [(DATA, ROOM)])
 
 
 def guest(random):

@@ -37,20 +37,42 @@ def listing(name):
     """Returns the words of a program by their addresses, from its own listing or from the sample's beside it."""
     head = head_of(name)
     text = head if re.search(r"^listing$", head, re.M) else contents(f"{DATA}/{name}.listing").decode()
-    return {int(address, 16): int(word, 16) for address, word in WORD.findall(text)}
+    return words_of(text)
+
+
+def words_of(listing_text):
+    return {int(address, 16): int(word, 16) for address, word in WORD.findall(listing_text)}
+
+
+def zeros_in(text):
+    """Returns the segments of zeros that a program's text has: of each its address and its size."""
+    return [(int(at, 16), int(size)) for at, size in re.findall(r"^zeros ([0-9a-f]+) (\d+)$", text, re.M)]
+
+
+def zeros_of(name):
+    return zeros_in(text_of(name))
 
 
 def elf(name):
-    """Returns the file of a program of this name."""
-    words = listing(name)
-    start, code = min(words), b"".join(struct.pack("<I", words[it]) for it in sorted(words))
-    if len(code) != max(words) + 4 - start:
+    """Returns the file of a program: a segment of code, and its segments of zeros."""
+    return elf_of(name, listing(name), zeros_of(name))
+
+
+def elf_of(name, words, zeros):
+    """Returns the file of a program with these words by their addresses, and these segments of zeros."""
+    start = min(words)
+    if 4 * len(words) != max(words) + 4 - start:
         raise SystemExit(f"{name}: its listing has gaps")
-    return elf_of(start, code, [(int(at, 16), int(size)) for at, size in re.findall(r"^zeros ([0-9a-f]+) (\d+)$", text_of(name), re.M)])
+    return file_of([words[it] for it in sorted(words)], zeros, start)
 
 
-def elf_of(start, code, zeros):
-    """Returns the file of a program: a segment of code, where it begins, and segments of zeros, each with its address and size."""
+def file_of(words, zeros=((0x20000, 4096),), start=0x10000):
+    """Returns a file whose code are these words, with further segments of zeros that can be read and written."""
+    return file_with(start, b"".join(struct.pack("<I", it) for it in words), zeros)
+
+
+def file_with(start, code, zeros):
+    """Returns a file: a segment of code, where it begins, and segments of zeros, each with its address and size."""
     count = 1 + len(zeros)
     at = 52 + 32 * count
     header = bytes.fromhex("7f454c46010101000000000000000000")
