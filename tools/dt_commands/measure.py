@@ -5,5 +5,5 @@ and where the time goes. And proofs: which functions take long.
 PARTS = {
     "workers": "measure_workers", "c-samples": "measure_c_samples", "debugger": "measure_debugger", "library": "measure_library",
     "quantum": "measure_quantum", "real-quantum": "measure_real_quantum", "yardstick": "measure_yardstick", "where": "measure_where",
-    "proofs": "measure_proofs", "rust": "measure_rust",
+    "parts": "bench", "proofs": "measure_proofs", "rust": "measure_rust",
 }

@@ -32,7 +32,7 @@ from dt_mutants.progress import processor_seconds
 PARTS = {
     "c-samples": "c_samples", "guest": "guest_tests", "manual": "manual_examples", "c-page": "c_page", "programs": "debian_programs",
     "gdb": "gdb_sessions", "hints": "hints", "core": "core_files", "races": "race_lists", "timeline": "timeline_files",
-    "rows": "rows", "threads": "host_threads", "streams": "closed_streams", "kit": "kit_tests", "builds": "kit_words",
+    "rows": "rows", "threads": "host_threads", "streams": "closed_streams", "bench": "bench", "kit": "kit_tests", "builds": "kit_words",
     "openmp": "openmp_tests", "rust": "rust_tests",
 }
 

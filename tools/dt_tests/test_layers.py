@@ -30,7 +30,7 @@ class Layers(unittest.TestCase):
 
     def test_prefixes_are_those_of_the_sections(self):
         self.assertEqual(["rows: its prefix is not that of the section tests"], found(["rows"], tests=["rows:"]))
-        self.assertEqual(["tool_bench: its prefix is not that of the section ground"], found(["tool_bench"], ground=["tool_bench:"]))
+        self.assertEqual(["test_bench: its prefix is not that of the section ground"], found(["test_bench"], ground=["test_bench:"]))
 
     def test_folders_and_lines_agree(self):
         self.assertEqual(["abi: it has no folder in crates/", "hart: it has no line in crates.txt"], found(["hart"], ground=["abi:"]))

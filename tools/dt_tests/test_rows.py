@@ -5,7 +5,7 @@ import tempfile
 import unittest
 from unittest import mock
 
-from dt_commands import command_rows, row_texts, rows, run_rows, session_rows, written_guests
+from dt_commands import bench, command_rows, row_texts, rows, run_rows, session_rows, written_guests
 
 ROW = """# A comment.
 
@@ -154,6 +154,16 @@ class Answers(unittest.TestCase):
             row.lines = [line]
             with self.subTest(line):
                 self.assertEqual(len(command_rows.compare(row, "")), 1)
+
+
+class Bench(unittest.TestCase):
+    def test_it_is_put_beside_the_crates_below_it(self):
+        with tempfile.TemporaryDirectory() as place:
+            crate = bench.put(place, is_proved=False)
+            self.assertTrue(os.path.isfile(f"{crate}/src/main.rt"))
+            self.assertEqual({*os.listdir(f"{place}/crates")}, {bench.NAME, *bench.crates_below()})
+            with open(f"{place}/crates.txt", encoding="utf-8") as it:
+                self.assertEqual(len(it.readlines()), 1 + len(bench.crates_below()))
 
 
 if __name__ == "__main__":
