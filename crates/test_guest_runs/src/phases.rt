@@ -8,7 +8,7 @@ use std::alloc::Global;
 use std::sync::Wait;
 use std::thread::Threads;
 use test_guest_rows::Differences;
-use test_phase_by_phase::trace_of;
+use test_run_ways::trace_of;
 use token::Start;
 
 /// The numbers of workers that each run is made with.

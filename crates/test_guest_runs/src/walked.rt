@@ -10,7 +10,7 @@ use schedule_core::World;
 use std::alloc::{AllocError, Global};
 use std::rt::Files;
 use test_guest_rows::{Differences, show};
-use test_random_schedules::{Dice, walk_to_end};
+use test_run_ways::{Dice, walk_to_end};
 use token::RunOutcome;
 use tracer::trace_text;
 
