@@ -7,15 +7,14 @@ program that runs the guests, or else ./dthreads.
 """
 import os
 import re
-import shutil
 import subprocess
 import tempfile
 from collections import namedtuple
 
-from dt_commands import guest_runs
+from dt_commands import guest_runs, packages
 from dt_commands.repository import TOP
 
-TOOLS = {"gdb-multiarch": "gdb-multiarch", "riscv64-unknown-elf-readelf": "binutils-riscv64-unknown-elf"}
+TOOLS = {"gdb-multiarch": "gdb-multiarch", "binutils-riscv64-unknown-elf": "riscv64-unknown-elf-readelf"}
 SECONDS = 60
 # A program: its source with the options of the compiler, the status of its run, what gdb says of its signal, its threads (their pids, the
 # first one first), functions of which each is in some thread's backtrace, and what gdb prints of expressions.
@@ -81,15 +80,9 @@ def of_program(program, room):
     yield from of_readelf(program, core)
 
 
-def lacking():
-    """Returns the packages that are missing."""
-    return [package for command, package in TOOLS.items() if not shutil.which(command)]
-
-
 def test(_):
     """Runs programs with --core, and looks at their core files with gdb-multiarch and readelf."""
-    if lacking():
-        raise SystemExit(f"tools/dt: core files are read by the packages {' '.join(lacking())}")
+    packages.want("core files are read by the packages", TOOLS)
     tally = guest_runs.Tally()
     for program in PROGRAMS:
         tally.tried += 1

@@ -17,18 +17,17 @@ Needed are Debian's gdb-multiarch and the packages that guest/packages lists. DT
 import os
 import select
 import shlex
-import shutil
 import signal
 import subprocess
 import tempfile
 import time
 
-from dt_commands import guest_runs
+from dt_commands import guest_runs, packages
 from dt_commands.gdb_transcripts import FOLDER, INTERRUPT, KILL, PROMPT, SILENT, Session, faults, names, rewritten, text_of
 from dt_commands.progress import Progress
 from dt_commands.texts import read_text, write_file
 
-PACKAGES = {"gdb-multiarch": "gdb-multiarch", "riscv64-unknown-elf-gcc": "gcc-riscv64-unknown-elf"}
+PACKAGES = {"gdb-multiarch": "gdb-multiarch", "gcc-riscv64-unknown-elf": "riscv64-unknown-elf-gcc"}
 # How long a command may take, and how long after its command gdb is interrupted or killed, in seconds.
 LIMIT, LATER = 60, 1
 # What gdb is told before the session: no answer is asked for, and no line is broken.
@@ -135,15 +134,9 @@ def transcript(session, room):
     return got, debugger.end(), debugger.left()
 
 
-def lacking():
-    """Returns the packages that are missing."""
-    return [package for command, package in PACKAGES.items() if not shutil.which(command)]
-
-
 def run(chosen):
     """Runs sessions, and yields each with its text and what it came to."""
-    if lacking():
-        raise SystemExit(f"tools/dt: sessions of gdb need the packages {' '.join(lacking())}")
+    packages.want("sessions of gdb need the packages", PACKAGES)
     with Progress("sessions", len(chosen)) as progress:
         for name in progress.each(chosen):
             text = text_of(name)

@@ -31,6 +31,12 @@ def lacking(needed=None):
     return [name for name, mark in (needed or NEEDED).items() if not (os.path.exists(mark) if mark.startswith("/") else shutil.which(mark))]
 
 
+def want(what, needed):
+    """Ends with the packages that are missing, if any are."""
+    if lacking(needed):
+        raise SystemExit(f"tools/dt: {what} {' '.join(lacking(needed))}")
+
+
 def versions():
     """Returns the versions of the packages that guest/packages lists."""
     return dict(rows_of(f"{TOP}/guest/packages"))

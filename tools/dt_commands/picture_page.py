@@ -35,20 +35,15 @@ def table(heads, rows):
 
 def numbers(run):
     """Returns the four numbers, as tiles and in words."""
-    token = sum(it.token for it in run.threads)
-    tiles = [
-        (f"{run.length:,}", "length of the critical path"), (f"{run.instructions:,}", "instructions of all threads"),
-        (run.processors, "processors it could use"), (f"{token:,}", "spent waiting for the token"),
-    ]
-    drawn = "".join(f"<div><b>{number}</b><span>{caption}</span></div>" for number, caption in tiles)
-    return f'<div class="tiles">{drawn}</div>\n<p>{in_words(run, token)}</p>\n'
+    drawn = "".join(f"<div><b>{number}</b><span>{caption}</span></div>" for number, caption in run.numbers())
+    return f'<div class="tiles">{drawn}</div>\n<p>{in_words(run)}</p>\n'
 
 
-def in_words(run, token):
+def in_words(run):
     """Returns the four numbers in sentences."""
-    most = max(run.threads, key=lambda it: it.token) if token else None
-    waits = "No thread waits for the token." if not token else (
-        f"Its threads wait {count(token, 'instruction')} for the token, thread {most.number} the longest: {most.token:,}.")
+    most = max(run.threads, key=lambda it: it.token) if run.token else None
+    waits = "No thread waits for the token." if not run.token else (
+        f"Its threads wait {count(run.token, 'instruction')} for the token, thread {most.number} the longest: {most.token:,}.")
     return (
         f"With a processor for each thread, the run takes the time of {count(run.length, 'instruction')}: its critical path. "
         f"All threads together execute {run.instructions:,}. So the program could keep {run.processors} processors at work. {waits}"

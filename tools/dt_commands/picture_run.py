@@ -91,6 +91,17 @@ class Run:
         seen = {it.thread for it in self.slices} | {it.thread for it in self.turns}
         self.threads = [it for it in self.threads if it.number in seen]
 
+    @property
+    def token(self):
+        return sum(it.token for it in self.threads)
+
+    def numbers(self):
+        """Returns the four numbers of the run, each with what it is."""
+        return [
+            (f"{self.length:,}", "length of the critical path"), (f"{self.instructions:,}", "instructions of all threads"),
+            (self.processors, "processors it could use"), (f"{self.token:,}", "spent waiting for the token"),
+        ]
+
     def said(self):
         """Returns in words how large the run is, and which part of it is kept."""
         other = self.other

@@ -77,12 +77,7 @@ class Picture:
         how = "a column is some phases" if not self.is_detailed else "a processor for each thread"
         drawn = words(self.name, 20, 34, "t") + words(run.said(), 36 + width_of(self.name, 22), 34, "s")
         drawn += words(f"time in instructions, {how}", self.width - 20, 34, "s r")
-        token = sum(it.token for it in run.threads)
-        tiles = [
-            (f"{run.length:,}", "length of the critical path"), (f"{run.instructions:,}", "instructions of all threads"),
-            (run.processors, "processors it could use"), (f"{token:,}", "spent waiting for the token"),
-        ]
-        for at, (number, caption) in enumerate(tiles):
+        for at, (number, caption) in enumerate(run.numbers()):
             x = 20 + (self.width - 40) / 4 * at
             drawn += element("rect", x=x, y=52, width=2, height=44, fill="#0b5fa5")
             drawn += words(number, x + 12, 73, "n") + words(caption, x + 12, 91, "s")

@@ -129,34 +129,23 @@ class Lines(WithLock):
 
 
 class Staleness(WithLock):
-    def stale(self, found):
-        return lock.staleness("same", Entry("same-now", set(found)))
-
-    def test_an_entry_of_the_files_and_the_mutants_is_not_stale(self):
-        self.assertEqual(self.stale(FOUND), "")
-
-    def test_another_sum_is(self):
-        self.assertIn("sum", lock.staleness("same", Entry("then", FOUND)))
-        self.assertIn("no line", lock.staleness("same", None))
+    def test_an_entry_of_the_files_and_the_mutants_alone_is_not_stale(self):
+        one, listed = {("one", "f", "goal")}, {"one": "a table of names"}
+        nowhere = FOUND - one | {("one", *trials.NOWHERE)}
+        for entry, wanted, of_list in (
+            (Entry("same-now", FOUND), "", {}), (Entry("then", FOUND), "sum", {}), (None, "no line", {}),
+            (Entry("same-now", FOUND | {("four", "f", "goal")}), "verdicts", {}), (Entry("same-now", FOUND - one), "verdicts", {}),
+            (Entry("same-now", FOUND - one | {("one", "g", "goal")}), "verdicts", {}),
+            (Entry("same-now", FOUND - one | {("one", "f")}), "verdicts", {}),
+            (Entry("same-now", nowhere), "verdicts", {}), (Entry("same-now", nowhere), "", listed), (Entry("same-now", FOUND), "verdicts", listed),
+        ):
+            with self.subTest(entry), mock.patch.object(lock.weak, "listed", lambda _, it=of_list: it):
+                found = lock.staleness("same", entry and entry._replace(verdicts=set(entry.verdicts)))
+                self.assertTrue(wanted in found if wanted else found == "", found)
 
     def test_a_line_with_a_sum_alone_is(self):
         write_file(lock.LOCK, "good good-then\nsame same-now\n")
         self.assertIn("verdicts", lock.staleness("same", lock.read()["same"]))
-
-    def test_a_mutant_too_many_or_too_few_is(self):
-        self.assertIn("verdicts", self.stale(FOUND | {("four", "f", "goal")}))
-        self.assertIn("verdicts", self.stale(FOUND - {("one", "f", "goal")}))
-
-    def test_a_function_that_the_mutant_does_not_change_is(self):
-        self.assertIn("verdicts", self.stale(FOUND - {("one", "f", "goal")} | {("one", "g", "goal")}))
-        self.assertIn("verdicts", self.stale(FOUND - {("one", "f", "goal")} | {("one", "f")}))
-
-    def test_one_that_no_goal_refuses_is_unless_it_is_listed(self):
-        found = FOUND - {("one", "f", "goal")} | {("one", *trials.NOWHERE)}
-        self.assertIn("verdicts", self.stale(found))
-        with mock.patch.object(lock.weak, "listed", lambda _: {"one": "a table of names"}):
-            self.assertEqual(self.stale(found), "")
-            self.assertIn("verdicts", self.stale(FOUND))
 
 
 class Draw(WithLock):

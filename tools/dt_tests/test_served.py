@@ -20,52 +20,31 @@ class Sources(unittest.TestCase):
         self.assertEqual(source.count(old), 1)
         return served.of_source("src/a.rt", source) != served.of_source("src/a.rt", source.replace(old, new))
 
-    def test_a_body_is_not(self):
-        self.assertFalse(self.is_served("        self.value\n", "        self.value + 1\n"))
-        self.assertFalse(self.is_served('"http://{"', '"}"'))
-
-    def test_a_comment_the_layout_and_a_tactic_are_not(self):
-        self.assertFalse(self.is_served("/// The most.", "/// The largest."))
-        self.assertFalse(self.is_served("//! Numbers.", "//! Other numbers."))
-        self.assertFalse(self.is_served("    value: u32,", "    // The value.\n    value:   u32,"))
-        self.assertFalse(self.is_served("Numbers::numbers))", "Numbers::more), unfolding(a::b(c)))"))
-
-    def test_a_contract_is(self):
-        self.assertTrue(self.is_served("result ≡ self.now.value", "result ≡ 0"))
-        self.assertTrue(self.is_served("ensures value", "ensures number"))
-
-    def test_a_signature_a_type_and_a_constant_are(self):
-        self.assertTrue(self.is_served("value(&self)", "value(&mut self)"))
-        self.assertTrue(self.is_served("    value: u32,", "    value: u64,"))
-        self.assertTrue(self.is_served("= 7;", "= 8;"))
-        self.assertTrue(self.is_served("pub struct", "struct"))
-
-    def test_the_body_of_a_constant_function_is(self):
-        self.assertTrue(self.is_served("        MOST\n", "        MOST + 1\n"))
-        private = SOURCE.replace("pub const fn", "const fn")
-        self.assertTrue(self.is_served("        MOST\n", "        MOST + 1\n", private))
-
-    def test_a_function_that_no_other_crate_calls_is_not(self):
-        self.assertFalse(self.is_served("half { IsHalf self.now.value result }", "half { result ≡ 0 }"))
-        self.assertFalse(self.is_served("half(&self)", "half(&mut self)"))
-        self.assertFalse(self.is_served("small { IsSmall number.now }", "large { IsLarge number.now }"))
-        self.assertFalse(self.is_served("impl Number {", "impl Number {\n    fn none() {}\n"))
-
-    def test_a_function_that_other_crates_may_call_is(self):
-        self.assertTrue(self.is_served("pub(crate) fn half", "pub fn half"))
-        self.assertTrue(self.is_served("impl Number {", "impl Number {\n    pub fn none() {}\n"))
-
-    def test_methods_of_traits_are(self):
-        self.assertTrue(self.is_served("less self.now other.now", "less other.now self.now"))
-        self.assertTrue(self.is_served("{ result ≡ most }", "{ result ≡ 7 }"))
-        self.assertTrue(self.is_served("impl Ordered for Number", "impl Number"))
-
-    def test_a_name_that_only_such_a_function_imports_is_not(self):
-        self.assertFalse(self.is_served("{IsHalf, most}", "{IsHalf, IsSmall, most}"))
-        self.assertFalse(self.is_served("◌≡◌, ◌<◌", "◌≡◌"))
-        self.assertTrue(self.is_served("{IsHalf, most}", "{IsHalf}"))
-        self.assertTrue(self.is_served("{◌≡◌, ◌<◌}", "{◌<◌}"))
-        self.assertTrue(self.is_served("numbers.specs.Numbers", "numbers.specs.Others"))
+    def test_what_other_crates_can_see_is_and_nothing_else(self):
+        for what, wanted, changes in (
+            ("a body", False, [("        self.value\n", "        self.value + 1\n"), ('"http://{"', '"}"')]),
+            ("a comment, the layout, a tactic", False, [
+                ("/// The most.", "/// The largest."), ("//! Numbers.", "//! Other numbers."),
+                ("    value: u32,", "    // The value.\n    value:   u32,"), ("Numbers::numbers))", "Numbers::more), unfolding(a::b(c)))")]),
+            ("a contract", True, [("result ≡ self.now.value", "result ≡ 0"), ("ensures value", "ensures number")]),
+            ("a signature, a type, a constant", True, [
+                ("value(&self)", "value(&mut self)"), ("    value: u32,", "    value: u64,"), ("= 7;", "= 8;"), ("pub struct", "struct")]),
+            ("the body of a constant function", True, [("        MOST\n", "        MOST + 1\n")]),
+            ("a function that no other crate calls", False, [
+                ("half { IsHalf self.now.value result }", "half { result ≡ 0 }"), ("half(&self)", "half(&mut self)"),
+                ("small { IsSmall number.now }", "large { IsLarge number.now }"), ("impl Number {", "impl Number {\n    fn none() {}\n")]),
+            ("a function that other crates may call", True, [
+                ("pub(crate) fn half", "pub fn half"), ("impl Number {", "impl Number {\n    pub fn none() {}\n")]),
+            ("a method of a trait", True, [
+                ("less self.now other.now", "less other.now self.now"), ("{ result ≡ most }", "{ result ≡ 7 }"), ("impl Ordered for Number", "impl Number")]),
+            ("a name that only such a function imports", False, [("{IsHalf, most}", "{IsHalf, IsSmall, most}"), ("◌≡◌, ◌<◌", "◌≡◌")]),
+            ("another name", True, [
+                ("{IsHalf, most}", "{IsHalf}"), ("{◌≡◌, ◌<◌}", "{◌<◌}"), ("numbers.specs.Numbers", "numbers.specs.Others")]),
+        ):
+            for old, new in changes:
+                with self.subTest(what, old=old, new=new):
+                    self.assertEqual(self.is_served(old, new), wanted)
+        self.assertTrue(self.is_served("        MOST\n", "        MOST + 1\n", SOURCE.replace("pub const fn", "const fn")))
 
     def test_a_function_that_is_exported_by_no_name_is_not(self):
         source = "pub fn half(of: u32) -> u32\n    ensures { result ≡ of / 2 }\n{\n    of / 2\n}\n"
@@ -88,29 +67,23 @@ class Definitions(unittest.TestCase):
         self.assertEqual(SPECS.count(old), 1)
         return crate(**given) != crate(specs=SPECS.replace(old, new), **given)
 
-    def test_one_that_a_contract_names_is(self):
-        self.assertTrue(self.is_served("most = limit", "most = 7"))
-
-    def test_one_that_another_one_names_is(self):
-        self.assertTrue(self.is_served("limit = 7", "limit = 8"))
-
-    def test_one_that_nothing_served_names_is_not(self):
-        self.assertFalse(self.is_served("half + half ≡ whole", "half ≡ whole"))
-        self.assertFalse(self.is_served("pub record IsHalf", "pub record IsExactHalf"))
-        self.assertFalse(self.is_served("size [] = 0", "size [] = 1"))
-
-    def test_one_that_a_crate_above_or_a_lemma_names_is(self):
-        self.assertTrue(self.is_served("half + half ≡ whole", "half ≡ whole", above=["IsHalf"]))
+    def test_those_that_something_served_names_are_and_no_others(self):
         lemmas = "of_none : size [] ≡ 0\n"
-        self.assertTrue(self.is_served("size [] = 0", "size [] = 1", lemmas=lemmas, above=["Numbers", "of_none"]))
-        self.assertFalse(self.is_served("size [] = 0", "size [] = 1", lemmas=lemmas))
-
-    def test_what_is_no_plain_definition_is(self):
-        self.assertTrue(self.is_served("Plus : Sign", "Minus : Sign"))
-
-    def test_a_comment_and_an_import_that_only_others_use_are_not(self):
-        self.assertFalse(self.is_served("-- the most", "-- the largest"))
-        self.assertFalse(self.is_served("use Rattle.std.specs.List.{length}\n", ""))
+        for wanted, old, new, given in (
+            (True, "most = limit", "most = 7", {}),
+            (True, "limit = 7", "limit = 8", {}),
+            (True, "Plus : Sign", "Minus : Sign", {}),
+            (False, "half + half ≡ whole", "half ≡ whole", {}),
+            (False, "pub record IsHalf", "pub record IsExactHalf", {}),
+            (False, "size [] = 0", "size [] = 1", {}),
+            (True, "half + half ≡ whole", "half ≡ whole", {"above": ["IsHalf"]}),
+            (True, "size [] = 0", "size [] = 1", {"lemmas": lemmas, "above": ["Numbers", "of_none"]}),
+            (False, "size [] = 0", "size [] = 1", {"lemmas": lemmas}),
+            (False, "-- the most", "-- the largest", {}),
+            (False, "use Rattle.std.specs.List.{length}\n", "", {}),
+        ):
+            with self.subTest(old, new=new):
+                self.assertEqual(self.is_served(old, new, **given), wanted)
 
 
 class Above(unittest.TestCase):
