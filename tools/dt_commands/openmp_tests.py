@@ -30,6 +30,7 @@ MACHINE = {"riscv32-unknown-elf", "tls", "tls_runtime", "size32plus", "sync_int_
 FOLDERS = [("c", "libgomp.c", ".c"), ("c", "libgomp.c-c++-common", ".c"), ("c++", "libgomp.c++", ".C"), ("c++", "libgomp.c-c++-common", ".c")]
 # The tests that fail, and why.
 FAILING = {
+    "libgomp.c/pr52547.c": "the address of a nested function is code on the stack, where the machine executes none",
 }
 
 Program = namedtuple("Program", "name language folder file directives")
@@ -40,6 +41,7 @@ def arguments(parser):
     parser.add_argument("--language", choices=["c", "c++"], help="the tests of one language alone")
     parser.add_argument("--source", metavar="FOLDER", help="a folder that has libgomp and include of the compiler's sources")
     parser.add_argument("--lanes", type=int, default=2, metavar="N", help="how many at a time (default: 2)")
+    guest_runs.with_share(parser)
 
 
 def unpacked(room):
@@ -127,6 +129,7 @@ def test(options):
         source = os.path.abspath(options.source) if options.source else unpacked(room)
         chosen = [it for it in programs(source) if not options.names or it.name in options.names]
         chosen = [it for it in chosen if options.language in (None, it.language) and (it.language == "c" or has_cxx())]
+        chosen = guest_runs.share(options.share, chosen)
 
         with Progress("tests", len(chosen)) as progress:
 
