@@ -1,5 +1,5 @@
 //! One output of a run: begun, put where it is to be, or taken away.
-ghost use Rattle.std.specs.Prelude.{◌≡◌, ℕ, List, [], ◌∷◌, IfErr, IfOk, OnOk};
+ghost use Rattle.std.specs.Prelude.{ℕ, List, [], ◌∷◌, IfErr, IfOk, OnOk};
 ghost use Rattle.output_files.specs.Content.{Has, Tells};
 ghost use Rattle.command_requests.specs.Destination.{KeepsBut};
 ghost use Rattle.command_outputs.specs.Placing.{IsPut, IsUnbegunFor, IsUnwrittenTo, KeepsUnlessPrinted};

@@ -8,7 +8,7 @@ ghost use Rattle.runtime.specs.Recorded.{Ends};
 ghost use Rattle.runtime.specs.Sending.{CountsFailures, SendsSoFar};
 ghost use Rattle.runtime.specs.declared.interruption.Interruption.TheVariants as stop;
 ghost use Rattle.token.specs.RunInTurn.{point_of};
-ghost use Rattle.command_outputs.specs.Recording.{AreTold, HasWriting, wanted_by};
+ghost use Rattle.command_outputs.specs.Recording.{HasWriting, wanted_by};
 ghost use Rattle.observed_run.specs.Runs.{MayBegin};
 ghost use Rattle.command_run.specs.Observing.{AreFound};
 ghost use Rattle.command_run.specs.Serves.{AreRun, AreOpenedFrom, AreToldOf, IsOpenedFrom, IsReady, IsRefused, IsStopped, IsUnrun};
