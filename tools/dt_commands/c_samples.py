@@ -74,12 +74,12 @@ def write(options):
     return 0
 
 
+def test_sample(tally, room, it):
+    guest = guest_runs.Guest([guest_runs.program(), "run", it.program], it.words, it.given, is_merged=True)
+    guest_runs.agree(tally, it.name, guest, room, contents(it.output), it.status, WORKERS)
+
+
 def test(options):
     """Runs the built samples in C, each with 1, 2, 3, 4 and 64 workers: wanted output and status, and one trace."""
-    tally, every, dthreads = guest_runs.Tally(), samples(), guest_runs.program()
-    tally.tried = len(every)
-    with tempfile.TemporaryDirectory() as room, Progress("samples", len(every)) as progress:
-        for it in progress.each(every, lambda it: it.name):
-            guest = guest_runs.Guest([dthreads, "run", it.program], it.words, it.given, is_merged=True)
-            guest_runs.agree(tally, it.name, guest, room, contents(it.output), it.status, WORKERS)
-    return tally.status("samples", ", each with 1, 2, 3, 4 and 64 workers: the wanted output and one trace")
+    well = ", each with 1, 2, 3, 4 and 64 workers: the wanted output and one trace"
+    return guest_runs.all_tried("samples", samples(), test_sample, well, lambda it: it.name)

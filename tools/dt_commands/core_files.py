@@ -8,7 +8,6 @@ program that runs the guests, or else ./dthreads.
 import os
 import re
 import subprocess
-import tempfile
 from collections import namedtuple
 
 from dt_commands import guest_runs, packages
@@ -66,7 +65,7 @@ def of_readelf(program, core):
 
 def of_program(program, room):
     """Yields what is wrong with the core file of a program."""
-    elf, core = f"{room}/program.elf", f"{room}/core"
+    elf, core = (f"{room}/{os.path.basename(program.source)}.{it}" for it in ("elf", "core"))
     refused = guest_runs.compiled([*program.options, "-g", program.source], elf, TOP)
     if refused is not None:
         yield f"it doesn't build: {refused}"
@@ -80,13 +79,12 @@ def of_program(program, room):
     yield from of_readelf(program, core)
 
 
+def test_core(tally, room, program):
+    for it in of_program(program, room):
+        tally.fail(f"{program.source}: {it}")
+
+
 def test(_):
     """Runs programs with --core, and looks at their core files with gdb-multiarch and readelf."""
     packages.want("core files are read by the packages", TOOLS)
-    tally = guest_runs.Tally()
-    for program in PROGRAMS:
-        tally.tried += 1
-        with tempfile.TemporaryDirectory() as room:
-            for it in of_program(program, room):
-                tally.fail(f"{program.source}: {it}")
-    return tally.status("core files", ", each read by gdb and by readelf")
+    return guest_runs.all_tried("core files", PROGRAMS, test_core, ", each read by gdb and by readelf")

@@ -3,9 +3,11 @@ import os
 import re
 import subprocess
 import sys
+import tempfile
 import time
 from collections import namedtuple
 
+from dt_commands.progress import Progress
 from dt_commands.repository import TOP
 from dt_commands.texts import contents, first_difference, read_text
 
@@ -89,6 +91,16 @@ class Tally:
             return 1
         print(f"{self.tried} {what}{well}")
         return 0
+
+
+def all_tried(what, things, does, well, name=lambda it: it[0]):
+    """Tries things one after the other by `does(tally, room, thing)`, tells how it ended, and returns the status."""
+    tally, every = Tally(), list(things)
+    tally.tried = len(every)
+    with tempfile.TemporaryDirectory() as room, Progress(what, len(every)) as progress:
+        for it in progress.each(every, name):
+            does(tally, room, it)
+    return tally.status(what, well)
 
 
 class Guest:

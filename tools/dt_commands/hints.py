@@ -14,7 +14,6 @@ from collections import namedtuple
 
 from dt_commands import guest_runs, guest_tests
 from dt_commands.gdb_packets import Debugged
-from dt_commands.progress import Progress
 from dt_commands.texts import contents, first_difference, write_file
 
 NAME = "hints"
@@ -182,22 +181,22 @@ def arguments(parser):
     guest_runs.with_share(parser)
 
 
+def test_program(tally, room, name):
+    if name == NAME:
+        text, wrong = rows(room)
+        if text.encode() != contents(WANTED):
+            wrong.append(first_difference(text.encode(), contents(WANTED)))
+    else:
+        given = f"{guest_tests.FOLDER}/{name}.in"
+        wrong = list(unbalanced(traced(built(name, room), given if os.path.exists(given) else None)))
+    for it in wrong:
+        tally.fail(f"{name}: {it}")
+
+
 def test(options):
     """Traces the hints of guest/tests/hints.c, and those of other programs, in which each thread leaves what it entered."""
-    tally, every = guest_runs.Tally(), guest_runs.share(options.share, [NAME, *BALANCED])
-    tally.tried = len(every)
-    with tempfile.TemporaryDirectory() as room, Progress("programs", tally.tried) as progress:
-        for name in progress.each(every):
-            if name == NAME:
-                text, wrong = rows(room)
-                if text.encode() != contents(WANTED):
-                    wrong.append(first_difference(text.encode(), contents(WANTED)))
-            else:
-                given = f"{guest_tests.FOLDER}/{name}.in"
-                wrong = list(unbalanced(traced(built(name, room), given if os.path.exists(given) else None)))
-            for it in wrong:
-                tally.fail(f"{name}: {it}")
-    return tally.status("programs", ": the wanted hints, and each thread leaves what it entered")
+    every = guest_runs.share(options.share, [NAME, *BALANCED])
+    return guest_runs.all_tried("programs", every, test_program, ": the wanted hints, and each thread leaves what it entered", str)
 
 
 def write(options):

@@ -7,10 +7,8 @@ else ./dthreads.
 import gzip
 import os
 import re
-import tempfile
 
 from dt_commands import guest_runs
-from dt_commands.progress import Progress
 from dt_commands.texts import contents, rows_of, write_file
 
 WANTED = f"{guest_runs.KIT}/tests/manual"
@@ -62,9 +60,5 @@ def test(options):
     """Compiles the examples on threads of the manual pages, and runs each with 1, 2, 4 and 64 workers: wanted output, and one trace."""
     if not os.path.exists(f"{PAGES}/pthread_create.3.gz"):
         raise SystemExit("the package manpages-dev is missing")
-    tally, rows = guest_runs.Tally(), rows_of(f"{WANTED}/list")
-    tally.tried = len(rows)
-    with tempfile.TemporaryDirectory() as room, Progress("runs of examples", len(rows)) as progress:
-        for row in progress.each(rows, lambda it: it[1]):
-            test_example(tally, room, *row)
-    return tally.status("runs of examples", ", each with 1, 2, 4 and 64 workers: the wanted output")
+    does, well = lambda tally, room, row: test_example(tally, room, *row), ", each with 1, 2, 4 and 64 workers: the wanted output"
+    return guest_runs.all_tried("runs of examples", rows_of(f"{WANTED}/list"), does, well, lambda it: it[1])

@@ -10,7 +10,6 @@ import subprocess
 import tempfile
 
 from dt_commands import c_samples, guest_runs, guest_tests
-from dt_commands.progress import Progress
 from dt_commands.repository import TOP
 from dt_commands.texts import read_text, rows_of
 
@@ -115,13 +114,6 @@ def arguments(parser):
 
 def test(options):
     """Runs programs in C with --races: the cases have the races that are wanted, right programs and samples none."""
-    tally = guest_runs.Tally()
-    with tempfile.TemporaryDirectory() as room:
-        tasks = [(it, lambda it=it: test_case(tally, room, it, CASES[it])) for it in CASES]
-        tasks += [(it[0], lambda it=it: test_right(tally, room, *it)) for it in programs()]
-        tasks = guest_runs.share(options.share, tasks)
-        tally.tried = len(tasks)
-        with Progress("programs", tally.tried) as progress:
-            for _, task in progress.each(tasks, lambda it: it[0]):
-                task()
-    return tally.status("programs", ": the races that are wanted, and no others")
+    tasks = [(name, wanted, test_case) for name, wanted in CASES.items()] + [(it[0], *it[1:], test_right) for it in programs()]
+    does = lambda tally, room, task: task[-1](tally, room, *task[:-1])
+    return guest_runs.all_tried("programs", guest_runs.share(options.share, tasks), does, ": the races that are wanted, and no others")

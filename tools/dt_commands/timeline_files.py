@@ -13,11 +13,9 @@ import random
 import re
 import shutil
 import subprocess
-import tempfile
 from collections import namedtuple
 
 from dt_commands import c_samples, changed_pages, guest_runs, guest_tests, random_guests, sample_pictures, timelines, written_guests
-from dt_commands.progress import Progress
 from dt_commands.repository import TOP
 from dt_commands.texts import contents, first_difference, rows_of, write_file
 
@@ -125,9 +123,9 @@ def test_guest(tally, room, guest):
                 tally.fail(f"{where}: with {workers} workers another timeline")
 
 
-def test_picture(tally, room):
+def test_picture(tally, room, name):
     """Compares the files that the picture of the pages is drawn of with what the program writes."""
-    guest = Guest(sample_pictures.NAME, f"{sample_pictures.SAMPLES}/{sample_pictures.NAME}.elf", [], b"", (), None)
+    guest = Guest(name, f"{sample_pictures.SAMPLES}/{name}.elf", [], b"", (), None)
     (timeline, races), errors = run(guest, guest.file, None, room, 1, ["timeline", "races"])
     for file, text in ((sample_pictures.TIMELINE, timeline), (sample_pictures.RACES, races)):
         if text is None or text != contents(file):
@@ -182,13 +180,8 @@ def in_c(is_brief):
 
 def test(options):
     """Runs programs with --timeline: each file is what the definitions say, with any number of workers."""
-    tally, guests = guest_runs.Tally(), [*of_samples(), *of_seeds(options.brief), *in_c(options.brief)]
+    guests = [*of_samples(), *of_seeds(options.brief), *in_c(options.brief)]
     guests = [it for it in guests if not options.names or it.name.startswith(tuple(options.names))]
-    guests = guest_runs.share(options.share, guests)
-    tally.tried = len(guests)
-    with tempfile.TemporaryDirectory() as room, Progress("guests", len(guests)) as progress:
-        for it in progress.each(guests, lambda it: it.name):
-            test_guest(tally, room, it)
-        if not options.names:
-            test_picture(tally, room)
-    return tally.status("guests", ", each timeline as defined, with 1, 2, 4 and 64 workers")
+    drawn, every = [] if options.names else [sample_pictures.NAME], guest_runs.share(options.share, guests)
+    status = guest_runs.all_tried("pictures", drawn, test_picture, ": drawn of what the program writes", str) if drawn else 0
+    return max(status, guest_runs.all_tried("guests", every, test_guest, ", each timeline as defined, with 1, 2, 4 and 64 workers"))
