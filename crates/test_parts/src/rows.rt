@@ -4,7 +4,7 @@ use crate::lined_row::LinedRow;
 use crate::lined_rows::lined_rows_of;
 use crate::scene::{Scene, take_line};
 use anyhow::Result;
-use std::alloc::Global;
+use std::alloc::{AllocError, Global};
 use std::rt::Files;
 use test_guest_rows::{Differences, is_chosen, is_named, show, text_at};
 
@@ -43,12 +43,7 @@ fn compare_row(alloc: Global, row: &LinedRow, found: &mut Differences) -> Result
 
 /// Takes the lines of a row one by one, with this value in the place of `{}`, and notes each whose answer isn't the wanted one.
 fn compare_once(alloc: Global, row: &LinedRow, value: &str, found: &mut Differences) -> Result<()> {
-    let how = format!(in alloc; "at {value} gives")?;
-    let how = if value.is_empty() {
-        "gives"
-    } else {
-        how.as_str()
-    };
+    let how = how_of(alloc, value)?;
     let mut scene = Scene::new(alloc)?;
     for line in &row.lines {
         let line = line.as_str().replace(alloc, "{}", value)?;
@@ -58,7 +53,15 @@ fn compare_once(alloc: Global, row: &LinedRow, value: &str, found: &mut Differen
             .unwrap_or((line.as_str(), ""));
         scene.answer.clear();
         take_line(&mut scene, asked)?;
-        found.expect_text(scene.answer.text(), wanted, asked, how);
+        found.expect_text(scene.answer.text(), wanted, asked, how.as_str());
     }
     Ok(())
+}
+
+/// What stands between a line that isn't as wanted and its answer: the row's value, if it has one.
+fn how_of(alloc: Global, value: &str) -> Result<String, AllocError> {
+    if value.is_empty() {
+        return String::from_str(alloc, "gives");
+    }
+    format!(in alloc; "at {value} gives")
 }
