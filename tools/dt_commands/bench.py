@@ -1,7 +1,7 @@
 """The bench: a program over the crates of the product that measures how fast guests run, and single parts.
 
 Its sources and proofs are in tools/bench, whose file `uses` has the crates that it depends on. It is no crate of crates.txt, so that the
-gate proves nothing of it, but compiles it. To measure, it is proved and built beside a copy of the crates below it, over what `./dthreads
+gate proves nothing of it, but compiles it. There the names of sources and proofs end in .text, since rt ci refuses such files outside crates. To measure, it is proved and built beside a copy of the crates below it, over what `./dthreads
 --build` or a check left of them in this checkout.
 """
 import os
@@ -37,6 +37,11 @@ def linked(source, copy):
     (os.link if source.endswith(kit.CHECKED) else shutil.copy2)(source, copy)
 
 
+def named(source, copy):
+    """Copies a file of the bench, under the name that it has in a crate."""
+    shutil.copy2(source, copy.removesuffix(".text"))
+
+
 def put(place, is_proved):
     """Puts the bench and the crates below it into a folder, the latter with what is built of them if it is to be proved."""
     unread = None if is_proved else shutil.ignore_patterns("out", "must-fail", "mutants")
@@ -45,7 +50,7 @@ def put(place, is_proved):
         shutil.copytree(f"{TOP}/crates/{name}", f"{place}/crates/{name}", ignore=unread, copy_function=linked)
     for part in ("src", "proofs"):
         shutil.rmtree(f"{place}/crates/{NAME}/{part}", ignore_errors=True)
-        shutil.copytree(f"{FOLDER}/{part}", f"{place}/crates/{NAME}/{part}", copy_function=shutil.copy2)
+        shutil.copytree(f"{FOLDER}/{part}", f"{place}/crates/{NAME}/{part}", copy_function=named)
     lines = [it for it in contents(f"{TOP}/crates.txt").decode().splitlines() if it.split(":")[0] in crates_below()]
     with open(f"{place}/crates.txt", "w", encoding="utf-8") as it:
         it.write("\n".join([*lines, f"{NAME}: {' '.join(uses())}", ""]))
