@@ -73,7 +73,7 @@ def test(options):
     """Compiles the bench without a proof, and compares its help."""
     with tempfile.TemporaryDirectory(prefix="bench-") as place:
         how = {"cwd": put(place, is_proved=False), "stdout": toolchain.PIPE, "stderr": toolchain.PIPE}
-        wrote, said = toolchain.start_try(["--seconds", str(SECONDS), "--", "--help"], **how).communicate()
+        wrote, said = toolchain.start(["rt", "try", "--seconds", str(SECONDS), "--", "--help"], **how).communicate()
     wanted = contents(f"{FOLDER}/help.txt")
     if wrote != wanted:
         print(f"the help of the bench: {first_difference(wrote, wanted)}\n{said.decode(errors='replace')}")
