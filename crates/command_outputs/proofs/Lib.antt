@@ -1,4 +1,1 @@
-pub mod Out
-pub mod Telling
-pub mod Begun
-pub mod Making
+pub mod Texts

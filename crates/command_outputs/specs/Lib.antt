@@ -1,4 +1,3 @@
-pub mod Placing
-pub mod Recording
-pub mod Texts
+pub mod Recorders
+pub mod Records
 pub mod Status

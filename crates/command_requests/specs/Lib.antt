@@ -5,5 +5,4 @@ pub mod Names
 pub mod Needed
 pub mod Reading
 pub mod Status
-pub mod Texts
 pub mod Unasked

@@ -1,9 +1,9 @@
 //! What a command line asks for.
 use crate::numbers::Numbers;
-use crate::wanted::Wanted;
+use crate::records::Records;
 
 /// What a command line asks for.
-#[derive(Drop)]
+#[derive(Clone, Copy)]
 pub enum Request<'a> {
     /// Run the program of a file.
     Run {
@@ -11,8 +11,7 @@ pub enum Request<'a> {
         /// The file of the guest's input, which is standard input where there is none.
         input: Option<&'a str>,
         numbers: Numbers,
-        /// The texts that it is to leave, in their order.
-        wanted: Vec<Wanted<'a>>,
+        records: Records<'a>,
     },
     /// Print the instructions of a file.
     Disasm {

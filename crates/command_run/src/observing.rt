@@ -8,7 +8,7 @@ ghost use Rattle.symbols.specs.Symbols.{symbols_of};
 ghost use Rattle.token.specs.RunInTurn.{point_of};
 ghost use Rattle.command_run.specs.Observing.{AreFound};
 
-use command_requests::Failure;
+use command_requests::{Destination, Failure};
 use observed_run::{ObservedRun, run_observed};
 use races::{Race, races_text};
 use runtime::{OpenGate, Recorder, Sink, Start, run_opened};
@@ -17,19 +17,19 @@ use std::sync::Wait;
 use std::thread::Threads;
 use symbols::Symbols;
 
-/// The symbols of a file, if its races are wanted.
+/// The symbols of a file, if the races have a destination.
 pub(crate) fn wanted_symbols(
     alloc: Global,
     elf: &[u8],
-    observes: bool,
+    races: Option<Destination<'_>>,
 ) -> Result<Option<Symbols>, AllocError>
-    ensures wanted { IfOk result (λ symbols. is_some symbols ≡ observes) }
+    ensures wanted { IfOk result (λ symbols. is_some symbols ≡ is_some races.entry) }
     ensures symbols { IfOk result (λ symbols. IfSome symbols (λ symbols. symbols ≡ symbols_of elf.now)) }
 {
-    if !observes {
-        return Ok(None);
+    match races {
+        Some(_) => Ok(Some(Symbols::read(alloc, elf)?)),
+        None => Ok(None),
     }
-    Ok(Some(Symbols::read(alloc, elf)?))
 }
 
 /// Does all turns of a run: if its races are wanted, by the calling host thread alone, which finds them; else by so many host

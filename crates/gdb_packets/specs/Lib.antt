@@ -1,4 +1,3 @@
-pub mod Actions
 pub mod Digits
 pub mod Escapes
 pub mod Frames

@@ -1,4 +1,2 @@
 pub mod Answers
-pub mod Hearing
-pub mod Moves
 pub mod Replies

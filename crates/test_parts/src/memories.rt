@@ -1,7 +1,6 @@
 //! The memories of a row, by their names, and lines that make, ask and compare them.
 
 use crate::accesses::access;
-use crate::answer::Answer;
 use crate::files::Files;
 use anyhow::{Result, anyhow};
 use elf32_reader::Image;
@@ -109,7 +108,7 @@ fn image_of(files: &Files) -> Result<&Image> {
 
 /// Takes a line on the memory that it names, or on two: the last kind of line.
 pub fn take_access_line(
-    answer: &mut Answer,
+    answer: &mut String,
     memories: &mut Memories,
     hart: &mut Hart,
     verb: &str,
@@ -125,7 +124,7 @@ pub fn take_access_line(
 
 /// Asks two memories the same, and writes both answers if they differ. The text is the second name and what is asked.
 fn compare(
-    answer: &mut Answer,
+    answer: &mut String,
     memories: &mut Memories,
     hart: &mut Hart,
     one: &str,
@@ -133,21 +132,22 @@ fn compare(
 ) -> Result<()> {
     let (other, asked) = split(text);
     let (verb, rest) = split(asked);
-    let mut wanted = Answer::new(memories.alloc);
+    let mut wanted = String::new(memories.alloc);
     let is_asked = ask(answer, memories, hart, verb, one, rest)?
         && ask(&mut wanted, memories, hart, verb, other, rest)?;
-    if is_asked && answer.text() == wanted.text() {
-        answer.clear();
-    } else {
-        answer.push(" and ");
-        answer.push(wanted.text());
+    if !is_asked {
+        return Err(anyhow!("nothing that a memory is asked"));
     }
-    Ok(())
+    if answer.as_str() == wanted.as_str() {
+        answer.clear();
+        return Ok(());
+    }
+    Ok(write!(answer, " and {wanted}")?)
 }
 
 /// Asks the memory of a name.
 fn ask(
-    answer: &mut Answer,
+    answer: &mut String,
     memories: &mut Memories,
     hart: &mut Hart,
     verb: &str,
@@ -155,10 +155,10 @@ fn ask(
     rest: &str,
 ) -> Result<bool> {
     if let Some(memory) = find(&mut memories.wholes, name) {
-        return Ok(access(answer, hart, memory, verb, rest)?);
+        return access(answer, hart, memory, verb, rest);
     }
     if let Some(memory) = find(&mut memories.snapshots, name) {
-        return Ok(access(answer, hart, memory, verb, rest)?);
+        return access(answer, hart, memory, verb, rest);
     }
-    Ok(access(answer, hart, at(&mut memories.views, name)?, verb, rest)?)
+    access(answer, hart, at(&mut memories.views, name)?, verb, rest)
 }
