@@ -5,8 +5,9 @@ import re
 from .repository import TOP, crates
 from .texts import read_text
 
-# The functions that carry the headline, by crate.
-CARRIERS = [("runtime", "run"), ("runtime", "run_into"), ("runtime", "run_recorded")]
+# The functions that carry the headline, by crate: the call that the program makes, and those of the library beside it.
+PROGRAM = [("command_line", "perform")]
+LIBRARY = [("runtime", "run"), ("runtime", "run_into"), ("runtime", "run_recorded")]
 
 NAME = re.compile(r"[^\W\d]\w*'*(?:\.[^\W\d]\w*'*)*")
 HEAD = re.compile(r"^(?:(?:abbrev|unfoldable)(?: pub)?|pub record|record|pub data|data) ([^\W\d]\w*'*)", re.M)
@@ -91,9 +92,9 @@ def contract(crate, function):
     return None
 
 
-def seeds():
+def seeds(carriers):
     found = set()
-    for crate, function in CARRIERS:
+    for crate, function in carriers:
         named = contract(crate, function)
         if named is None:
             raise SystemExit(f"{crate} has no public function {function}")
@@ -101,9 +102,9 @@ def seeds():
     return found
 
 
-def needed():
-    """Returns the definitions that the headline needs, by module, and the types of the sources, by crate; and all modules."""
-    every, todo = modules(), seeds()
+def needed(carriers, every):
+    """Returns the definitions that the contracts of some functions need, by module, and the types of the sources, by crate."""
+    todo = seeds(carriers)
     definitions, types = set(), set()
     while todo:
         path, name = todo.pop()
@@ -115,15 +116,30 @@ def needed():
             todo |= used(module.texts[name], module.items, module.modules, module.texts, path)
         elif path in every and name in every[path].items:
             todo.add(every[path].items[name])
-    return definitions, types, every
+    return definitions, types
 
 
 def listed():
-    """Returns the list as a part of a page: a paragraph of counts, and a line for each file of specs/."""
-    definitions, types, every = needed()
+    """Returns the lists as a part of a page: of what the law and the library need, and of what the program's call needs besides."""
+    every = modules()
+    of_library, of_program = needed(LIBRARY, every), needed(PROGRAM, every)
+    besides = [more - own for own, more in zip(of_library, of_program)]
     count = sum(len(it.texts) for it in every.values())
+    return (
+        f"Of {count:,} definitions the law, and with it `run`, needs {counted(of_library[0], every)}, lowest crates first:\n\n"
+        f"{lines_of(*of_library, every)}\n`perform` needs {counted(besides[0], every)} besides, most of them for the texts of a run:\n\n"
+        f"{lines_of(*besides, every)}"
+    )
+
+
+def counted(definitions, every):
     lines = sum(every[path].lines(name) for path, name in definitions)
-    text = f"{len(definitions)} of {count} definitions, {lines:,} lines without comments, lowest crates first:\n\n"
+    return f"{len(definitions)}, {lines:,} lines without comments"
+
+
+def lines_of(definitions, types, every):
+    """Returns a line for each crate that has some of these definitions or types, and for each file of its specs/ that has some."""
+    text = ""
     for crate in crates():
         own = sorted({path for path, _ in definitions if path[0] == crate})
         of_types = sorted({name for it, name in types if it == crate})

@@ -3,8 +3,8 @@
 A comment line `# NAME: ..` begins the section of that name. Prints each line that breaks a rule, and ends with 1 if there is any:
 - the sections come in the order listed here, and each crate is in one of them;
 - a crate depends only on crates of earlier lines;
-- the crates of the sections data, tests and tools carry the prefixes data_, test_ and tool_, and no others do;
-- no crate of the product depends on one of data, tests or tools;
+- the crates of the sections data and tests carry the prefixes data_ and test_, and no others do;
+- no crate of the product depends on one of data or tests;
 - each crate has a folder in crates/, and each folder there a line.
 """
 import os
@@ -16,7 +16,7 @@ from .texts import read_text
 # The sections of the product, in the order of their layers.
 PRODUCT = ["ground", "machine", "memory", "calls", "law", "hands", "schedules", "debugging", "records", "program"]
 # The sections beside the product, with the prefix of their crates.
-BESIDE = {"data": "data_", "tests": "test_", "tools": "tool_"}
+BESIDE = {"data": "data_", "tests": "test_"}
 SECTIONS = [*PRODUCT, *BESIDE]
 
 

@@ -30,7 +30,6 @@ HEAD = re.compile(r"(.*)=>|(?:.*\W)?if\b(.*)\{$")
 
 # Fakes that tests put in the place of a reader or a writer, and the programs that tell refusals by themselves.
 FAKES = {
-    "crates/test_command_rows/src/memory_files.rt",
     "crates/test_output_files/src/faults.rt",
     "crates/test_alloc_failures/src/worlds.rt",
     "crates/test_parts/src/files.rt",

@@ -9,11 +9,13 @@ from rooms import data
 
 class Definitions(unittest.TestCase):
     def test_the_headline_needs_the_clauses_and_no_invariant(self):
-        found = {(path[0], name) for path, name in definitions.needed()[0]}
-        for name in ["Follows", "IsLegal", "version"]:
-            self.assertIn(("token", name), found)
-        self.assertIn(("hart", "executed"), found)
+        for carriers in (definitions.PROGRAM, definitions.LIBRARY):
+            found = {(path[0], name) for path, name in definitions.needed(carriers, definitions.modules())[0]}
+            for name in ["Follows", "IsLegal", "version"]:
+                self.assertIn(("token", name), found)
+            self.assertIn(("hart", "executed"), found)
         self.assertNotIn(("token", "Point"), found)
+        self.assertNotIn(("command_run", "Concludes"), found)
 
     def test_a_label_of_a_field_is_no_name(self):
         items = {"count": (("one", "specs", "Counts"), "count")}

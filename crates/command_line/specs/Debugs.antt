@@ -5,6 +5,6 @@ use Rattle.command_requests.specs.declared.request.Request.TheVariants.{Run, Deb
 -- a debugging is asked for
 abbrev pub IsDebug : Request → Type 0
 IsDebug (Debug file input numbers turn) = Unit {0}
-IsDebug (Run file input numbers records) = ⊥
+IsDebug (Run file input numbers wanted) = ⊥
 IsDebug (Disasm file) = ⊥
 IsDebug (Replay file schedule input numbers) = ⊥

@@ -65,9 +65,9 @@ found_of host is_same input = record { host = host; is_same = is_same; input = i
 -- Performing a request answers this status and leaves this. The first type says that outputs tell what they hold. Of a debugging it is
 -- said alone that it changes no file.
 abbrev pub PerformsOne : Type 0 → Found → Request → Host → ℕ → Type 0
-PerformsOne tells found (Run file named numbers records) after status =
+PerformsOne tells found (Run file named numbers wanted) after status =
     (answer : Result RunOutcome Failure) × (status ≡ answer_status answer)
-    × RunsOn tells (run_of file found.is_same found.input (config_of numbers) records) named found.host after answer
+    × RunsOn tells (run_of file found.is_same found.input (config_of numbers) wanted.items) named found.host after answer
 PerformsOne tells found (Replay file schedule named numbers) after status =
     ((answer : Result (Option RunOutcome) ReplayFailure) × (status ≡ replay_status answer)
     × ReplaysOn (record { files = found.host.files; path = file.now; schedule = schedule.now; input = found.input; config = config_of numbers })

@@ -10,7 +10,7 @@ ghost use Rattle.command_line.specs.Replays.{asked};
 
 use crate::replaying::replay;
 use command_replay::ReplayFailure;
-use command_requests::{Failure, Records, Target};
+use command_requests::{Failure, Target, Wanted};
 use command_run::run_file;
 use output_files::Files;
 use runtime::{Config, MAX_INPUT, RunOutcome, WriteSink};
@@ -26,7 +26,7 @@ pub(crate) fn run_given<'a, H: Threads + Wait + Sync, F: Files, R: Read, W: Writ
     file: &'a str,
     input: Option<&'a str>,
     config: &Config,
-    records: &Records<'a>,
+    wanted: &[Wanted<'a>],
     files: &mut F,
     stdin: &mut R,
     stdout: &mut WriteSink<W>,
@@ -35,15 +35,15 @@ pub(crate) fn run_given<'a, H: Threads + Wait + Sync, F: Files, R: Read, W: Writ
     ensures taken { TakesAtMost (limit.input + 1) (R.remaining stdin.old) (R.remaining stdin.new) }
     ensures unused { IsSome input.entry → stdin.new ≡ stdin.old }
     ensures answer { RunsOn (Tells F.Output.contents)
-        (run_of file.entry (F.is_same files.old) (R.remaining stdin.old) config.now records.now)
+        (run_of file.entry (F.is_same files.old) (R.remaining stdin.old) config.now wanted.now)
         input.entry (host_of F.content W.contents files.old stdout.old) (host_of F.content W.contents files.new stdout.new) result }
 {
     let Some(path) = input else {
-        return run_file(rt, alloc, file, config, records, files, stdin, stdout);
+        return run_file(rt, alloc, file, config, wanted, files, stdin, stdout);
     };
     let bytes = input_at(alloc, path, files)?;
     let mut reader = bytes.as_slice();
-    run_file(rt, alloc, file, config, records, files, &mut reader, stdout)
+    run_file(rt, alloc, file, config, wanted, files, &mut reader, stdout)
 }
 
 /// Replays a schedule of the program of a file on the input of another one, if it is named, and else on the bytes of

@@ -106,7 +106,7 @@ pub fn perform_request<H: Threads + Wait + Sync, F: Files, R: Read + Send, W: Wr
             file,
             input,
             numbers,
-            records,
+            wanted,
         } => conclude(
             run_given(
                 rt,
@@ -114,7 +114,7 @@ pub fn perform_request<H: Threads + Wait + Sync, F: Files, R: Read + Send, W: Wr
                 file,
                 input,
                 &config_of(numbers),
-                &records,
+                wanted.as_slice(),
                 files,
                 stdin,
                 stdout,

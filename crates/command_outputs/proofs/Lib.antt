@@ -1,1 +1,4 @@
-pub mod Texts
+pub mod Out
+pub mod Telling
+pub mod Begun
+pub mod Making

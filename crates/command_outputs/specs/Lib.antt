@@ -1,3 +1,4 @@
-pub mod Recorders
-pub mod Records
+pub mod Placing
+pub mod Recording
+pub mod Texts
 pub mod Status

@@ -1,19 +1,11 @@
-//! How a run ended and what it left, for its core file and its digest.
-use paged_memory::Snapshot;
-use thread_table::Thread;
-use token::RunOutcome;
+//! How a run ended and what it left, of which its last texts are made.
+use runtime::RunEnd;
 
-/// How a run ended, and what it left: what its core file and its digest are made of.
+/// How a run ended, and what it left.
 #[derive(Drop)]
 pub struct Ended {
-    /// How it ended.
-    pub outcome: RunOutcome,
-    /// All that the program wrote.
-    pub output: Vec<u8>,
+    /// How it ended, its output, its memory and its threads.
+    pub end: RunEnd,
     /// The text of its races, if that is wanted.
     pub races: String,
-    /// The shared memory at the end.
-    pub memory: Snapshot,
-    /// All threads that were made, by their numbers: at most 256.
-    pub threads: Vec<Thread>,
 }

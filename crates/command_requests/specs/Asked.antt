@@ -1,5 +1,5 @@
 -- What the words of a command line ask for, by the values that the parser finds for the arguments of a command.
-use Rattle.std.specs.Prelude.{◌≡◌, ◌^◌, ◌<◌, ℕ, List, [], Option, Some, None, codes, option_map}
+use Rattle.std.specs.Prelude.{◌≡◌, ◌^◌, ◌<◌, ℕ, List, [], ◌∷◌, ◌++◌, Option, Some, None, codes, option_map}
 use Rattle.std.specs.Borrow.{Bor}
 use Rattle.std.specs.Str.Parse.{IsNumeral, digits_value, without_leading_plus}
 use Rattle.clap.specs.Faults.{fault_of}
@@ -8,9 +8,11 @@ use Rattle.command_requests.specs.Commands.{program}
 use Rattle.command_requests.specs.Destination.{destination_of}
 use Rattle.command_requests.specs.declared.destination.Destination.{Destination}
 use Rattle.command_requests.specs.declared.numbers.Numbers.{Numbers}
-use Rattle.command_requests.specs.declared.records.Records.{Records}
 use Rattle.command_requests.specs.declared.request.Request.{Request}
 use Rattle.command_requests.specs.declared.request.Request.TheVariants.{Run, Debug, Disasm, Replay}
+use Rattle.command_requests.specs.declared.text.Text.{Text as RunText}
+use Rattle.command_requests.specs.declared.wanted.Wanted.{Wanted}
+use Rattle.command_requests.specs.Texts.{name_of, texts}
 
 -- the text is a number of so many bits in decimal digits
 abbrev pub IsNumber : ℕ → Text → Type 0
@@ -38,13 +40,26 @@ pub record AreNumbers (rows : List Row) (numbers : Numbers) : Type 0 where
   pub bound : IsRead 64 (one_of (codes "bound") rows) (Some numbers.bound)
   pub quantum : IsRead 64 (one_of (codes "quantum") rows) numbers.quantum
 
-pub record AreRecords (rows : List Row) (records : Records) : Type 0 where
-  pub trace : IsNamed (first_of (codes "trace") rows) records.trace
-  pub timeline : IsNamed (first_of (codes "timeline") rows) records.timeline
-  pub report : IsNamed (first_of (codes "report") rows) records.report
-  pub races : IsNamed (first_of (codes "races") rows) records.races
-  pub core : IsNamed (first_of (codes "core") rows) records.core
-  pub digest : IsNamed (first_of (codes "digest") rows) records.digest
+-- a text is wanted if a destination is named for it
+abbrev pub wanted_for : RunText → Option Destination → List Wanted
+wanted_for text None = []
+wanted_for text (Some destination) = record { text = text; destination = destination } ∷ []
+
+-- Of these texts, in their order, those are wanted whose option is given, each for the destination that the option names.
+abbrev pub AreWanted : List Row → List RunText → List Wanted → Type 0
+AreWanted rows [] wanted = wanted ≡ []
+AreWanted rows (text ∷ others) wanted =
+    (destination : Option Destination) × IsNamed (first_of (name_of text) rows) destination
+    × ((rest : List Wanted) × AreWanted rows others rest × (wanted ≡ wanted_for text destination ++ rest))
+
+-- those of these texts that are wanted were added to others
+abbrev pub AddsWanted : List Row → List RunText → (old new : List Wanted) → Type 0
+AddsWanted rows texts old new = (more : List Wanted) × AreWanted rows texts more × (new ≡ old ++ more)
+
+-- this text was, if it is wanted
+abbrev pub AddsIfWanted : List Row → RunText → (old new : List Wanted) → Type 0
+AddsIfWanted rows text old new =
+    (destination : Option Destination) × IsNamed (first_of (name_of text) rows) destination × (new ≡ old ++ wanted_for text destination)
 
 -- a file, and the file of its input if one is named
 pub record AreFiles (rows : List Row) (file : Bor (List ℕ)) (input : Option (Bor (List ℕ))) : Type 0 where
@@ -53,9 +68,9 @@ pub record AreFiles (rows : List Row) (file : Bor (List ℕ)) (input : Option (B
 
 -- a command of this name that was given these values is this request
 abbrev pub Asks : Text → List Row → Request → Type 0
-Asks name rows (Run file input numbers records) =
+Asks name rows (Run file input numbers wanted) =
     (name ≡ codes "run") × AreFiles rows file input × AreNumbers rows numbers × IsRead 32 (one_of (codes "workers") rows) (Some numbers.workers)
-    × AreRecords rows records
+    × AreWanted rows texts wanted.items
 Asks name rows (Debug file input numbers turn) =
     (name ≡ codes "debug") × AreFiles rows file input × AreNumbers rows numbers × (numbers.workers ≡ 1)
     × IsRead 64 (one_of (codes "turn") rows) (Some turn)

@@ -8,6 +8,8 @@ use Rattle.clap.specs.declared.builder.command.Command.TheViews.{out-Command}
 use Rattle.clap.specs.declared.builder.value_parser.ValueParser.{ValueParser}
 use Rattle.clap.specs.declared.builder.value_parser.ValueParser.TheVariants.{Signed, Unsigned}
 use Rattle.run_limits.specs.Limits as limit
+use Rattle.command_requests.specs.Texts.{name_of, texts}
+use Rattle.command_requests.specs.declared.text.Text.{Text as RunText}
 
 -- an argument that is known by its place and must be there
 abbrev pub placed : Text → Rule
@@ -50,10 +52,10 @@ quantum = number (codes "quantum") count
 abbrev pub limits : List Rule
 limits = bound ∷ quantum ∷ []
 
--- the texts that a run leaves beside its outcome
-abbrev pub records : List Rule
-records =
-    option (codes "trace") ∷ option (codes "timeline") ∷ option (codes "report") ∷ option (codes "races") ∷ option (codes "core") ∷ option (codes "digest") ∷ []
+-- the options of texts of a run
+abbrev pub options_of : List RunText → List Rule
+options_of [] = []
+options_of (text ∷ others) = option (name_of text) ∷ options_of others
 
 -- a command that takes these too
 abbrev pub with_rules : Shape → List Rule → Shape
@@ -61,7 +63,7 @@ with_rules shape [] = shape
 with_rules shape (rule ∷ rest) = with_rules (record shape { rules = shape.rules ++ rule ∷ [] }) rest
 
 abbrev pub run : Shape
-run = with_rules (new_shape (codes "run")) (file ∷ input ∷ (record workers { defaults = codes "4" ∷ [] }) ∷ limits ++ records)
+run = with_rules (new_shape (codes "run")) (file ∷ input ∷ (record workers { defaults = codes "4" ∷ [] }) ∷ limits ++ options_of texts)
 
 abbrev pub debug : Shape
 debug = with_rules (new_shape (codes "debug")) (file ∷ input ∷ turn ∷ limits)

@@ -5,4 +5,5 @@ pub mod Names
 pub mod Needed
 pub mod Reading
 pub mod Status
+pub mod Texts
 pub mod Unasked

@@ -1,6 +1,6 @@
 -- The files that the arguments of a run name.
 use Rattle.std.specs.Borrow.{Bor}
-use Rattle.std.specs.Prelude.{◌≡◌, ◌≢◌, ◌⊎◌, ℕ, Bool, true, false, not, ◌&&◌, if◌then◌else◌, Option, Some, None, List, [], ◌∷◌, ◌++◌, All, Contains, nat_eq, codes, IfSome}
+use Rattle.std.specs.Prelude.{◌≡◌, ◌≢◌, ◌⊎◌, ℕ, Bool, true, false, not, ◌&&◌, if◌then◌else◌, Option, List, [], ◌∷◌, ◌++◌, All, Contains, nat_eq, codes, IfSome}
 use Rattle.std.specs.Cmp.Lexicographic.{pointwise}
 use Rattle.std.specs.List.{starts_with}
 use Rattle.output_files.specs.Names.{text_of}
@@ -8,22 +8,25 @@ use Rattle.output_files.specs.declared.file_name.FileName.{FileName}
 use Rattle.output_files.specs.declared.file_name.FileName.TheVariants.{At, PartOf}
 use Rattle.command_requests.specs.declared.destination.Destination.{Destination}
 use Rattle.command_requests.specs.declared.destination.Destination.TheVariants.{StandardOutput, File}
-use Rattle.command_requests.specs.declared.records.Records.{Records}
+use Rattle.command_requests.specs.declared.wanted.Wanted.{Wanted}
 
 -- whether a path is one of those of which each names a file of its own: neither standard output nor below /dev/
 abbrev pub counts : List ℕ → Bool
 counts path = not (pointwise nat_eq path (codes "-")) && not (starts_with nat_eq path (codes "/dev/"))
 
 -- the names of the file of a destination and of its part, where that file counts
-abbrev pub names_in : Option Destination → List FileName
-names_in None = []
-names_in (Some StandardOutput) = []
-names_in (Some (File path)) = if counts path.now then At path ∷ PartOf path ∷ [] else []
+abbrev pub names_in : Destination → List FileName
+names_in StandardOutput = []
+names_in (File path) = if counts path.now then At path ∷ PartOf path ∷ [] else []
+
+-- the names of the files for some texts, and of their parts
+abbrev pub names_for : List Wanted → List FileName
+names_for [] = []
+names_for (one ∷ others) = names_in one.destination ++ names_for others
 
 -- the names of the files of a run: of the program, where it counts, of the files for the texts, and of their parts
-abbrev pub names_of : Bor (List ℕ) → Records → List FileName
-names_of file records =
-    (if counts file.now then At file ∷ [] else []) ++ (names_in records.trace ++ (names_in records.timeline ++ (names_in records.report ++ (names_in records.races ++ (names_in records.core ++ names_in records.digest)))))
+abbrev pub names_of : Bor (List ℕ) → List Wanted → List FileName
+names_of file wanted = (if counts file.now then At file ∷ [] else []) ++ names_for wanted
 
 -- whether names are of one file, as far as it is known of files at hand
 abbrev pub Sameness : Type 0

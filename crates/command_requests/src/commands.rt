@@ -2,9 +2,10 @@
 ghost use Rattle.std.specs.Prelude.{◌≡◌, IfOk};
 ghost use Rattle.clap.specs.Words.{Shape, app_of};
 ghost use Rattle.command_requests.specs.Commands as spec;
-ghost use Rattle.command_requests.specs.Commands.{Takes, with_rules};
+ghost use Rattle.command_requests.specs.Commands.{Takes, options_of, with_rules};
 
-use crate::parameters::{bound, file, input, output, quantum, schedule, turn, workers};
+use crate::parameters::{bound, file, input, quantum, schedule, text_option, turn, workers};
+use crate::text::Text;
 use clap::Command;
 use std::alloc::{AllocError, Global};
 
@@ -35,7 +36,7 @@ fn run_command<'a>(alloc: Global) -> Result<Command<'a>, AllocError>
         .arg(file(alloc))?
         .arg(input(alloc, "The program's input [default: standard input]"))?
         .arg(workers(alloc).default_value("4"))?;
-    with_records(limited(command, alloc)?, alloc)
+    with_texts(limited(command, alloc)?, alloc, Text::all())
 }
 
 fn debug_command<'a>(alloc: Global) -> Result<Command<'a>, AllocError>
@@ -76,39 +77,17 @@ fn limited<'a>(command: Command<'a>, alloc: Global) -> Result<Command<'a>, Alloc
     command.arg(bound(alloc))?.arg(quantum(alloc))
 }
 
-/// Adds the files that a run is recorded in.
-fn with_records<'a>(command: Command<'a>, alloc: Global) -> Result<Command<'a>, AllocError>
-    ensures { (shape : Shape) → Takes shape command.entry → IfOk result (Takes (with_rules shape spec.records)) }
+/// Adds the options of these texts.
+fn with_texts<'a>(
+    command: Command<'a>,
+    alloc: Global,
+    texts: &[Text],
+) -> Result<Command<'a>, AllocError>
+    ensures { (shape : Shape) → Takes shape command.entry → IfOk result (Takes (with_rules shape (options_of texts.now))) }
 {
-    command
-        .arg(output(
-            alloc,
-            "trace",
-            "Write a line for each turn to this file, or to standard output where it is -",
-        ))?
-        .arg(output(
-            alloc,
-            "timeline",
-            "Write a timeline for trace viewers to this file, or to standard output where it is -",
-        ))?
-        .arg(output(
-            alloc,
-            "report",
-            "Write the sharing of pages to this file, or to standard output where it is -",
-        ))?
-        .arg(output(
-            alloc,
-            "races",
-            "Write the data races to this file, or to standard output where it is -",
-        ))?
-        .arg(output(
-            alloc,
-            "core",
-            "Write a core file of the end, for gdb, to this file, or to standard output where it is -",
-        ))?
-        .arg(output(
-            alloc,
-            "digest",
-            "Write hashes of output, memory and trace to this file, or to standard output where it is -",
-        ))
+    let [text, others @ ..] = texts else {
+        return Ok(command);
+    };
+    let command = command.arg(text_option(alloc, *text))?;
+    with_texts(command, alloc, others)
 }

@@ -1,12 +1,12 @@
 //! Whether two arguments of a run name one file.
 ghost use Rattle.std.specs.Prelude.{◌≡◌, ◌++◌, true, None, Contains, IfErr, IfOk, IfSome, OnOk};
 ghost use Rattle.output_files.specs.Names.{text_of};
-ghost use Rattle.command_requests.specs.Names.{counts, names_in, names_of, AreOne, AreTwins, IsUnlike, AreUnlike};
+ghost use Rattle.command_requests.specs.Names.{counts, names_for, names_in, names_of, AreOne, AreTwins, IsUnlike, AreUnlike};
 
 use crate::destination::Destination;
 use crate::failure::Failure;
-use crate::records::Records;
 use crate::target::Target;
+use crate::wanted::Wanted;
 use output_files::{FileName, Files};
 use std::alloc::{AllocError, Global};
 
@@ -15,15 +15,15 @@ use std::alloc::{AllocError, Global};
 pub fn named_twice<'a, F: Files>(
     alloc: Global,
     file: &'a str,
-    records: &Records<'a>,
+    wanted: &[Wanted<'a>],
     files: &F,
 ) -> Result<Option<(FileName<'a>, FileName<'a>)>, Failure<'a>>
-    ensures none { IfOk result (λ twins. twins ≡ None → AreUnlike (F.is_same files.now) (names_of file.entry records.now)) }
+    ensures none { IfOk result (λ twins. twins ≡ None → AreUnlike (F.is_same files.now) (names_of file.entry wanted.now)) }
     ensures some { IfOk result (λ twins.
-        IfSome twins (λ two. AreTwins (F.is_same files.now) two.0 two.1 (names_of file.entry records.now))) }
+        IfSome twins (λ two. AreTwins (F.is_same files.now) two.0 two.1 (names_of file.entry wanted.now))) }
     ensures err { IfErr result (λ failure. failure ≡ Failure.OutOfMemory) }
 {
-    let names = names_of(alloc, file, records)?;
+    let names = names_of(alloc, file, wanted)?;
     first_twins(alloc, names.as_slice(), files)
 }
 
@@ -31,31 +31,37 @@ pub fn named_twice<'a, F: Files>(
 fn names_of<'a>(
     alloc: Global,
     file: &'a str,
-    records: &Records<'a>,
+    wanted: &[Wanted<'a>],
 ) -> Result<Vec<FileName<'a>>, AllocError>
-    ensures { IfOk result (λ names. names.items ≡ names_of file.entry records.now) }
+    ensures { IfOk result (λ names. names.items ≡ names_of file.entry wanted.now) }
 {
     let mut names = Vec::new(alloc);
     if is_counted(file) {
         names.push(FileName::At(file))?;
     }
-    add_names(records.trace, &mut names)?;
-    add_names(records.timeline, &mut names)?;
-    add_names(records.report, &mut names)?;
-    add_names(records.races, &mut names)?;
-    add_names(records.core, &mut names)?;
-    add_names(records.digest, &mut names)?;
+    add_all_names(wanted, &mut names)?;
     Ok(names)
+}
+
+/// Adds the names of the files for these texts and of their parts.
+fn add_all_names<'a>(wanted: &[Wanted<'a>], names: &mut Vec<FileName<'a>>) -> Result<(), AllocError>
+    ensures { OnOk result (names.new.items ≡ names.old.items ++ names_for wanted.now) }
+{
+    let [first, others @ ..] = wanted else {
+        return Ok(());
+    };
+    add_names(first.destination, names)?;
+    add_all_names(others, names)
 }
 
 /// Adds the names of the file of a destination and of its part.
 fn add_names<'a>(
-    destination: Option<Destination<'a>>,
+    destination: Destination<'a>,
     names: &mut Vec<FileName<'a>>,
 ) -> Result<(), AllocError>
     ensures { OnOk result (names.new.items ≡ names.old.items ++ names_in destination.entry) }
 {
-    if let Some(Destination::File(path)) = destination
+    if let Destination::File(path) = destination
         && is_counted(path)
     {
         names.push(FileName::At(path))?;

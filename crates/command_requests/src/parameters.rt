@@ -2,7 +2,9 @@
 ghost use Rattle.std.specs.Prelude.{◌≡◌};
 ghost use Rattle.command_requests.specs.Commands as spec;
 ghost use Rattle.command_requests.specs.Commands.{Is};
+ghost use Rattle.command_requests.specs.Texts.{name_of};
 
+use crate::text::Text;
 use clap::builder::ValueParser;
 use clap::{Arg, value_parser};
 use run_limits::{MAX_BOUND, MAX_WORKERS};
@@ -64,9 +66,12 @@ pub(crate) fn quantum<'a>(alloc: Global) -> Arg<'a>
     )
 }
 
-pub(crate) fn output<'a>(alloc: Global, name: &'a str, help: &'a str) -> Arg<'a>
-    ensures { Is (spec.option name.entry.now) result }
+/// The option that says where a text of a run goes.
+pub(crate) fn text_option<'a>(alloc: Global, text: Text) -> Arg<'a>
+    ensures { Is (spec.option (name_of text)) result }
 {
+    let name: &'a str = text.name();
+    let help: &'a str = text.help();
     Arg::new(alloc, name)
         .long(name)
         .value_name("FILE")

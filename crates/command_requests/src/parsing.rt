@@ -1,19 +1,21 @@
 //! Reads the arguments of a command line into a request.
-ghost use Rattle.std.specs.Prelude.{◌≡◌, IfErr, IfOk, Some, codes, map, option_map};
+ghost use Rattle.std.specs.Prelude.{◌≡◌, IfErr, IfOk, OnOk, Some, codes, map, option_map};
 ghost use Rattle.clap.specs.Faults.{fault_of};
 ghost use Rattle.clap.specs.Kinds.{HasKind};
 ghost use Rattle.clap.specs.Words.{first_of, found_of, one_of, rows_of, subcommand_rows_of};
-ghost use Rattle.command_requests.specs.Asked.{AreNumbers, AreRecords, Asks, AsksFor, IsAsked, IsNamed, IsRead, IsText};
+ghost use Rattle.command_requests.specs.Asked.{AddsIfWanted, AddsWanted, AreNumbers, AreWanted, Asks, AsksFor, IsAsked, IsNamed, IsRead, IsText};
 ghost use Rattle.command_requests.specs.Commands as spec;
 ghost use Rattle.command_requests.specs.Needed.{HasDebug, HasNumber, HasReplay, HasRun, HasText, IsFound};
+ghost use Rattle.command_requests.specs.Texts.{texts};
 
 use crate::commands::program;
 use crate::destination::Destination;
 use crate::numbers::Numbers;
-use crate::records::Records;
 use crate::request::Request;
+use crate::text::Text;
+use crate::wanted::Wanted;
 use clap::{ArgMatches, Error};
-use std::alloc::Global;
+use std::alloc::{AllocError, Global};
 use std::convert::AsStr;
 
 /// Reads the arguments of a command line, the program's name first.
@@ -23,36 +25,37 @@ pub(crate) fn parse<'a, S: AsStr>(alloc: Global, arguments: &'a [S]) -> Result<R
 {
     let mut program = program(alloc)?;
     let matches = program.try_get_matches_from_mut(arguments)?;
-    Ok(requested(&matches))
+    Ok(requested(alloc, &matches)?)
 }
 
 /// What the matches ask for.
-fn requested<'a>(matches: &ArgMatches<'a>) -> Request<'a>
+fn requested<'a>(alloc: Global, matches: &ArgMatches<'a>) -> Result<Request<'a>, AllocError>
     requires { IsFound (subcommand_rows_of matches.now) }
-    ensures { AsksFor (subcommand_rows_of matches.now) result }
+    ensures { IfOk result (AsksFor (subcommand_rows_of matches.now)) }
 {
     match matches.subcommand().unwrap() {
-        ("run", run) => run_request(run),
-        ("debug", debug) => debug_request(debug),
-        ("disasm", disasm) => Request::Disasm {
+        ("run", run) => run_request(alloc, run),
+        ("debug", debug) => Ok(debug_request(debug)),
+        ("disasm", disasm) => Ok(Request::Disasm {
             file: given_text(disasm, "FILE"),
-        },
-        ("replay", replay) => replay_request(replay),
+        }),
+        ("replay", replay) => Ok(replay_request(replay)),
         _ => unreachable!(),
     }
 }
 
 /// The run that these ask for.
-fn run_request<'a>(matches: &ArgMatches<'a>) -> Request<'a>
+fn run_request<'a>(alloc: Global, matches: &ArgMatches<'a>) -> Result<Request<'a>, AllocError>
     requires { HasRun (rows_of (found_of matches.now)) }
-    ensures { Asks (codes "run") (rows_of (found_of matches.now)) result }
+    ensures { IfOk result (Asks (codes "run") (rows_of (found_of matches.now))) }
 {
-    Request::Run {
+    let wanted = wanted_of(alloc, matches)?;
+    Ok(Request::Run {
         file: given_text(matches, "FILE"),
         input: text(matches, "input"),
         numbers: numbers_of(matches, workers_of(matches)),
-        records: records_of(matches),
-    }
+        wanted,
+    })
 }
 
 /// The debugging that these ask for.
@@ -94,17 +97,44 @@ fn numbers_of(matches: &ArgMatches<'_>, workers: u32) -> Numbers
     }
 }
 
-/// Where the texts of a run go.
-fn records_of<'a>(matches: &ArgMatches<'a>) -> Records<'a>
-    ensures { AreRecords (rows_of (found_of matches.now)) result }
+/// The texts that a run is to leave, in their order.
+fn wanted_of<'a>(alloc: Global, matches: &ArgMatches<'a>) -> Result<Vec<Wanted<'a>>, AllocError>
+    ensures { IfOk result (λ wanted. AreWanted (rows_of (found_of matches.now)) texts wanted.items) }
 {
-    Records {
-        trace: destination(matches, "trace"),
-        timeline: destination(matches, "timeline"),
-        report: destination(matches, "report"),
-        races: destination(matches, "races"),
-        core: destination(matches, "core"),
-        digest: destination(matches, "digest"),
+    let mut wanted = Vec::new(alloc);
+    add_wanted(matches, Text::all(), &mut wanted)?;
+    Ok(wanted)
+}
+
+/// Adds those of these texts whose options are given.
+fn add_wanted<'a>(
+    matches: &ArgMatches<'a>,
+    texts: &[Text],
+    wanted: &mut Vec<Wanted<'a>>,
+) -> Result<(), AllocError>
+    ensures { OnOk result (AddsWanted (rows_of (found_of matches.now)) texts.now wanted.old.items wanted.new.items) }
+{
+    let [text, others @ ..] = texts else {
+        return Ok(());
+    };
+    add_if_wanted(matches, *text, wanted)?;
+    add_wanted(matches, others, wanted)
+}
+
+/// Adds this text if its option is given.
+fn add_if_wanted<'a>(
+    matches: &ArgMatches<'a>,
+    text: Text,
+    wanted: &mut Vec<Wanted<'a>>,
+) -> Result<(), AllocError>
+    ensures { OnOk result (AddsIfWanted (rows_of (found_of matches.now)) text wanted.old.items wanted.new.items) }
+{
+    match destination(matches, text.name()) {
+        Some(destination) => {
+            wanted.push(Wanted { text, destination })?;
+            Ok(())
+        }
+        None => Ok(()),
     }
 }
 

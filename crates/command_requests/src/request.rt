@@ -1,9 +1,9 @@
 //! What a command line asks for.
 use crate::numbers::Numbers;
-use crate::records::Records;
+use crate::wanted::Wanted;
 
 /// What a command line asks for.
-#[derive(Clone, Copy)]
+#[derive(Drop)]
 pub enum Request<'a> {
     /// Run the program of a file.
     Run {
@@ -11,7 +11,8 @@ pub enum Request<'a> {
         /// The file of the guest's input, which is standard input where there is none.
         input: Option<&'a str>,
         numbers: Numbers,
-        records: Records<'a>,
+        /// The texts that it is to leave, in their order.
+        wanted: Vec<Wanted<'a>>,
     },
     /// Print the instructions of a file.
     Disasm {

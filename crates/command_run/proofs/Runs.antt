@@ -1,5 +1,7 @@
 -- What a run answers, put together of its parts.
-use Rattle.std.proofs.Common.{Bool, false, true, ◌≡◌, ◌⊎◌, ◌∙◌, ◌+◌, inl, inr, ℕ, Option, Some, None, Result, Ok, Err, List, IfOk, IfSome, IsSome, ap, is_some, refl, subst, sym, ⊎_elim}
+use Rattle.std.proofs.Common.{Bool, false, true, ◌≡◌, ◌⊎◌, ◌∙◌, inl, inr, ℕ, Option, Some, None, Result, Ok, Err, List, [], ◌∷◌, IfOk, IfSome, IsOk, ap, arith, is_some, refl, subst, sym, ⊎_elim}
+use Rattle.std.specs.Prelude.{Contains, if◌then◌else◌}
+use Rattle.std.proofs.lemmas.List.Elements.{Contains-append_cases, Contains-append_left, Contains-append_right, Contains-push, Contains-push_cases}
 use Rattle.std.proofs.KnownBytes.{Appends-trans}
 use Rattle.std.specs.Io.KnownBytes.{Appends}
 use Rattle.std.specs.Result.{IsErrAnd}
@@ -26,21 +28,27 @@ use Rattle.token.specs.Setup.{Setup}
 use Rattle.token.specs.declared.outcome.RunOutcome.{RunOutcome}
 use Rattle.token.specs.declared.turn.Turn.{Turn}
 use Rattle.command_run.specs.Failure.{IsStoppedBy}
-use Rattle.command_outputs.specs.Records.{AreTextsOf, AreUnwritten, AreWritten, IsUnbegun, IsUnwrittenTo, KeepsButParts, Left, Texts}
-use Rattle.command_outputs.specs.Recorders.{AreFor, AreSame, Writes}
+use Rattle.command_requests.specs.Destination.{KeepsBut}
+use Rattle.command_requests.specs.Texts.{wants_races}
+use Rattle.command_outputs.proofs.Out.{from_before, printed_all}
+use Rattle.command_outputs.specs.Placing.{IsUnwrittenTo}
+use Rattle.command_outputs.specs.Recording.{HasWriting, either, failed_in, has_failed, kind_of, unwritten, wanted_by, wanted_of, writes_meanwhile, writing_in}
+use Rattle.command_outputs.specs.Texts.{AreAllOut, AreCutShort, AreTextsOf, ComesOut, IsUnbegun, Left, Placed, destinations}
+use Rattle.command_outputs.specs.declared.item.Item.{Item}
+use Rattle.command_outputs.specs.declared.recording.Recording.{Recording as TextRecording}
+use Rattle.command_outputs.specs.declared.recording.Recording.TheVariants.{Trace, Timeline, Report, Races, Core, Digest}
+use Rattle.command_requests.specs.Destination.{target_of}
 use Rattle.symbols.specs.Symbol.{SymbolLists}
 use Rattle.symbols.specs.Symbols.{symbols_of}
-use Rattle.command_run.specs.Observing.{AreFound, IsRaceText}
+use Rattle.command_run.specs.Observing.{AreFound}
 use Rattle.races.specs.Texts.{text_of}
 use Rattle.races.specs.declared.race.Race.{Race}
 use Rattle.command_run.specs.declared.opened.Opened.{Opened}
 use Rattle.command_run.specs.Serves.{left_after, AreOneFile, AreOpenedFrom, AreRun, AreWantedRaces, Concludes, Host, IsBegun, IsStopped, IsUnrun, LeavesTexts, RunRequest, RunsInto}
 use Rattle.command_requests.specs.declared.destination.Destination.{Destination}
 use Rattle.command_requests.specs.declared.failure.Failure.{Failure}
-use Rattle.command_requests.specs.declared.failure.Failure.TheVariants.{CannotWrite, OutOfMemory}
-use Rattle.command_requests.specs.declared.target.Target.TheVariants.{StandardOutput}
-use Rattle.command_requests.specs.declared.records.Records.{Records}
-use Rattle.command_outputs.specs.declared.text_recorders.TextRecorders.{TextRecorders}
+use Rattle.command_requests.specs.declared.failure.Failure.TheVariants.{OutOfMemory}
+use Rattle.command_requests.specs.declared.wanted.Wanted.{Wanted}
 
 -- what holds of the error that `?` hands on
 pub handed_on : {T : Type 0} (Is : Result T Failure → Type 0) (failure : Failure) (answer : Result T Failure) → Is (Err failure) → IsErrAnd answer (λ given. given ≡ failure) → Is answer
@@ -65,32 +73,82 @@ ends_as records others setup end recorder other tells ends = answer_so setup (Is
 pub in_order : (setup : Setup) (history : History) → IsLegal setup history → AreInOrder (changes_of history)
 in_order setup history legal = record { phases = phases_ascend setup history legal; threads = thread_numbers_small setup history legal }
 
--- why a run was stopped
-unwritten_by : (destination : Option Destination) (interruption : Interruption) (failure : Failure) (failures failures' : ℕ)
-    → IsStoppedBy destination interruption failure → CountsFailures {T = RunEnd} stop.WriteFailed (Err interruption) failures failures'
-    → (failure ≡ OutOfMemory) ⊎ (((failure ≡ CannotWrite StandardOutput) × (failures' ≡ failures + 1)) ⊎ IsUnwrittenTo destination failure)
-unwritten_by destination stop.OutOfMemory failure failures failures' is counts = inl is
-unwritten_by destination stop.WriteFailed failure failures failures' is counts = inr (inl (is, counts.0 refl))
-unwritten_by None stop.RecordFailed failure failures failures' is counts = absurd is
-unwritten_by (Some destination) stop.RecordFailed failure failures failures' is counts = inr (inr (subst (IsUnwrittenTo (Some destination)) (sym is) refl))
+-- what a list with one element more contains
+none_in : {X : Type 0} (x : X) → Contains [] x → ⊥
+none_in x has = omega (arith, has.1)
 
-pub stopped_by : (trace timeline destination : Option Destination) (setup : Setup) (interruption : Interruption) (failure : Failure) (before after : Host)
-    → (destination ≡ trace) ⊎ (destination ≡ timeline) → IsStoppedBy destination interruption failure
+first_in : {X : Type 0} (x : X) (others : List X) → Contains (x ∷ others) x
+first_in x others = Contains-append_left (x ∷ []) others x (Contains-push [] x)
+
+later_in : {X : Type 0} (first : X) (others : List X) (x : X) → Contains others x → Contains (first ∷ others) x
+later_in first others x has = Contains-append_right (first ∷ []) others x has
+
+first_or_later : {X : Type 0} (first : X) (others : List X) (x : X) → Contains (first ∷ others) x → (first ≡ x) ⊎ Contains others x
+first_or_later first others x has =
+    ⊎_elim
+    (λ alone. ⊎_elim (λ none. absurd (none_in x none)) (λ same. inl same) (Contains-push_cases [] first x alone))
+    (λ later. inr later)
+    (Contains-append_cases (first ∷ []) others x has)
+
+-- the destination is that of one of these texts, which is written as the turns are done, if there is a destination
+abbrev pub IsBlamed : List Wanted → Option Destination → Type 0
+IsBlamed wanted None = Unit {0}
+IsBlamed wanted (Some destination) = (one : Wanted) × Contains wanted one × (writes_meanwhile one.text ≡ true) × (destination ≡ one.destination)
+
+-- one more text before
+blamed_later : (first : Wanted) (others : List Wanted) (destination : Option Destination) → IsBlamed others destination → IsBlamed (first ∷ others) destination
+blamed_later first others None blamed = tt
+blamed_later first others (Some destination) blamed = (blamed.0, later_in first others blamed.0 blamed.1, blamed.2, blamed.3)
+
+-- of the texts one that says that it has failed is written as the turns are done
+failed_writes : {O : Type 0} (recording : TextRecording O) → has_failed recording ≡ true → writes_meanwhile (kind_of recording) ≡ true
+failed_writes (Timeline recorder) is = refl
+failed_writes (Trace recorder) is = refl
+failed_writes (Report recorder output) is = cc
+failed_writes (Races output) is = cc
+failed_writes (Core output) is = cc
+failed_writes (Digest recorder output) is = cc
+
+failed_blamed : {O : Type 0} (items : List (Item O)) → IsBlamed (wanted_by items) (failed_in items)
+failed_blamed [] = tt
+failed_blamed (first ∷ others) = go (has_failed first.recording) refl (failed_blamed others)
+  where
+    go : (is : Bool) → has_failed first.recording ≡ is → IsBlamed (wanted_by others) (failed_in others) → IsBlamed (wanted_by (first ∷ others)) (if is then Some first.destination else failed_in others)
+    go true is rest = (wanted_of first, first_in (wanted_of first) (wanted_by others), failed_writes first.recording is, refl)
+    go false is rest = blamed_later (wanted_of first) (wanted_by others) (failed_in others) rest
+
+writing_blamed : {O : Type 0} (items : List (Item O)) → IsBlamed (wanted_by items) (writing_in items)
+writing_blamed [] = tt
+writing_blamed (first ∷ others) = go (writes_meanwhile (kind_of first.recording)) refl (writing_blamed others)
+  where
+    go : (is : Bool) → writes_meanwhile (kind_of first.recording) ≡ is → IsBlamed (wanted_by others) (writing_in others) → IsBlamed (wanted_by (first ∷ others)) (if is then Some first.destination else writing_in others)
+    go true is rest = (wanted_of first, first_in (wanted_of first) (wanted_by others), is, refl)
+    go false is rest = blamed_later (wanted_of first) (wanted_by others) (writing_in others) rest
+
+-- the text that couldn't be written is written as the turns are done
+pub unwritten_blamed : {O : Type 0} (items : List (Item O)) → IsBlamed (wanted_by items) (unwritten items)
+unwritten_blamed items = go (failed_in items) (failed_blamed items)
+  where
+    go : (failed : Option Destination) → IsBlamed (wanted_by items) failed → IsBlamed (wanted_by items) (either failed (writing_in items))
+    go None blamed = writing_blamed items
+    go (Some destination) blamed = blamed
+
+-- so is what was answered for the texts
+pub blamed_as : {O : Type 0} (items shown : List (Item O)) (wanted : List Wanted) (destination : Option Destination) → shown ≡ items → wanted_by items ≡ wanted
+    → destination ≡ unwritten shown → IsBlamed wanted destination
+blamed_as {O} items shown wanted destination same are is =
+    subst (λ (all : List Wanted). IsBlamed all destination) are
+    (subst (λ (to : Option Destination). IsBlamed (wanted_by items) to) (sym (is ∙ ap (λ (all : List (Item O)). unwritten all) same)) (unwritten_blamed items))
+
+pub stopped_by : (wanted : List Wanted) (destination : Option Destination) (setup : Setup) (interruption : Interruption) (failure : Failure) (before after : Host)
+    → IsBlamed wanted destination → IsStoppedBy destination interruption failure
     → CountsFailures {T = RunEnd} stop.WriteFailed (Err interruption) before.failures after.failures
-    → SendsPrefix setup before.output after.output → IsStopped trace timeline setup before after failure
-stopped_by trace timeline destination setup interruption failure before after among is counts sent = (
-  ⊎_elim
-      (λ memory. inl memory)
-      (λ others. ⊎_elim
-      (λ output. inr (inl output))
-      (λ unwritten. ⊎_elim
-      (λ is. inr (inr (inl (subst (λ (to : Option Destination). IsUnwrittenTo to failure) is unwritten))))
-      (λ is. inr (inr (inr (subst (λ (to : Option Destination). IsUnwrittenTo to failure) is unwritten))))
-      among)
-      others)
-      (unwritten_by destination interruption failure before.failures after.failures is counts),
-  sent,
-)
+    → SendsPrefix setup before.output after.output → IsStopped wanted setup before after failure
+stopped_by wanted destination setup stop.OutOfMemory failure before after blamed is counts sent = (inl is, sent)
+stopped_by wanted destination setup stop.WriteFailed failure before after blamed is counts sent = (inr (inl (is, counts.0 refl)), sent)
+stopped_by wanted None setup stop.RecordFailed failure before after blamed is counts sent = absurd is
+stopped_by wanted (Some destination) setup stop.RecordFailed failure before after blamed is counts sent =
+    (inr (inr (blamed.0, blamed.1, blamed.2, subst (IsUnwrittenTo blamed.0.destination) (sym is) (ap target_of blamed.3))), sent)
 
 -- the output of a run that came to its end is a prefix of its history's
 pub all_sent : {R : Type 0} (records : Recording R) (setup : Setup) (end : RunEnd) (recorder : R) (old new : Option (List ℕ)) → Ends records setup end recorder
@@ -103,8 +161,8 @@ abbrev left_with : List Turn → List Change → RunEnd → (races : List ℕ) �
 left_with turns changes end races =
     record { turns = turns; changes = changes; ends = end.outcome; output = end.output.items; memory = cells_of end.memory; threads = end.threads.items; races = races }
 
-module _ {R : Type 0} (told : Recording R) (tells : Type 0) (records : Records) (symbols : SymbolLists) (setup : Setup) (end : RunEnd) (races : List ℕ) (recorders : R)
-    (before after : Host) (now : Content) (mid : Option (List ℕ)) (ends : Ends told setup end recorders) (are_races : AreWantedRaces records symbols setup races) where
+module _ {R : Type 0} (told : Recording R) (tells : Type 0) (wanted : List Wanted) (symbols : SymbolLists) (setup : Setup) (end : RunEnd) (races : List ℕ) (recorders : R)
+    (before after : Host) (now : Content) (mid : Option (List ℕ)) (ends : Ends told setup end recorders) (are_races : AreWantedRaces wanted symbols setup races) where
   abbrev history : History
   history = ends.some.0
 
@@ -123,76 +181,92 @@ module _ {R : Type 0} (told : Recording R) (tells : Type 0) (records : Records) 
       record { turns = turns_of history; changes = changes_of history; ends = end.outcome; output = output; memory = (present setup history).memory; threads = threads; races = races })
       (sym ends.some.2.threads)
 
-  leaves_texts : (texts : Texts) → AreTextsOf records (left_with (turns_of history) (changes_of history) end races) texts
-      → LeavesTexts setup records end.outcome end.output.items texts history
+  leaves_texts : (texts : List Placed) → AreTextsOf wanted (left_with (turns_of history) (changes_of history) end races) texts
+      → LeavesTexts setup wanted end.outcome end.output.items races texts history
   leaves_texts texts are = record {
     ends_so = ends.some.2.ends;
     output_is = ends.some.2.output;
-    texts_are =
-        let all = subst (λ (left : Left). AreTextsOf records left texts) (left_so end.output.items) are in
-        record { trace = all.trace; timeline = all.timeline; report = all.report; races = λ _. refl; core = all.core; digest = all.digest };
+    texts_are = subst (λ (left : Left). AreTextsOf wanted left texts) (left_so end.output.items) are;
   }
 
-  -- the run came to its end, and its texts are where they are to be
-  pub concludes_well : Determinism → Progress → Appends before.output mid end.output.items
-      → ((turns : List Turn) (changes : List Change) → told recorders turns changes → AreInOrder changes
-      → AreWritten tells records (left_with turns changes end races) after.files mid after.output)
-      → Concludes tells records symbols before after setup (Ok end.outcome)
-  concludes_well one goes sent has =
-      let made = has (turns_of history) (changes_of history) ends.some.2.recorded (in_order setup history ends.some.1.legal) in (
-        end.output.items,
-        made.0,
-        one_answer setup history end.outcome (LeavesTexts setup records end.outcome end.output.items made.0) one goes ends.some.1.legal ends.some.2.ends (leaves_texts made.0 made.1),
-        λ wanted. subst (λ (text : List ℕ). IsRaceText symbols setup text) (sym (made.1.races wanted)) (are_races wanted),
-        made.2.filed,
-        λ can. Appends-trans before.output mid after.output _ _ sent (made.2.printed_after can),
-      )
+  module _ {T : Type 0} (texts : List Wanted) (result : Result T Failure) (same : texts ≡ wanted) (kept : KeepsBut [] (destinations wanted) before.files now)
+      (sent : Appends before.output mid end.output.items)
+      (has : (turns : List Turn) (changes : List Change) → told recorders turns changes → AreInOrder changes
+      → ComesOut tells texts (left_with turns changes end races) now after.files mid after.output result) where
+    -- what became of the wanted texts
+    came_out : ComesOut tells wanted (left_with (turns_of history) (changes_of history) end races) before.files after.files mid after.output result
+    came_out =
+        from_before tells wanted (left_with (turns_of history) (changes_of history) end races) before.files now after.files mid after.output result kept
+        (subst (λ (all : List Wanted). ComesOut tells all (left_with (turns_of history) (changes_of history) end races) now after.files mid after.output result) same
+        (has (turns_of history) (changes_of history) ends.some.2.recorded (in_order setup history ends.some.1.legal)))
 
-  unwritten_since : (left : Left) (failure : Failure) → KeepsButParts records before.files now
-      → AreUnwritten tells records left now after.files mid after.output failure
-      → AreUnwritten tells records left before.files after.files mid after.output failure
-  unwritten_since left failure kept (inl missing) =
-      inl (record { trace = missing.trace; others = λ path file trace timeline report races core digest. missing.others path file trace timeline report races core digest ∙ kept path trace timeline report races core digest })
-  unwritten_since left failure kept (inr missing) = inr missing
+    -- the texts are where they are to be
+    pub concludes_well : Determinism → Progress → IsOk result → Concludes tells wanted symbols before after setup (Ok end.outcome)
+    concludes_well one goes good =
+        let out = all_out_of result good came_out in (
+          end.output.items,
+          races,
+          out.texts,
+          one_answer setup history end.outcome (LeavesTexts setup wanted end.outcome end.output.items races out.texts) one goes ends.some.1.legal ends.some.2.ends
+              (leaves_texts out.texts out.are_texts),
+          are_races,
+          out.out.filed,
+          out.others,
+          λ can. Appends-trans before.output mid after.output _ _ sent (printed_all tells out.texts mid after.output out.out.printed_after can),
+        )
+      where
+        all_out_of : (result : Result T Failure) → IsOk result
+            → ComesOut tells wanted (left_with (turns_of history) (changes_of history) end races) before.files after.files mid after.output result
+            → AreAllOut tells wanted (left_with (turns_of history) (changes_of history) end races) before.files after.files mid after.output
+        all_out_of (Ok done) good out = out
+        all_out_of (Err failure) good out =
+            let no : IsOk {T = T} {E = Failure} (Err failure) = good in
+            cc
 
-  -- the run came to its end, and one of its texts isn't where it is to be
-  pub concludes_left_out : (failure : Failure) (answer : Result RunOutcome Failure) → KeepsButParts records before.files now → Appends before.output mid end.output.items
-      → ((turns : List Turn) (changes : List Change) → told recorders turns changes → AreInOrder changes
-      → AreUnwritten tells records (left_with turns changes end races) now after.files mid after.output failure)
-      → IsErrAnd answer (λ given. given ≡ failure) → Concludes tells records symbols before after setup answer
-  concludes_left_out failure answer kept sent left given =
-      handed_on (λ (given : Result RunOutcome Failure). Concludes tells records symbols before after setup given) failure answer
-      (inr (record {
-        history = history;
-        complete = ends.some.1;
-        ends = end.outcome;
-        ends_so = ends.some.2.ends;
-        between = mid;
-        put_out = subst (λ (output : List ℕ). Appends before.output mid output) (sym ends.some.2.output) sent;
-        races = races;
-        are_races = are_races;
-        unwritten =
-            unwritten_since (left_after setup history end.outcome (present setup history).output races) failure kept
-            (subst (λ (left : Left). AreUnwritten tells records left now after.files mid after.output failure)
-            (ap (λ (output : List ℕ). left_put output) (sym ends.some.2.output) ∙ left_so (present setup history).output)
-            (left (turns_of history) (changes_of history) ends.some.2.recorded (in_order setup history ends.some.1.legal)));
-      }))
-      given
+    -- one of the texts isn't where it is to be
+    pub concludes_left_out : (failure : Failure) → result ≡ Err failure → Concludes tells wanted symbols before after setup (Err failure)
+    concludes_left_out failure is = inr (record {
+      history = history;
+      complete = ends.some.1;
+      ends = end.outcome;
+      ends_so = ends.some.2.ends;
+      between = mid;
+      put_out = subst (λ (output : List ℕ). Appends before.output mid output) (sym ends.some.2.output) sent;
+      races = races;
+      are_races = are_races;
+      unwritten =
+          subst (λ (left : Left). AreCutShort tells wanted left before.files after.files mid after.output failure)
+          (ap (λ (output : List ℕ). left_put output) (sym ends.some.2.output) ∙ left_so (present setup history).output)
+          (subst
+          (λ (given : Result T Failure). ComesOut tells wanted (left_with (turns_of history) (changes_of history) end races) before.files after.files mid after.output given)
+          is came_out);
+    })
+
+-- if no text is wanted, none was begun
+pub none_begun : {O : Type 0} (items : List (Item O)) (wanted : List Wanted) → wanted_by items ≡ wanted → wanted ≡ [] → items ≡ []
+none_begun [] wanted are none = refl
+none_begun (first ∷ others) wanted are none =
+    let no : wanted_of first ∷ wanted_by others ≡ [] = are ∙ none in
+    cc
 
 -- the parts alone change twice
-pub but_parts_twice : (records : Records) (old now new : Content) → KeepsButParts records old now → KeepsButParts records now new → KeepsButParts records old new
-but_parts_twice records old now new first second = λ path trace timeline report races core digest. second path trace timeline report races core digest ∙ first path trace timeline report races core digest
+pub but_parts_twice : (texts wanted : List Wanted) (old now new : Content) → texts ≡ wanted → KeepsBut [] (destinations wanted) old now
+    → KeepsBut [] (destinations texts) now new → KeepsBut [] (destinations wanted) old new
+but_parts_twice texts wanted old now new same first second =
+    let others = subst (λ (all : List Wanted). KeepsBut [] (destinations all) now new) same second in
+    λ path files parts. others path files parts ∙ first path files parts
 
 -- the output of a text couldn't be begun, and nothing was put out
-pub concludes_unbegun : (tells : Type 0) (records : Records) (symbols : SymbolLists) (setup : Setup) (files now : Content) (out : Option (List ℕ)) (failures : ℕ) (failure : Failure)
-    (answer : Result RunOutcome Failure) → KeepsButParts records files now → IsUnbegun records failure → IsErrAnd answer (λ given. given ≡ failure)
-    → Concludes tells records symbols (record { files = files; output = out; failures = failures }) (record { files = now; output = out; failures = failures }) setup answer
-concludes_unbegun tells records symbols setup files now out failures failure answer kept unwritten given =
+pub concludes_unbegun : (tells : Type 0) (wanted : List Wanted) (symbols : SymbolLists) (setup : Setup) (files now : Content) (out : Option (List ℕ)) (failures : ℕ)
+    (failure : Failure) (answer : Result RunOutcome Failure) → KeepsBut [] (destinations wanted) files now → IsUnbegun wanted failure
+    → IsErrAnd answer (λ given. given ≡ failure)
+    → Concludes tells wanted symbols (record { files = files; output = out; failures = failures }) (record { files = now; output = out; failures = failures }) setup answer
+concludes_unbegun tells wanted symbols setup files now out failures failure answer kept unbegun given =
     handed_on
     (λ (given : Result RunOutcome Failure).
-    Concludes tells records symbols (record { files = files; output = out; failures = failures }) (record { files = now; output = out; failures = failures }) setup given)
+    Concludes tells wanted symbols (record { files = files; output = out; failures = failures }) (record { files = now; output = out; failures = failures }) setup given)
     failure answer
-    (inl (inl (unwritten, refl), kept)) given
+    (inl (inl (unbegun, refl), kept)) given
 
 -- what another recorder has recorded of a run that has an end
 pub if_ended : {R Q : Type 0} (records : Recording R) (others : Recording Q) (setup : Setup) (result : Result RunEnd Interruption) (recorder : R) (other : Q)
@@ -201,48 +275,41 @@ pub if_ended : {R Q : Type 0} (records : Recording R) (others : Recording Q) (se
 if_ended records others setup (Ok end) recorder other tells ends = ends_as records others setup end recorder other tells ends
 if_ended records others setup (Err interruption) recorder other tells ends = tt
 
--- what follows from what was recorded of it
-pub if_recorded : {R : Type 0} (records : Recording R) (setup : Setup) (result : Result RunEnd Interruption) (recorder : R) (Is : Type 0)
-    → ((turns : List Turn) (changes : List Change) → records recorder turns changes → Is) → EndsOrRecords records setup result recorder → IfOk result (λ end. Is)
-if_recorded records setup (Ok end) recorder Is follows ends = follows (turns_of ends.some.0) (changes_of ends.some.0) ends.some.2.recorded
-if_recorded records setup (Err interruption) recorder Is follows ends = tt
+unlike : false ≡ true → ⊥
+unlike same = cc
 
--- a write of a recorder failed, and one that writes is there
-pub writes_by : {O : Type 0} (recorders : TextRecorders O) (trace timeline sharing digest : Bool) (A B : Type 0)
-    → is_some recorders.trace ≡ trace → is_some recorders.timeline ≡ timeline
-    → ((trace ≡ true) × A) ⊎ (((timeline ≡ true) × B) ⊎ (((sharing ≡ true) × ⊥) ⊎ ((digest ≡ true) × ⊥))) → Writes recorders
-writes_by recorders trace timeline sharing digest A B first second (inl wanted) = inl (first ∙ wanted.0)
-writes_by recorders trace timeline sharing digest A B first second (inr (inl wanted)) = inr (second ∙ wanted.0)
-writes_by recorders trace timeline sharing digest A B first second (inr (inr (inl wanted))) = absurd wanted.1
-writes_by recorders trace timeline sharing digest A B first second (inr (inr (inr wanted))) = absurd wanted.1
+-- if one of the texts is written as the turns are done, there is one that couldn't be written
+writing_some : {O : Type 0} (items : List (Item O)) → HasWriting (wanted_by items) → is_some (writing_in items) ≡ true
+writing_some [] has = absurd (none_in has.0 has.1)
+writing_some (first ∷ others) has = go (writes_meanwhile (kind_of first.recording)) refl (writing_some others)
+  where
+    go : (is : Bool) → writes_meanwhile (kind_of first.recording) ≡ is → (HasWriting (wanted_by others) → is_some (writing_in others) ≡ true) → is_some (if is then Some first.destination else writing_in others) ≡ true
+    go true is rest = refl
+    go false is rest =
+        ⊎_elim (λ same. absurd (unlike (sym is ∙ (ap (λ (one : Wanted). writes_meanwhile one.text) same ∙ has.2))))
+        (λ later. rest (has.0, later, has.2)) (first_or_later (wanted_of first) (wanted_by others) has.0 has.1)
 
--- the same recorders are there for the same texts
-pub still_for : {O : Type 0} (records : Records) (recorders others : TextRecorders O) → AreFor records recorders → AreSame recorders others → AreFor records others
-still_for records recorders others are same = record { trace = same.trace ∙ are.trace; timeline = same.timeline ∙ are.timeline; report = same.sharing ∙ are.report; digest = same.digest ∙ are.digest }
+pub unwritten_some : {O : Type 0} (items : List (Item O)) → HasWriting (wanted_by items) → is_some (unwritten items) ≡ true
+unwritten_some items has = go (failed_in items)
+  where
+    go : (failed : Option Destination) → is_some (either failed (writing_in items)) ≡ true
+    go None = writing_some items has
+    go (Some destination) = refl
 
 -- a run that was begun answers what it concludes with
 pub runs_to : (tells : Type 0) (request : RunRequest) (before after : Host) (opened : Opened) (answer : Result RunOutcome Failure)
     → (are : AreRun (before.files request.path) request.input (AreOpenedFrom request.config opened))
-    → Concludes tells request.records (symbols_of are.0) before after (point_of opened.start).setup answer → RunsInto tells request before after answer
+    → Concludes tells request.wanted (symbols_of are.0) before after (point_of opened.start).setup answer → RunsInto tells request before after answer
 runs_to tells request before after opened answer are concluded =
-    inl (begun (before.files request.path) request.input request.config opened (λ symbols setup. Concludes tells request.records symbols before after setup answer) are concluded)
-
-none_wanted : IsSome {T = Destination} None → ⊥
-none_wanted is = cc
-
-unlike : false ≡ true → ⊥
-unlike same = cc
+    inl (begun (before.files request.path) request.input request.config opened (λ symbols setup. Concludes tells request.wanted symbols before after setup answer) are concluded)
 
 -- the text that was made is that of the wanted races
-pub wanted_races : (records : Records) (symbols : SymbolLists) (own : Option SymbolLists) (setup : Setup) (races : List Race) (text : List ℕ) → is_some own ≡ is_some records.races
-    → IfSome own (λ own. own ≡ symbols) → AreFound (is_some records.races) setup races → IfSome own (λ own. text ≡ text_of own races) → AreWantedRaces records symbols setup text
-wanted_races records symbols own setup races text = by_both records.races own
-  where
-    by_both : (to : Option Destination) (own : Option SymbolLists) → is_some own ≡ is_some to → IfSome own (λ own. own ≡ symbols) → AreFound (is_some to) setup races
-        → IfSome own (λ own. text ≡ text_of own races) → IsSome to → IsRaceText symbols setup text
-    by_both None own same names are is wanted = absurd (none_wanted wanted)
-    by_both (Some to) None same names are is wanted = absurd (unlike same)
-    by_both (Some to) (Some own) same names are is wanted = (races, are, is ∙ ap (λ (names : SymbolLists). text_of names races) names)
+pub wanted_races : (wanted : List Wanted) (symbols : SymbolLists) (own : Option SymbolLists) (setup : Setup) (races : List Race) (text : List ℕ)
+    → is_some own ≡ wants_races wanted → IfSome own (λ own. own ≡ symbols) → AreFound (is_some own) setup races
+    → IfSome own (λ own. text ≡ text_of own races) → AreWantedRaces wanted symbols setup text
+wanted_races wanted symbols None setup races text same names are is wants = absurd (unlike (same ∙ wants))
+wanted_races wanted symbols (Some own) setup races text same names are is wants =
+    (races, are, is ∙ ap (λ (names : SymbolLists). text_of names races) names)
 
 -- no run of the file began
 pub runs_unbegun : (tells : Type 0) (request : RunRequest) (before after : Host) (failure : Failure) (answer : Result RunOutcome Failure)
@@ -258,8 +325,8 @@ runs_unbegun tells request before after failure answer unrun files output given 
 })
 
 -- a run that came to its end, and for whose races memory was refused: all of its output was put out
-pub concludes_refused : {R : Type 0} (told : Recording R) (tells : Type 0) (records : Records) (symbols : SymbolLists) (setup : Setup) (end : RunEnd) (recorders : R)
+pub concludes_refused : {R : Type 0} (told : Recording R) (tells : Type 0) (wanted : List Wanted) (symbols : SymbolLists) (setup : Setup) (end : RunEnd) (recorders : R)
     (before after : Host) (failure : Failure) → Ends told setup end recorders → failure ≡ OutOfMemory → Appends before.output after.output end.output.items
-    → KeepsButParts records before.files after.files → Concludes tells records symbols before after setup (Err failure)
-concludes_refused told tells records symbols setup end recorders before after failure ends refused sent kept =
+    → KeepsBut [] (destinations wanted) before.files after.files → Concludes tells wanted symbols before after setup (Err failure)
+concludes_refused told tells wanted symbols setup end recorders before after failure ends refused sent kept =
     inl (inr (inl refused, all_sent told setup end recorders before.output after.output ends sent), kept)

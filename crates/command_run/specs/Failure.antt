@@ -1,10 +1,9 @@
 -- What the faults of a run are to the user.
-use Rattle.std.specs.Prelude.{◌≡◌, Option, Some, None, MatchOption, is_some, true}
+use Rattle.std.specs.Prelude.{◌≡◌, Option, Some, None}
 use Rattle.runtime.specs.declared.interruption.Interruption.{Interruption}
 use Rattle.runtime.specs.declared.interruption.Interruption.TheVariants as stop
 use Rattle.runtime.specs.declared.refusal.Refusal.{Refusal}
 use Rattle.runtime.specs.declared.refusal.Refusal.TheVariants as refused
-use Rattle.command_outputs.specs.declared.text_recorders.TextRecorders.{TextRecorders}
 use Rattle.command_requests.specs.Destination.{target_of}
 use Rattle.command_requests.specs.declared.destination.Destination.{Destination}
 use Rattle.command_requests.specs.declared.failure.Failure.{Failure}
@@ -23,7 +22,3 @@ IsStoppedBy destination stop.OutOfMemory failure = failure ≡ OutOfMemory
 IsStoppedBy destination stop.WriteFailed failure = failure ≡ CannotWrite StandardOutput
 IsStoppedBy None stop.RecordFailed failure = ⊥
 IsStoppedBy (Some destination) stop.RecordFailed failure = failure ≡ CannotWrite (target_of destination)
-
--- the timeline's recorder is there, and has failed
-abbrev pub HasTimelineFailed : {O : Type 0} → TextRecorders O → Type 0
-HasTimelineFailed recorders = MatchOption recorders.timeline ⊥ (λ timeline. is_some timeline.failure ≡ true)

@@ -1,7 +1,8 @@
 -- What the program answers to a request and what it leaves, told by the files' content and the standard streams as far as these are
 -- known.
-use Rattle.std.specs.Prelude.{◌≡◌, ◌⊎◌, ◌+◌, ℕ, Option, Some, Result, Ok, Err, List, [], ◌++◌, IfSome, IsSome, is_some}
+use Rattle.std.specs.Prelude.{◌≡◌, ◌⊎◌, ◌+◌, ℕ, Bool, true, Option, Some, Result, Ok, Err, List, [], ◌++◌, Contains, IfSome, is_some}
 use Rattle.std.specs.Borrow.{Bor}
+use Rattle.std.specs.Global.{Vec}
 use Rattle.std.specs.Io.KnownBytes.{Appends}
 use Rattle.std.specs.Result.{IsErrAnd}
 use Rattle.elf32_reader.specs.Format.{file_limit}
@@ -14,19 +15,25 @@ use Rattle.runtime.specs.declared.config.Config.{Config}
 use Rattle.runtime.specs.declared.refusal.Refusal.{Refusal}
 use Rattle.runtime.specs.declared.write_sink.WriteSink.{WriteSink}
 use Rattle.run_limits.specs.Limits as limit
+use Rattle.token.specs.Change.{Change}
 use Rattle.token.specs.History.{History, changes_of, outcome, present, turns_of}
 use Rattle.token.specs.RunInTurn.{point_of}
 use Rattle.token.specs.Setup.{Setup}
 use Rattle.token.specs.declared.outcome.RunOutcome.{RunOutcome}
+use Rattle.token.specs.declared.turn.Turn.{Turn}
 use Rattle.token.specs.declared.run_in_turn.RunInTurn.{RunInTurn}
 use Rattle.command_requests.specs.Names.{AreTwins, Sameness, names_of}
 use Rattle.command_requests.specs.Reading.{AreRead, IsUnread}
-use Rattle.command_outputs.specs.Records.{AreFiled, AreTextsOf, AreUnwritten, CanPrintAll, IsUnbegun, IsUnwrittenTo, KeepsButParts, Left, Texts, placed, printed}
-use Rattle.command_requests.specs.declared.destination.Destination.{Destination}
+use Rattle.command_requests.specs.Destination.{KeepsBut}
+use Rattle.command_requests.specs.Texts.{wants_races}
+use Rattle.command_outputs.specs.Placing.{IsUnwrittenTo}
+use Rattle.command_outputs.specs.Recording.{AreTold, writes_meanwhile}
+use Rattle.command_outputs.specs.Texts.{AreCutShort, AreFiled, AreTextsOf, CanPrintAll, IsUnbegun, Left, Placed, destinations, printed}
+use Rattle.command_outputs.specs.declared.item.Item.{Item}
 use Rattle.command_requests.specs.declared.failure.Failure.{Failure}
 use Rattle.command_requests.specs.declared.failure.Failure.TheVariants.{OneFile, CannotWrite, OutOfMemory}
 use Rattle.command_requests.specs.declared.target.Target.TheVariants.{StandardOutput}
-use Rattle.command_requests.specs.declared.records.Records.{Records}
+use Rattle.command_requests.specs.declared.wanted.Wanted.{Wanted}
 use Rattle.command_run.specs.declared.opened.Opened.{Opened}
 use Rattle.command_run.specs.Failure.{failure_of_refusal}
 use Rattle.command_run.specs.Observing.{IsRaceText}
@@ -43,6 +50,10 @@ pub record Host : Type 0 where
 abbrev pub host_of : {F W : Type 0} → (F → Content) → (W → Option (List ℕ)) → F → WriteSink W → Host
 host_of content contents files stdout = record { files = content files; output = contents stdout.writer; failures = stdout.failures }
 
+-- each text of a run under way was told these turns and changes
+abbrev pub AreToldOf : {O : Type 0} → (O → Option (List ℕ)) → Vec (Item O) → List Turn → List Change → Type 0
+AreToldOf contents items turns changes = AreTold contents items.items turns changes
+
 -- a run that is asked for: of the file at a path on what there is to read of standard input, with its texts put where they are to be; the names
 -- of its files, and which of them are of one file, as far as the files tell
 pub record RunRequest : Type 0 where
@@ -51,12 +62,12 @@ pub record RunRequest : Type 0 where
   pub is_same : Sameness
   pub input : Option (List ℕ)
   pub config : Config
-  pub records : Records
+  pub wanted : List Wanted
 
 -- the run of a file that these arguments ask for
-abbrev pub run_of : Bor (List ℕ) → Sameness → Option (List ℕ) → Config → Records → RunRequest
-run_of file is_same input config records =
-    record { path = file.now; names = names_of file records; is_same = is_same; input = input; config = config; records = records }
+abbrev pub run_of : Bor (List ℕ) → Sameness → Option (List ℕ) → Config → List Wanted → RunRequest
+run_of file is_same input config wanted =
+    record { path = file.now; names = names_of file wanted; is_same = is_same; input = input; config = config; wanted = wanted }
 
 -- Why no run of a file's bytes and an input begins: it is refused. Memory can run out once the configuration and the input are in order.
 abbrev pub IsRefused : List ℕ → List ℕ → Config → Failure → Type 0
@@ -78,8 +89,8 @@ pub record AreOpenedFrom (config : Config) (opened : Opened) (elf input : List �
   pub symbols : IfSome opened.symbols (λ symbols. symbols ≡ symbols_of elf)
 
 -- A run was opened of which no turn is done, and the names that its races are told by are there exactly where they are wanted.
-pub record IsReady (races : Option Destination) (opened : Opened) : Type 0 where
-  pub wanted : is_some opened.symbols ≡ is_some races
+pub record IsReady (observes : Bool) (opened : Opened) : Type 0 where
+  pub wanted : is_some opened.symbols ≡ observes
   pub done : (point_of opened.start).done ≡ 0
   pub output : (point_of opened.start).state.output ≡ []
 
@@ -101,36 +112,40 @@ left_after setup history ends output races =
       races = races;
     }
 
--- how a history ends, its output, and the texts of its turns and changes
-pub record LeavesTexts (setup : Setup) (records : Records) (ends : RunOutcome) (output : List ℕ) (texts : Texts) (history : History) : Type 0 where
+-- how a history ends, its output, and the texts of its turns and changes, with this text of its races
+pub record LeavesTexts (setup : Setup) (wanted : List Wanted) (ends : RunOutcome) (output races : List ℕ) (texts : List Placed) (history : History) : Type 0 where
   pub ends_so : outcome setup history ≡ Some ends
   pub output_is : (present setup history).output ≡ output
-  pub texts_are : AreTextsOf records (left_after setup history ends output texts.races) texts
+  pub texts_are : AreTextsOf wanted (left_after setup history ends output races) texts
 
 -- There is a complete history that ends so, with this output and these texts, and so it is with every complete history.
-abbrev pub ComesTo : Setup → Records → RunOutcome → List ℕ → Texts → Type 0
-ComesTo setup records ends output texts = HasAnswer setup (LeavesTexts setup records ends output texts)
+abbrev pub ComesTo : Setup → List Wanted → RunOutcome → (output races : List ℕ) → List Placed → Type 0
+ComesTo setup wanted ends output races texts = HasAnswer setup (LeavesTexts setup wanted ends output races texts)
+
+-- a write of one of the texts that are written as the turns are done failed
+abbrev pub IsUnwrittenMeanwhile : List Wanted → Failure → Type 0
+IsUnwrittenMeanwhile wanted failure =
+    (one : Wanted) × Contains wanted one × (writes_meanwhile one.text ≡ true) × IsUnwrittenTo one.destination failure
 
 -- Why a run that began has no answer, and what standard output holds: memory was refused, or standard output failed once, or a write of
--- the trace or of the timeline to its destination. A prefix of the output of some legal history is put out.
-abbrev pub IsStopped : (trace timeline : Option Destination) → Setup → (before after : Host) → Failure → Type 0
-IsStopped trace timeline setup before after failure =
-    ((failure ≡ OutOfMemory) ⊎ (((failure ≡ CannotWrite StandardOutput) × (after.failures ≡ before.failures + 1))
-    ⊎ (IsUnwrittenTo trace failure ⊎ IsUnwrittenTo timeline failure)))
+-- a text to its destination as the turns were done. A prefix of the output of some legal history is put out.
+abbrev pub IsStopped : List Wanted → Setup → (before after : Host) → Failure → Type 0
+IsStopped wanted setup before after failure =
+    ((failure ≡ OutOfMemory) ⊎ (((failure ≡ CannotWrite StandardOutput) × (after.failures ≡ before.failures + 1)) ⊎ IsUnwrittenMeanwhile wanted failure))
     × SendsPrefix setup before.output after.output
 
 -- Why a run has no answer although nothing refuses it: the output of a text couldn't be begun, and nothing was put out; or the run
 -- was stopped.
-abbrev pub IsHalted : Records → (before after : Host) → Failure → Setup → Type 0
-IsHalted records before after failure setup =
-    (IsUnbegun records failure × (after.output ≡ before.output)) ⊎ IsStopped records.trace records.timeline setup before after failure
+abbrev pub IsHalted : List Wanted → (before after : Host) → Failure → Setup → Type 0
+IsHalted wanted before after failure setup =
+    (IsUnbegun wanted failure × (after.output ≡ before.output)) ⊎ IsStopped wanted setup before after failure
 
 -- the text is that of the run's races, if they are wanted
-abbrev pub AreWantedRaces : Records → SymbolLists → Setup → List ℕ → Type 0
-AreWantedRaces records symbols setup text = IsSome records.races → IsRaceText symbols setup text
+abbrev pub AreWantedRaces : List Wanted → SymbolLists → Setup → List ℕ → Type 0
+AreWantedRaces wanted symbols setup text = wants_races wanted ≡ true → IsRaceText symbols setup text
 
 -- There is a complete history, all of its output is put out, and then one of its texts didn't get to where it is to be.
-pub record IsLeftOut (tells : Type 0) (records : Records) (symbols : SymbolLists) (before after : Host) (failure : Failure) (setup : Setup) : Type 0 where
+pub record IsLeftOut (tells : Type 0) (wanted : List Wanted) (symbols : SymbolLists) (before after : Host) (failure : Failure) (setup : Setup) : Type 0 where
   pub history : History
   pub complete : IsComplete setup history
   pub ends : RunOutcome
@@ -138,19 +153,21 @@ pub record IsLeftOut (tells : Type 0) (records : Records) (symbols : SymbolLists
   pub between : Option (List ℕ)
   pub put_out : Appends before.output between (present setup history).output
   pub races : List ℕ
-  pub are_races : AreWantedRaces records symbols setup races
-  pub unwritten : AreUnwritten tells records (left_after setup history ends (present setup history).output races) before.files after.files between after.output failure
+  pub are_races : AreWantedRaces wanted symbols setup races
+  pub unwritten : AreCutShort tells wanted (left_after setup history ends (present setup history).output races) before.files after.files between after.output failure
 
--- What a run that nothing refuses answers: its outcome, with the output put out and each text where it is to be. Or it has no answer,
--- and the files are as they were but for the parts; or a text didn't get to where it is to be.
-abbrev pub Concludes : Type 0 → Records → SymbolLists → (before after : Host) → Setup → Result RunOutcome Failure → Type 0
-Concludes tells records symbols before after setup (Ok ends) =
-    (put : List ℕ) × (texts : Texts) × ComesTo setup records ends put texts
-    × AreWantedRaces records symbols setup texts.races
-    × AreFiled (placed records texts) after.files
-    × (CanPrintAll tells (placed records texts) → Appends before.output after.output (put ++ printed (placed records texts)))
-Concludes tells records symbols before after setup (Err failure) =
-    (IsHalted records before after failure setup × KeepsButParts records before.files after.files) ⊎ IsLeftOut tells records symbols before after failure setup
+-- What a run that nothing refuses answers: its outcome, with the output put out and each text where it is to be, and the other files as they
+-- were. Or it has no answer, and the files are as they were but for the parts; or a text didn't get to where it is to be.
+abbrev pub Concludes : Type 0 → List Wanted → SymbolLists → (before after : Host) → Setup → Result RunOutcome Failure → Type 0
+Concludes tells wanted symbols before after setup (Ok ends) =
+    (put : List ℕ) × (races : List ℕ) × (texts : List Placed) × ComesTo setup wanted ends put races texts
+    × AreWantedRaces wanted symbols setup races
+    × AreFiled texts [] after.files
+    × KeepsBut (destinations wanted) [] before.files after.files
+    × (CanPrintAll tells texts → Appends before.output after.output (put ++ printed texts))
+Concludes tells wanted symbols before after setup (Err failure) =
+    (IsHalted wanted before after failure setup × KeepsBut [] (destinations wanted) before.files after.files)
+    ⊎ IsLeftOut tells wanted symbols before after failure setup
 
 -- the file and the input were read, nothing refuses their run, and such are the file's symbols and what the run is given
 abbrev pub IsBegun : Option (List ℕ) → Option (List ℕ) → Config → (SymbolLists → Setup → Type 0) → Type 0
@@ -169,5 +186,5 @@ pub record IsNotBegun (request : RunRequest) (before after : Host) (answer : Res
 -- What a run answers: it concludes; or no run begins. The first type says that outputs tell what they hold.
 abbrev pub RunsInto : Type 0 → RunRequest → (before after : Host) → Result RunOutcome Failure → Type 0
 RunsInto tells request before after answer =
-    IsBegun (before.files request.path) request.input request.config (λ symbols setup. Concludes tells request.records symbols before after setup answer)
+    IsBegun (before.files request.path) request.input request.config (λ symbols setup. Concludes tells request.wanted symbols before after setup answer)
     ⊎ IsNotBegun request before after answer

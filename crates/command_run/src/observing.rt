@@ -8,7 +8,7 @@ ghost use Rattle.symbols.specs.Symbols.{symbols_of};
 ghost use Rattle.token.specs.RunInTurn.{point_of};
 ghost use Rattle.command_run.specs.Observing.{AreFound};
 
-use command_requests::{Destination, Failure};
+use command_requests::Failure;
 use observed_run::{ObservedRun, run_observed};
 use races::{Race, races_text};
 use runtime::{OpenGate, Recorder, Sink, Start, run_opened};
@@ -17,19 +17,19 @@ use std::sync::Wait;
 use std::thread::Threads;
 use symbols::Symbols;
 
-/// The symbols of a file, if the races have a destination.
+/// The symbols of a file, if its races are wanted.
 pub(crate) fn wanted_symbols(
     alloc: Global,
     elf: &[u8],
-    races: Option<Destination<'_>>,
+    observes: bool,
 ) -> Result<Option<Symbols>, AllocError>
-    ensures wanted { IfOk result (λ symbols. is_some symbols ≡ is_some races.entry) }
+    ensures wanted { IfOk result (λ symbols. is_some symbols ≡ observes) }
     ensures symbols { IfOk result (λ symbols. IfSome symbols (λ symbols. symbols ≡ symbols_of elf.now)) }
 {
-    match races {
-        Some(_) => Ok(Some(Symbols::read(alloc, elf)?)),
-        None => Ok(None),
+    if !observes {
+        return Ok(None);
     }
+    Ok(Some(Symbols::read(alloc, elf)?))
 }
 
 /// Does all turns of a run: if its races are wanted, by the calling host thread alone, which finds them; else by so many host

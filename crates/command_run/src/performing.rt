@@ -1,9 +1,9 @@
 //! Runs of files, with their texts put where they are to be.
-ghost use Rattle.std.specs.Prelude.{◌≡◌, ◌+◌, ◌-◌, ◌^◌, ◌<◌, IfSome, OnOk, false};
+ghost use Rattle.std.specs.Prelude.{◌≡◌, ◌+◌, ◌-◌, ◌^◌, ◌<◌, [], IfSome, OnOk, false};
 ghost use Rattle.output_files.specs.Content.{Tells};
 ghost use Rattle.output_files.specs.Taken.{TakesAtMost};
 ghost use Rattle.run_limits.specs.Limits as limit;
-ghost use Rattle.command_outputs.specs.Records.{KeepsButParts, NamesNone, StaysBut};
+ghost use Rattle.command_requests.specs.Texts.{wants_races};
 ghost use Rattle.symbols.specs.Symbol.{SymbolLists};
 ghost use Rattle.token.specs.RunInTurn.{point_of};
 ghost use Rattle.command_run.specs.Serves.{Concludes, IsReady, RunsInto, host_of, run_of};
@@ -11,8 +11,8 @@ ghost use Rattle.command_run.specs.Serves.{Concludes, IsReady, RunsInto, host_of
 use crate::observing::race_text;
 use crate::opened::Opened;
 use crate::running::{RunAttempt, open_file, run_start};
-use command_outputs::{Ended, MadeOutputs, Outputs, TextRecorders, abandon, begin, write_records};
-use command_requests::{Failure, Records, named_twice};
+use command_outputs::{Ended, abandon, begin, finish};
+use command_requests::{Failure, Wanted, named_twice, wants_races};
 use output_files::Files;
 use runtime::{Config, RunOutcome, WriteSink};
 use std::alloc::Global;
@@ -28,7 +28,7 @@ pub fn run_file<'a, H: Threads + Wait + Sync, F: Files, R: Read, W: Write>(
     alloc: Global,
     file: &'a str,
     config: &Config,
-    records: &Records<'a>,
+    wanted: &[Wanted<'a>],
     files: &mut F,
     stdin: &mut R,
     stdout: &mut WriteSink<W>,
@@ -36,16 +36,16 @@ pub fn run_file<'a, H: Threads + Wait + Sync, F: Files, R: Read, W: Write>(
     requires { stdout.old.failures < 2 ^ 64 - 1 }
     ensures input { TakesAtMost (limit.input + 1) (R.remaining stdin.old) (R.remaining stdin.new) }
     ensures answer { RunsInto (Tells F.Output.contents)
-        (run_of file.entry (F.is_same files.old) (R.remaining stdin.old) config.now records.now)
+        (run_of file.entry (F.is_same files.old) (R.remaining stdin.old) config.now wanted.now)
         (host_of F.content W.contents files.old stdout.old) (host_of F.content W.contents files.new stdout.new) result }
     ensures whole { OnOk result (stdout.new.is_lost ≡ false) }
-    ensures unnamed { NamesNone records.now → files.new ≡ files.old }
+    ensures unnamed { wanted.now ≡ [] → files.new ≡ files.old }
 {
-    if let Some((one, other)) = named_twice(alloc, file, records, files)? {
+    if let Some((one, other)) = named_twice(alloc, file, wanted, files)? {
         return Err(Failure::OneFile(one, other));
     }
-    let opened = open_file(alloc, file, config, records.races, files, stdin)?;
-    run_opened_file(rt, alloc, opened, config.workers, records, files, stdout)
+    let opened = open_file(alloc, file, config, wants_races(wanted), files, stdin)?;
+    run_opened_file(rt, alloc, opened, config.workers, wanted, files, stdout)
 }
 
 /// Does all turns of a run, and puts its output and its texts where they are to be.
@@ -54,78 +54,43 @@ fn run_opened_file<'a, H: Threads + Wait + Sync, F: Files, W: Write>(
     alloc: Global,
     opened: Opened,
     workers: u32,
-    records: &Records<'a>,
+    wanted: &[Wanted<'a>],
     files: &mut F,
     stdout: &mut WriteSink<W>,
 ) -> Result<RunOutcome, Failure<'a>>
-    requires ready { IsReady records.now.races opened }
+    requires ready { IsReady (wants_races wanted.now) opened }
     requires failures { stdout.old.failures < 2 ^ 64 - 1 }
     ensures answer { (symbols : SymbolLists) → IfSome opened.symbols (λ own. own ≡ symbols)
-        → Concludes (Tells F.Output.contents) records.now symbols
+        → Concludes (Tells F.Output.contents) wanted.now symbols
         (host_of F.content W.contents files.old stdout.old) (host_of F.content W.contents files.new stdout.new)
         (point_of opened.start).setup result }
     ensures whole { OnOk result (stdout.new.is_lost ≡ false) }
-    ensures unnamed { NamesNone records.now → files.new ≡ files.old }
+    ensures unnamed { wanted.now ≡ [] → files.new ≡ files.old }
 {
     one_history();
     let Opened { start, symbols } = opened;
-    let Outputs {
-        trace,
-        timeline,
-        made,
-    } = begin(alloc, records, files)?;
-    let recorders = TextRecorders::new(alloc, records, trace, timeline);
-    let RunAttempt { result, recorders } = run_start(
-        rt, alloc, start, workers, records, recorders, stdout,
+    let items = begin(alloc, wanted, files)?;
+    let observes = symbols.is_some();
+    let RunAttempt { result, items } = run_start(
+        rt, alloc, start, workers, observes, items, stdout,
     );
     match result {
         Ok((end, races)) => match race_text(alloc, symbols, races) {
             Ok(races) => {
-                let outcome = end.outcome;
-                let ended = Ended {
-                    outcome: end.outcome,
-                    output: end.output,
-                    races,
-                    memory: end.memory,
-                    threads: end.threads,
-                };
-                write_records(
-                    alloc,
-                    records,
-                    recorders,
-                    made,
-                    ended,
-                    files,
-                    &mut stdout.writer,
-                )?;
-                Ok(outcome)
+                let ended = Ended { end, races };
+                match finish(alloc, items, &ended, files, &mut stdout.writer) {
+                    Ok(()) => Ok(ended.end.outcome),
+                    Err(failure) => Err(failure),
+                }
             }
             Err(failure) => {
-                abandon_all(records, recorders, made, files);
+                abandon(items, files);
                 Err(failure)
             }
         },
         Err(failure) => {
-            abandon_all(records, recorders, made, files);
+            abandon(items, files);
             Err(failure)
         }
     }
-}
-
-/// Takes away what was begun for the texts of a run that has no answer.
-fn abandon_all<F: Files>(
-    records: &Records<'_>,
-    recorders: TextRecorders<F::Output>,
-    made: MadeOutputs<F::Output>,
-    files: &mut F,
-)
-    ensures { StaysBut F.content (KeepsButParts records.now) records.now files.old files.new }
-{
-    let (trace, timeline) = recorders.into_outputs();
-    let outputs = Outputs {
-        trace,
-        timeline,
-        made,
-    };
-    abandon(records, outputs, files);
 }

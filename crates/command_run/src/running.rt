@@ -1,5 +1,5 @@
 //! The command `run`: opens a file and its input, and runs them to their end.
-ghost use Rattle.std.specs.Prelude.{◌≡◌, ◌⊎◌, ◌+◌, [], IfErr, IfOk, OnErr, OnOk, is_some, true, false};
+ghost use Rattle.std.specs.Prelude.{◌≡◌, ◌+◌, [], IfErr, IfOk, OnErr, OnOk, false};
 ghost use Rattle.std.specs.Io.KnownBytes.{Appends};
 ghost use Rattle.output_files.specs.Content.{Content};
 ghost use Rattle.output_files.specs.Taken.{TakesAtMost};
@@ -8,51 +8,47 @@ ghost use Rattle.runtime.specs.Recorded.{Ends};
 ghost use Rattle.runtime.specs.Sending.{CountsFailures, SendsSoFar};
 ghost use Rattle.runtime.specs.declared.interruption.Interruption.TheVariants as stop;
 ghost use Rattle.token.specs.RunInTurn.{point_of};
-ghost use Rattle.command_outputs.specs.Recorders.{AreFor, AreSame, AreTold, Writes};
-ghost use Rattle.command_run.specs.Failure.{HasTimelineFailed};
+ghost use Rattle.command_outputs.specs.Recording.{HasWriting, wanted_by};
 ghost use Rattle.observed_run.specs.Runs.{MayBegin};
 ghost use Rattle.command_run.specs.Observing.{AreFound};
-ghost use Rattle.command_run.specs.Serves.{AreRun, AreOpenedFrom, IsOpenedFrom, IsReady, IsRefused, IsStopped, IsUnrun};
+ghost use Rattle.command_run.specs.Serves.{AreRun, AreOpenedFrom, AreToldOf, IsOpenedFrom, IsReady, IsRefused, IsStopped, IsUnrun};
 
 use crate::observing::{run_by, wanted_symbols};
 use crate::opened::Opened;
 use crate::run_failure::{failure_of_interruption, failure_of_refusal};
-use command_outputs::TextRecorders;
-use command_requests::{Destination, Failure, Records, Target};
+use command_outputs::{AreWanted, Item, Items, unwritten_destination};
+use command_requests::{Failure, Target};
 use elf32_reader::FILE_LIMIT;
 use observed_run::ObservedRun;
 use output_files::{Files, read_upto};
 use races::Race;
-use runtime::{
-    Both, Config, MAX_INPUT, OpenFault, RecordedRun, RunEnd, Start, WriteSink, open_run,
-};
+use runtime::{Config, MAX_INPUT, OpenFault, RecordedRun, RunEnd, Start, WriteSink, open_run};
 use std::alloc::Global;
 use std::io::{Read, Write};
 use std::marker::Brand;
 use std::sync::Wait;
 use std::thread::Threads;
-use token::{IsWanted, Wanted};
 
-/// A run that was attempted: how it ended, or why it didn't, and what recorded its texts.
-pub struct RunAttempt<'a, O> {
+/// A run that was attempted: how it ended, or why it didn't, and its texts.
+pub(crate) struct RunAttempt<'a, O> {
     /// How it ended, what it left, and its races: none if they weren't wanted.
-    pub result: Result<(RunEnd, Vec<Race>), Failure<'a>>,
-    /// The recorders, which were told of each turn.
-    pub recorders: TextRecorders<O>,
+    pub(crate) result: Result<(RunEnd, Vec<Race>), Failure<'a>>,
+    /// The texts, which were told of each turn.
+    pub(crate) items: Vec<Item<'a, O>>,
 }
 
-/// The run of the program of a file on the bytes of `stdin`, of which no turn is done, and the file's symbols if the races have a
-/// destination.
+/// The run of the program of a file on the bytes of `stdin`, of which no turn is done, and the file's symbols if its races are
+/// wanted.
 pub(crate) fn open_file<'a, F: Files, R: Read>(
     alloc: Global,
     file: &'a str,
     config: &Config,
-    races: Option<Destination<'a>>,
+    observes: bool,
     files: &F,
     stdin: &mut R,
 ) -> Result<Opened, Failure<'a>>
     ensures input { TakesAtMost (limit.input + 1) (R.remaining stdin.old) (R.remaining stdin.new) }
-    ensures ready { IfOk result (IsReady races.entry) }
+    ensures ready { IfOk result (IsReady observes) }
     ensures opened { IfOk result (λ opened. AreRun (F.content files.now file.now) (R.remaining stdin.old)
         (AreOpenedFrom config.now opened)) }
     ensures failed { IfErr result (IsUnrun file.now (F.content files.now file.now) (R.remaining stdin.old) config.now) }
@@ -65,23 +61,23 @@ pub(crate) fn open_file<'a, F: Files, R: Read>(
         Ok(input) => input,
         Err(fault) => return Err(Failure::of_read(Target::StandardInput, fault)),
     };
-    open_all(alloc, elf.as_slice(), input.as_slice(), config, races)
+    open_all(alloc, elf.as_slice(), input.as_slice(), config, observes)
 }
 
-/// The run of the program that the bytes of a file are, and the file's symbols if the races have a destination.
+/// The run of the program that the bytes of a file are, and the file's symbols if its races are wanted.
 fn open_all<'a>(
     alloc: Global,
     elf: &[u8],
     input: &[u8],
     config: &Config,
-    races: Option<Destination<'a>>,
+    observes: bool,
 ) -> Result<Opened, Failure<'a>>
-    ensures ready { IfOk result (IsReady races.entry) }
+    ensures ready { IfOk result (IsReady observes) }
     ensures opened { IfOk result (λ opened. AreOpenedFrom config.now opened elf.now input.now) }
     ensures failed { IfErr result (IsRefused elf.now input.now config.now) }
 {
     let start = open_bytes(alloc, elf, input, config)?;
-    let symbols = wanted_symbols(alloc, elf, races)?;
+    let symbols = wanted_symbols(alloc, elf, observes)?;
     Ok(Opened { start, symbols })
 }
 
@@ -104,34 +100,31 @@ pub fn open_bytes<'a>(
     }
 }
 
-/// Does all turns of a run, puts its output out, and tells the recorders of its texts each turn. If its races are wanted, they are
-/// found, and the calling host thread does it all; else so many host threads at most do. The trace and the timeline go to their
-/// destinations, if there are any. A lost flush counts as a failure of `stdout`.
-pub fn run_start<'a, H: Threads + Wait + Sync, O: Write, W: Write>(
+/// Does all turns of a run, puts its output out, and tells the texts each turn. If its races are wanted, they are found, and the calling
+/// host thread does it all; else so many host threads at most do. A lost flush counts as a failure of `stdout`.
+pub(crate) fn run_start<'a, H: Threads + Wait + Sync, O: Write, W: Write>(
     rt: &H,
     alloc: Global,
     start: Start,
     workers: u32,
-    records: &Records<'a>,
-    recorders: TextRecorders<O>,
+    observes: bool,
+    items: Vec<Item<'a, O>>,
     stdout: &mut WriteSink<W>,
 ) -> RunAttempt<'a, O>
-    requires may { MayBegin (AreTold O.contents) (λ sink. sink.failures) start stdout.old recorders }
-    requires wanted { AreFor records.now recorders }
-    ensures ended { IfOk result.result (λ ended. Ends (AreTold O.contents) (point_of start).setup ended.0 result.recorders) }
-    ensures races { IfOk result.result (λ ended. AreFound (is_some records.now.races) (point_of start).setup ended.1.items) }
-    ensures same { AreSame recorders result.recorders }
+    requires may { MayBegin (AreToldOf O.contents) (λ sink. sink.failures) start stdout.old items }
+    ensures ended { IfOk result.result (λ ended. Ends (AreToldOf O.contents) (point_of start).setup ended.0 result.items) }
+    ensures races { IfOk result.result (λ ended. AreFound observes (point_of start).setup ended.1.items) }
+    ensures same { wanted_by result.items.items ≡ wanted_by items.entry.items }
     ensures sent { IfOk result.result (λ ended.
         Appends (W.contents stdout.old.writer) (W.contents stdout.new.writer) ended.0.output.items) }
     ensures whole { OnOk result.result (stdout.new.is_lost ≡ false) }
     ensures stopped { IfErr result.result (λ failure. (files files' : Content)
-        → IsStopped records.now.trace records.now.timeline (point_of start).setup
+        → IsStopped (wanted_by items.entry.items) (point_of start).setup
         (record { files = files; output = W.contents stdout.old.writer; failures = stdout.old.failures })
         (record { files = files'; output = W.contents stdout.new.writer; failures = stdout.new.failures }) failure) }
 {
-    let observes = records.races.is_some();
-    let ObservedRun { run, races } = run_wanted::<Brand, Brand, Brand, Brand, _, _, _>(
-        rt, alloc, start, workers, observes, recorders, stdout,
+    let ObservedRun { run, races } = run_wanted::<Brand, _, _, _>(
+        rt, alloc, start, workers, observes, items, stdout,
     );
     let RecordedRun { result, recorder } = run;
     let result = match result {
@@ -143,98 +136,40 @@ pub fn run_start<'a, H: Threads + Wait + Sync, O: Write, W: Write>(
             }
         },
         Err(interruption) => {
-            let unwritten = unwritten_destination(records, &recorder);
-            Err(failure_of_interruption(interruption, unwritten))
+            let destination = unwritten_destination(recorder.as_slice());
+            Err(failure_of_interruption(interruption, destination))
         }
     };
     RunAttempt {
         result,
-        recorders: recorder,
+        items: recorder,
     }
 }
 
-/// The destination of the text whose recorder couldn't write, if one of them couldn't: the timeline's recorder says so.
-fn unwritten_destination<'a, O: Write>(
-    records: &Records<'a>,
-    recorders: &TextRecorders<O>,
-) -> Option<Destination<'a>>
-    requires { AreFor records.now recorders.now }
-    ensures timeline { HasTimelineFailed recorders.now → result ≡ records.now.timeline }
-    ensures trace { (HasTimelineFailed recorders.now → ⊥) → is_some records.now.trace ≡ true → result ≡ records.now.trace }
-    ensures among { (result ≡ records.now.trace) ⊎ (result ≡ records.now.timeline) }
-    ensures some { Writes recorders.now → is_some result ≡ true }
-{
-    match (&recorders.timeline, records.trace) {
-        (Some(timeline), _) if timeline.failure().is_some() => records.timeline,
-        (_, None) => records.timeline,
-        (_, trace) => trace,
-    }
-}
-
-/// Does all turns of a run, and tells the recorders each. At the end it is known that the same ones are there.
-fn run_wanted<
-    T: IsWanted,
-    L: IsWanted,
-    S: IsWanted,
-    D: IsWanted,
-    H: Threads + Wait + Sync,
-    O: Write,
-    W: Write,
->(
+/// Does all turns of a run, and tells the texts each. At the end it is known that they are the same texts.
+fn run_wanted<'a, B: AreWanted, H: Threads + Wait + Sync, O: Write, W: Write>(
     rt: &H,
     alloc: Global,
     start: Start,
     workers: u32,
     observes: bool,
-    recorders: TextRecorders<O>,
+    items: Vec<Item<'a, O>>,
     stdout: &mut WriteSink<W>,
-) -> ObservedRun<TextRecorders<O>>
-    requires may { MayBegin (AreTold O.contents) (λ sink. sink.failures) start stdout.old recorders }
-    requires trace { is_some recorders.trace ≡ T.is_wanted }
-    requires timeline { is_some recorders.timeline ≡ L.is_wanted }
-    requires sharing { is_some recorders.sharing ≡ S.is_wanted }
-    requires digest { is_some recorders.digest ≡ D.is_wanted }
-    ensures ended { IfOk result.run.result (λ end. Ends (AreTold O.contents) (point_of start).setup end result.run.recorder) }
+) -> ObservedRun<Vec<Item<'a, O>>>
+    requires may { MayBegin (AreToldOf O.contents) (λ sink. sink.failures) start stdout.old items }
+    requires wanted { wanted_by items.items ≡ B.wanted }
+    ensures ended { IfOk result.run.result (λ end. Ends (AreToldOf O.contents) (point_of start).setup end result.run.recorder) }
     ensures races { IfOk result.run.result (λ end. AreFound observes (point_of start).setup result.races.items) }
     ensures none { OnErr result.run.result (result.races.items ≡ []) }
-    ensures same { AreSame recorders result.run.recorder }
+    ensures same { wanted_by result.run.recorder.items ≡ B.wanted }
     ensures sent { SendsSoFar (point_of start).setup result.run.result (W.contents stdout.old.writer) (W.contents stdout.new.writer) }
     ensures failures { CountsFailures stop.WriteFailed result.run.result stdout.old.failures stdout.new.failures }
-    ensures writes { IfErr result.run.result (λ interruption. interruption ≡ stop.RecordFailed → Writes recorders) }
+    ensures writes { IfErr result.run.result (λ interruption. interruption ≡ stop.RecordFailed → HasWriting B.wanted) }
 {
-    let TextRecorders {
-        trace,
-        timeline,
-        sharing,
-        digest,
-    } = recorders;
-    let all = Both {
-        first: Wanted::<T, _>::new(trace),
-        second: Both {
-            first: Wanted::<L, _>::new(timeline),
-            second: Both {
-                first: Wanted::<S, _>::new(sharing),
-                second: Wanted::<D, _>::new(digest),
-            },
-        },
-    };
+    let all = Items::<'a, B, O>::new(items);
     let ObservedRun { run, races } = run_by(rt, alloc, start, workers, observes, stdout, all);
     let RecordedRun { result, recorder } = run;
-    let Both { first, second } = recorder;
-    let Both {
-        first: timeline,
-        second,
-    } = second;
-    let Both {
-        first: sharing,
-        second: digest,
-    } = second;
-    let recorder = TextRecorders {
-        trace: first.into_recorder(),
-        timeline: timeline.into_recorder(),
-        sharing: sharing.into_recorder(),
-        digest: digest.into_recorder(),
-    };
+    let recorder = recorder.into_items();
     ObservedRun {
         run: RecordedRun { result, recorder },
         races,

@@ -1,3 +1,4 @@
+pub mod Actions
 pub mod Digits
 pub mod Escapes
 pub mod Frames

@@ -1,6 +1,6 @@
 -- What the text of a packet asks for.
 use Rattle.std.specs.Prelude.{◌≡◌, ◌≢◌, ◌⊎◌, ℕ, List, [], ◌∷◌, ◌++◌, codes}
-use Rattle.gdb_packets.specs.Numbers.{IsNumber}
+use Rattle.gdb_packets.specs.Numbers.{AreNumbers, IsNumber}
 use Rattle.gdb_packets.specs.declared.action.Motion.{Motion}
 use Rattle.gdb_packets.specs.declared.action.Motion.TheVariants.{Continue, Step, Range}
 use Rattle.gdb_packets.specs.declared.request.PointKind.{PointKind}
@@ -11,13 +11,9 @@ use Rattle.gdb_packets.specs.declared.thread_id.ThreadId.{ThreadId}
 use Rattle.gdb_packets.specs.declared.thread_id.ThreadId.TheVariants.{Any, All, One}
 use Rattle.gdb_packets.specs.declared.window.Window.{Window}
 
--- A text START,LENGTH names this window.
-pub record IsWindow (text : List ℕ) (window : Window) : Type 0 where
-  pub start : List ℕ
-  pub length : List ℕ
-  pub parts : text ≡ start ++ 44 ∷ length
-  pub from : IsNumber start window.start
-  pub count : IsNumber length window.length
+-- a text START,LENGTH names this window
+abbrev pub IsWindow : List ℕ → Window → Type 0
+IsWindow text window = AreNumbers text window.start window.length
 
 -- A text names this thread: 0 any, -1 all.
 abbrev pub Names : List ℕ → ThreadId → Type 0
@@ -69,3 +65,25 @@ Asks text (request.SelectMoving id) = (rest : List ℕ) × (text ≡ 72 ∷ 99 �
 Asks text (request.SetPoint kind window) = (rest : List ℕ) × (text ≡ 90 ∷ digit_of_kind kind ∷ 44 ∷ rest) × IsWindow rest window
 Asks text (request.ClearPoint kind window) = (rest : List ℕ) × (text ≡ 122 ∷ digit_of_kind kind ∷ 44 ∷ rest) × IsWindow rest window
 Asks text _ = Unit {0}
+
+-- a command of the user's with these digits
+abbrev pub IsCommand : List ℕ → Request → Type 0
+IsCommand digits (request.Command given) = given.now ≡ digits
+IsCommand digits _ = ⊥
+
+-- A text without parts that asks for registers, or to change registers or memory, is taken for that.
+pub record IsReadShort (text : List ℕ) (asked : Request) : Type 0 where
+  pub registers : text ≡ codes "g" → asked ≡ request.Registers
+  pub change : (rest : List ℕ) → (text ≡ 71 ∷ rest) ⊎ (text ≡ 80 ∷ rest) → asked ≡ request.ChangeRegisters
+  pub store : (rest : List ℕ) → (text ≡ 77 ∷ rest) ⊎ (text ≡ 88 ∷ rest) → asked ≡ request.ChangeMemory
+
+-- One that asks for a register or for memory is taken for that.
+pub record IsReadLong (text : List ℕ) (asked : Request) : Type 0 where
+  pub register : (digits : List ℕ) (number : ℕ) → text ≡ 112 ∷ digits → IsNumber digits number → asked ≡ request.Register number
+  pub memory : (part : List ℕ) (window : Window) → text ≡ 109 ∷ part → IsWindow part window → asked ≡ request.Memory window
+
+-- A text that asks for registers, for memory, to change them, or for a command of the user's is taken for that.
+pub record IsRead (text : List ℕ) (asked : Request) : Type 0 where
+  pub short : IsReadShort text asked
+  pub long : IsReadLong text asked
+  pub command : (digits : List ℕ) → text ≡ codes "qRcmd," ++ digits → IsCommand digits asked

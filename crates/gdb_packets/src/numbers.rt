@@ -1,7 +1,7 @@
 //! Numbers of any length in a packet.
-ghost use Rattle.std.specs.Prelude.{◌≡◌, ◌+◌, ◌*◌, ◌^◌, ◌++◌, ◌∷◌, ◌<◌, IfSome, SomeIff};
+ghost use Rattle.std.specs.Prelude.{◌≡◌, ℕ, ◌+◌, ◌-◌, ◌*◌, ◌^◌, ◌<◌, min, MatchOption, SomeIff, option_map};
 ghost use Rattle.std.specs.Char.{digit_value};
-ghost use Rattle.gdb_packets.specs.Numbers.{IsNumber};
+ghost use Rattle.gdb_packets.specs.Numbers.{AreNumbers, IsNumber, parts_at};
 
 /// The value of a hexadecimal digit in either case, none if the byte is no digit.
 pub(crate) fn digit_of(byte: u8) -> Option<u8>
@@ -12,10 +12,10 @@ pub(crate) fn digit_of(byte: u8) -> Option<u8>
 }
 
 /// The number of these hexadecimal digits, of which there is at least one; none if they are no digits. A number that
-/// doesn't fit is some number.
+/// doesn't fit in 64 bits is the greatest one that does.
 #[tactic(auto, using(crate::proofs::Values::value_more))]
 pub fn number(digits: &[u8]) -> Option<u64>
-    ensures { IfSome result (IsNumber digits.now) }
+    ensures { MatchOption result ((number : ℕ) → ¬ IsNumber digits.now number) (IsNumber digits.now) }
 {
     if digits.is_empty() {
         return None;
@@ -28,17 +28,30 @@ pub fn number(digits: &[u8]) -> Option<u64>
     Some(value)
 }
 
-/// A number with one more digit, if it fits.
+/// A number with one more digit, or the greatest that fits.
 fn with_digit(value: u64, digit: u8) -> u64
-    ensures { 16 * value + digit < 2 ^ 64 → result ≡ 16 * value + digit }
+    ensures { result ≡ min (16 * value + digit) (2 ^ 64 - 1) }
 {
     value.saturating_mul(16).saturating_add(u64::from(digit))
 }
 
+/// The two numbers of a text with a `,` between.
+pub(crate) fn two_numbers(text: &[u8]) -> Option<(u64, u64)>
+    ensures { MatchOption result ((first second : ℕ) → ¬ AreNumbers text.now first second)
+        (λ numbers. AreNumbers text.now numbers.0 numbers.1) }
+{
+    let (first, second) = split_at_byte(text, b',')?;
+    Some((number(first)?, number(second)?))
+}
+
 /// The parts of a text before and after the first such byte, none if it has no such byte.
 pub fn split_at_byte(text: &[u8], byte: u8) -> Option<(&[u8], &[u8])>
-    ensures { IfSome result (λ parts. text.now ≡ parts.0.now ++ byte ∷ parts.1.now) }
+    ensures { option_map (λ parts. record { 0 = parts.0.now; 1 = parts.1.now }) result ≡ parts_at byte text.now }
 {
-    let place = text.iter().position(|other| *other == byte)?;
-    Some((&text[..place], &text[place + 1..]))
+    for (place, other) in text.iter().enumerate() {
+        if *other == byte {
+            return Some((&text[..place], &text[place + 1..]));
+        }
+    }
+    None
 }

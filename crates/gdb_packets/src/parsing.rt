@@ -1,6 +1,7 @@
 //! Reads the text of a packet.
-ghost use Rattle.std.specs.Prelude.{ℕ, List, IfSome};
-ghost use Rattle.gdb_packets.specs.Requests.{Asks};
+ghost use Rattle.std.specs.Prelude.{◌≡◌, ℕ, List, ◌∷◌, ◌++◌, IfSome, codes};
+ghost use Rattle.gdb_packets.specs.Numbers.{IsNumber};
+ghost use Rattle.gdb_packets.specs.Requests.{Asks, IsCommand, IsRead, IsReadShort, IsWindow};
 
 use crate::action::Motion;
 use crate::numbers::{number, split_at_byte};
@@ -10,7 +11,8 @@ use crate::window::Window;
 
 /// What the packet of this text asks for.
 pub fn parse(text: &[u8]) -> Request<'_>
-    ensures { Asks text.now result }
+    ensures asks { Asks text.now result }
+    ensures read { IsRead text.now result }
 {
     match text {
         [b'q', ..] => query_of(text),
@@ -24,7 +26,8 @@ pub fn parse(text: &[u8]) -> Request<'_>
 
 /// What a packet without parts asks for, or one whose parts aren't looked at.
 fn short_of(text: &[u8]) -> Request<'_>
-    ensures { Asks text.now result }
+    ensures asks { Asks text.now result }
+    ensures read { IsReadShort text.now result }
 {
     match text {
         b"?" => Request::WhyStopped,
@@ -43,7 +46,11 @@ fn short_of(text: &[u8]) -> Request<'_>
 
 /// What a packet asks for of threads, registers and memory.
 fn state_of(text: &[u8]) -> Option<Request<'_>>
-    ensures { IfSome result (Asks text.now) }
+    ensures asks { IfSome result (Asks text.now) }
+    ensures register { (digits : List ℕ) (number : ℕ) → text.now ≡ 112 ∷ digits → IsNumber digits number
+        → result ≡ Some (Request.Register number) }
+    ensures memory { (part : List ℕ) (window : Window) → text.now ≡ 109 ∷ part → IsWindow part window
+        → result ≡ Some (Request.Memory window) }
 {
     match text {
         [b'H', b'g', thread @ ..] => Some(Request::SelectGeneral(ThreadId::of_text(thread)?)),
@@ -99,7 +106,8 @@ fn point_of(text: &[u8]) -> Option<Request<'_>>
 
 /// What a packet asks for that begins with `q`.
 fn query_of(text: &[u8]) -> Request<'_>
-    ensures { Asks text.now result }
+    ensures asks { Asks text.now result }
+    ensures command { (digits : List ℕ) → text.now ≡ codes "qRcmd," ++ digits → IsCommand digits result }
 {
     match text {
         b"qC" => Request::CurrentThread,

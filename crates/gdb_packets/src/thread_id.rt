@@ -13,12 +13,12 @@ pub enum ThreadId {
 }
 
 impl ThreadId {
-    ghost use Rattle.std.specs.Prelude.{IfSome};
+    ghost use Rattle.std.specs.Prelude.{MatchOption};
     ghost use Rattle.gdb_packets.specs.Requests.{Names};
 
     /// The thread that a text names, none if it is no such text.
     pub fn of_text(text: &[u8]) -> Option<ThreadId>
-        ensures { IfSome result (Names text.now) }
+        ensures { MatchOption result ((id : ThreadId) → ¬ Names text.now id) (Names text.now) }
     {
         match text {
             b"-1" => Some(ThreadId::All),

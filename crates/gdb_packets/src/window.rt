@@ -1,5 +1,5 @@
 //! A part of a text or of the memory.
-use crate::numbers::{number, split_at_byte};
+use crate::numbers::two_numbers;
 
 /// A part of a text or of the memory: its first place and how long it is at most.
 #[derive(Clone, Copy, Debug, PartialEq, Eq)]
@@ -11,17 +11,14 @@ pub struct Window {
 }
 
 impl Window {
-    ghost use Rattle.std.specs.Prelude.{IfSome};
+    ghost use Rattle.std.specs.Prelude.{MatchOption};
     ghost use Rattle.gdb_packets.specs.Requests.{IsWindow};
 
     /// The window of a text `START,LENGTH`.
     pub fn of_text(text: &[u8]) -> Option<Window>
-        ensures { IfSome result (IsWindow text.now) }
+        ensures { MatchOption result ((window : Window) → ¬ IsWindow text.now window) (IsWindow text.now) }
     {
-        let (start, length) = split_at_byte(text, b',')?;
-        Some(Window {
-            start: number(start)?,
-            length: number(length)?,
-        })
+        let (start, length) = two_numbers(text)?;
+        Some(Window { start, length })
     }
 }

@@ -1,2 +1,4 @@
 pub mod Answers
+pub mod Hearing
+pub mod Moves
 pub mod Replies

@@ -1,18 +1,13 @@
 -- How requests of a program that is there are answered: for its registers and memory, and to change them.
 use Rattle.std.specs.Prelude.{ℕ, Option, Some, None, List, codes}
-use Rattle.timeline.specs.Moment.{Moment}
-use Rattle.timeline.specs.Present.{moment_of}
 use Rattle.gdb_packets.specs.declared.request.Request.{Request}
 use Rattle.gdb_packets.specs.declared.request.Request.TheVariants as request
 use Rattle.gdb_monitor.specs.Searching.{Stays}
 use Rattle.gdb_shown.specs.Memory.{memory_shown}
 use Rattle.gdb_shown.specs.Registers.{one_register_shown, registers_shown}
 use Rattle.gdb_protocol.specs.Answers.{Answers}
+use Rattle.gdb_protocol.specs.Moves.{moment_in}
 use Rattle.gdb_protocol.specs.declared.session.Session.{Session}
-
--- where the run stands
-abbrev pub moment_in : Session → Moment
-moment_in session = moment_of session.timeline.present
 
 -- a text, or the error that stands for none
 abbrev pub text_or_error : Option (List ℕ) → List ℕ

@@ -9,8 +9,12 @@ use timeline::{Halt, Stops};
 pub(crate) const SLICE: u64 = 0x10_0000;
 
 impl Session {
+    ghost use Rattle.std.specs.Prelude.{◌≡◌, None};
+
     /// Goes on with the run for a while, if it goes on. It comes to a stop and answers, or goes on at the next call.
-    pub fn advance(&mut self) -> Result<(), AllocError> {
+    pub fn advance(&mut self) -> Result<(), AllocError>
+        ensures { self.old.pursuit ≡ None → self.new ≡ self.old }
+    {
         match self.pursuit {
             None => Ok(()),
             Some(Pursuit::Chosen(step)) => self.pursue_chosen(step),

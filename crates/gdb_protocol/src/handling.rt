@@ -17,7 +17,8 @@ impl Session {
     ghost use Rattle.gdb_shown.specs.Memory.{memory_shown};
     ghost use Rattle.gdb_shown.specs.Registers.{one_register_shown, registers_shown};
     ghost use Rattle.gdb_protocol.specs.Answers.{Answers};
-    ghost use Rattle.gdb_protocol.specs.Replies.{Replies, moment_in, text_or_error};
+    ghost use Rattle.gdb_protocol.specs.Moves.{moment_in};
+    ghost use Rattle.gdb_protocol.specs.Replies.{Replies, text_or_error};
 
     /// Answers what a packet asks for, or begins to go there.
     pub(crate) fn handle(&mut self, request: Request<'_>) -> Result<(), AllocError>

@@ -39,8 +39,16 @@ pub struct Session {
 }
 
 impl Session {
+    ghost use Rattle.std.specs.Prelude.{◌≡◌, ◌≢◌, ◌≤◌, ◌↔◌, [], IsSome, IsTrue, IfOk, OnOk};
+    ghost use Rattle.gdb_packets.specs.Escapes as escapes;
+    ghost use Rattle.gdb_packets.specs.Frames.{Completes, bytes_begun, heard_outside};
+    ghost use Rattle.gdb_packets.specs.Wire.{sent_of};
+    ghost use Rattle.gdb_protocol.specs.Hearing.{Handles, IsFresh, Reacts};
+
     /// A session over a run that stands at its first position for gdb.
-    pub fn new(alloc: Global, timeline: Timeline) -> Result<Self, AllocError> {
+    pub fn new(alloc: Global, timeline: Timeline) -> Result<Self, AllocError>
+        ensures { IfOk result (IsFresh timeline) }
+    {
         let selection = Selection::new(alloc, timeline.thread_count(), timeline.thread());
         let mut session = Session {
             alloc,
@@ -66,7 +74,9 @@ impl Session {
     }
 
     /// Begins at the start of a turn for gdb, or at the last position if the run has no such turn.
-    pub fn begin_at(&mut self, turn: u64) -> Result<(), AllocError> {
+    pub fn begin_at(&mut self, turn: u64) -> Result<(), AllocError>
+        ensures { turn ≤ 1 → self.new ≡ self.old }
+    {
         if turn <= 1 {
             return Ok(());
         }
@@ -76,7 +86,12 @@ impl Session {
     }
 
     /// Takes the next byte of gdb. While the run goes on, only the byte 03 is to be given.
-    pub fn hear(&mut self, byte: u8) -> Result<(), AllocError> {
+    pub fn hear(&mut self, byte: u8) -> Result<(), AllocError>
+        ensures packet { Completes self.old.deframer.body.items self.old.deframer.part byte → self.old.life ≡ Life.Alive
+            → OnOk result (Handles self.old self.new (escapes.unescaped self.old.deframer.body.items)) }
+        ensures outside { bytes_begun self.old.deframer.body.items self.old.deframer.part ≡ []
+            → OnOk result (Reacts self.old self.new (heard_outside byte)) }
+    {
         match self.deframer.hear(byte) {
             Heard::Nothing | Heard::Acknowledged => Ok(()),
             Heard::Refused => self.wire.repeat(),
@@ -95,22 +110,32 @@ impl Session {
     }
 
     /// Whether the run goes on until [`Session::advance`] has come to a stop.
-    pub fn is_running(&self) -> bool {
+    pub fn is_running(&self) -> bool
+        ensures { IsTrue result ↔ IsSome self.now.pursuit }
+    {
         self.pursuit.is_some()
     }
 
     /// Whether the session is over.
-    pub fn is_over(&self) -> bool {
+    pub fn is_over(&self) -> bool
+        ensures { IsTrue result ↔ (self.now.life ≡ Life.Over) }
+    {
         self.life == Life::Over
     }
 
     /// Whether a frame has begun, so that the byte 03 is a part of it.
-    pub fn is_in_frame(&self) -> bool {
+    pub fn is_in_frame(&self) -> bool
+        ensures { IsTrue result ↔ (bytes_begun self.now.deframer.body.items self.now.deframer.part ≢ []) }
+    {
         self.deframer.is_in_frame()
     }
 
     /// The bytes for gdb that weren't taken yet, which are taken by this.
-    pub fn take_output(&mut self) -> Vec<u8> {
+    pub fn take_output(&mut self) -> Vec<u8>
+        ensures taken { result.items ≡ sent_of self.old.wire }
+        ensures none { sent_of self.new.wire ≡ [] }
+        ensures rest { self.new ≡ record self.old { wire = self.new.wire } }
+    {
         self.wire.take()
     }
 

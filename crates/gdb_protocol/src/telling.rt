@@ -8,8 +8,15 @@ use std::alloc::AllocError;
 use token::RunOutcome;
 
 impl Session {
+    ghost use Rattle.std.specs.Prelude.{◌≡◌, [], None, OnOk};
+    ghost use Rattle.gdb_shown.specs.Stops.{stop_shown};
+    ghost use Rattle.gdb_protocol.specs.Moves.{Stands, moment_in, thread_in};
+
     /// Keeps the text of the first stop, which gdb asks for.
-    pub(crate) fn begin(&mut self) -> Result<(), AllocError> {
+    pub(crate) fn begin(&mut self) -> Result<(), AllocError>
+        ensures stop { OnOk result (self.new.stop.items ≡ stop_shown (moment_in self.old) 5 [] (thread_in self.old)) }
+        ensures rest { self.new ≡ record self.old { stop = self.new.stop; selection = self.new.selection; printed = self.new.printed } }
+    {
         let thread = self.timeline.thread();
         self.stop = stop_text(self.alloc, &self.timeline, TRAP, "", thread)?;
         self.selection.hear_of(self.timeline.thread_count());
@@ -19,7 +26,10 @@ impl Session {
     }
 
     /// Stops with a signal, for a reason that may be empty, at a thread.
-    pub(crate) fn tell(&mut self, signal: u8, reason: &str, thread: u32) -> Result<(), AllocError> {
+    pub(crate) fn tell(&mut self, signal: u8, reason: &str, thread: u32) -> Result<(), AllocError>
+        ensures stands { Stands self.old self.new }
+        ensures stopped { self.new.pursuit ≡ None }
+    {
         self.pursuit = None;
         self.send_output()?;
         self.stop = stop_text(self.alloc, &self.timeline, signal, reason, thread)?;
@@ -28,12 +38,17 @@ impl Session {
     }
 
     /// Answers with the last stop.
-    pub(crate) fn send_stop(&mut self) -> Result<(), AllocError> {
+    pub(crate) fn send_stop(&mut self) -> Result<(), AllocError>
+        ensures { self.new ≡ record self.old { wire = self.new.wire } }
+    {
         self.wire.answer(self.stop.as_slice())
     }
 
     /// Stops at the thread of the position.
-    pub(crate) fn tell_here(&mut self, signal: u8, reason: &str) -> Result<(), AllocError> {
+    pub(crate) fn tell_here(&mut self, signal: u8, reason: &str) -> Result<(), AllocError>
+        ensures stands { Stands self.old self.new }
+        ensures stopped { self.new.pursuit ≡ None }
+    {
         let thread = self.timeline.thread();
         self.tell(signal, reason, thread)
     }
@@ -62,7 +77,11 @@ impl Session {
     }
 
     /// Stops where the user interrupted the run, if it goes on.
-    pub(crate) fn interrupt(&mut self) -> Result<(), AllocError> {
+    pub(crate) fn interrupt(&mut self) -> Result<(), AllocError>
+        ensures idle { self.old.pursuit ≡ None → self.new ≡ self.old }
+        ensures stands { Stands self.old self.new }
+        ensures stopped { self.new.pursuit ≡ None }
+    {
         if self.pursuit.is_none() {
             return Ok(());
         }
@@ -115,7 +134,9 @@ impl Session {
     }
 
     /// Sends what the guest wrote since the last time.
-    pub(crate) fn send_output(&mut self) -> Result<(), AllocError> {
+    pub(crate) fn send_output(&mut self) -> Result<(), AllocError>
+        ensures { self.new ≡ record self.old { wire = self.new.wire; printed = self.new.printed } }
+    {
         let output = self.timeline.serial().output();
         if self.printed < output.len() {
             self.wire.print(&output[self.printed..])?;

@@ -1,4 +1,7 @@
 //! The signals by which gdb shows stops.
+ghost use Rattle.std.specs.Prelude.{◌≡◌};
+ghost use Rattle.gdb_shown.specs.Signals.{signal_shown};
+
 use hart::Cause;
 
 /// The number of SIGTRAP: the usual stop.
@@ -11,7 +14,9 @@ pub const WINDOW: u8 = 0x1c;
 pub const NONE: u8 = 0x00;
 
 /// The signal that a trap of this cause is shown as.
-pub fn signal_of(cause: Cause) -> u8 {
+pub fn signal_of(cause: Cause) -> u8
+    ensures { result ≡ signal_shown cause }
+{
     match cause {
         Cause::TargetMisaligned | Cause::LoadMisaligned | Cause::StoreMisaligned => 0x0a,
         Cause::FetchDenied | Cause::LoadDenied | Cause::StoreDenied => 0x0b,

@@ -1,6 +1,12 @@
 //! The list of threads, and what each does in words.
+ghost use Rattle.std.specs.Prelude.{◌≡◌, ◌==◌, ◌++◌, IfOk, OnOk, drop, find};
+ghost use Rattle.std.specs.String.{string_bytes};
+ghost use Rattle.timeline.specs.Present.{moment_of};
+ghost use Rattle.timeline.specs.Shown.{row_at, sees_at};
+ghost use Rattle.gdb_shown.specs.Threads.{entry_shown, id_shown, ids_shown, join_words, joined_by, joined_in, name_shown, next_id, part_shown, place_words, ready_words, thread_words, threads_shown, waiting_words};
+
 use abi::Call;
-use condvar_barrier::Place;
+use condvar_barrier::{Place, Waiter};
 use ecalls::call_of;
 use gdb_packets::Window;
 use std::alloc::{AllocError, Global};
@@ -11,46 +17,100 @@ use timeline::{Sees, Timeline};
 const PART_LIMIT: u64 = 0x1000;
 
 /// A part of a text, after a letter that says whether more follows.
-pub fn part_of(alloc: Global, text: &[u8], window: Window) -> Result<Vec<u8>, AllocError> {
-    let length = text.len() as u64;
-    let start = window.start.min(length);
-    let end = start
-        .saturating_add(window.length.min(PART_LIMIT))
-        .min(length);
+pub fn part_of(alloc: Global, text: &[u8], window: Window) -> Result<Vec<u8>, AllocError>
+    ensures { IfOk result (λ part. part.items ≡ part_shown text.now window) }
+{
+    let rest = behind(text, window.start);
+    let length = window.length.min(PART_LIMIT).min(rest.len() as u64) as usize;
     let mut part = Vec::new(alloc);
-    part.push(if end < length { b'm' } else { b'l' })?;
-    part.extend_from_slice(&text[start as usize..end as usize])?;
+    part.push(if length < rest.len() { b'm' } else { b'l' })?;
+    part.extend_from_slice(&rest[..length])?;
     Ok(part)
 }
 
+/// What stands in a text from a place on.
+fn behind(text: &[u8], start: u64) -> &[u8]
+    ensures { result.now ≡ drop start text.now }
+{
+    let start = start.min(text.len() as u64) as usize;
+    &text[start..]
+}
+
 /// The list of so many threads in XML, with what each does.
-pub fn threads_text(alloc: Global, timeline: &Timeline, listed: u32) -> Result<String, AllocError> {
+#[tactic(auto, unfolding(crate::specs::Threads::first_entries))]
+pub fn threads_text(alloc: Global, timeline: &Timeline, listed: u32) -> Result<String, AllocError>
+    ensures { IfOk result (λ text. string_bytes text ≡ threads_shown (moment_of timeline.now.present) listed) }
+{
     let mut text = String::from_str(alloc, "<threads>")?;
     for thread in 0..listed {
-        let id = u64::from(thread) + 1;
-        write!(text, "<thread id=\"{id:x}\" name=\"guest {thread}\">")?;
-        write_thread(&mut text, timeline, thread)?;
-        text.push_str("</thread>")?;
+        write_entry(&mut text, timeline, thread)?;
     }
     text.push_str("</threads>")?;
     Ok(text)
 }
 
+/// Writes the entry of a thread in the list.
+#[tactic(auto, unfolding(crate::specs::Threads::entry_shown))]
+fn write_entry(text: &mut String, timeline: &Timeline, thread: u32) -> Result<(), AllocError>
+    ensures { OnOk result
+        (string_bytes text.new ≡ string_bytes text.old ++ entry_shown (moment_of timeline.now.present) thread) }
+{
+    write_name(text, thread)?;
+    write_thread(text, timeline, thread)?;
+    text.push_str("</thread>")
+}
+
+/// Writes the begin of a thread's entry: its id and its name.
+#[tactic(auto, unfolding(crate::specs::Threads::name_shown))]
+fn write_name(text: &mut String, thread: u32) -> Result<(), AllocError>
+    ensures { OnOk result (string_bytes text.new ≡ string_bytes text.old ++ name_shown thread) }
+{
+    text.push_str("<thread id=\"")?;
+    write_id(text, thread)?;
+    text.push_str("\" name=\"guest ")?;
+    write!(text, "{thread}")?;
+    text.push_str("\">")?;
+    Ok(())
+}
+
+/// Writes gdb's id of a thread.
+pub(crate) fn write_id(text: &mut String, thread: u32) -> Result<(), AllocError>
+    ensures { OnOk result (string_bytes text.new ≡ string_bytes text.old ++ id_shown thread) }
+{
+    let id = u64::from(thread) + 1;
+    write!(text, "{id:x}")
+}
+
 /// The ids of so many threads.
-pub fn ids_text(alloc: Global, listed: u32) -> Result<String, AllocError> {
+#[tactic(auto, unfolding(crate::specs::Threads::first_ids))]
+pub fn ids_text(alloc: Global, listed: u32) -> Result<String, AllocError>
+    ensures { IfOk result (λ text. string_bytes text ≡ ids_shown listed) }
+{
     let mut text = String::from_str(alloc, "m")?;
     for thread in 0..listed {
-        let id = u64::from(thread) + 1;
-        if thread > 0 {
-            text.push_str(",")?;
-        }
-        write!(text, "{id:x}")?;
+        write_next_id(&mut text, thread)?;
     }
     Ok(text)
 }
 
+/// Writes the id of a thread behind those of the threads before it.
+#[tactic(auto, unfolding(crate::specs::Threads::next_id))]
+fn write_next_id(text: &mut String, thread: u32) -> Result<(), AllocError>
+    ensures { OnOk result (string_bytes text.new ≡ string_bytes text.old ++ next_id thread) }
+{
+    if thread == 0 {
+        return write_id(text, thread);
+    }
+    text.push_str(",")?;
+    write_id(text, thread)
+}
+
 /// Writes what a thread does.
-pub fn write_thread(text: &mut String, timeline: &Timeline, thread: u32) -> Result<(), AllocError> {
+#[tactic(auto, unfolding(crate::specs::Threads::thread_words))]
+pub fn write_thread(text: &mut String, timeline: &Timeline, thread: u32) -> Result<(), AllocError>
+    ensures { OnOk result
+        (string_bytes text.new ≡ string_bytes text.old ++ thread_words (moment_of timeline.now.present) thread) }
+{
     match timeline.status(thread) {
         None => text.push_str("not created here"),
         Some(Status::Done(value)) => write!(text, "done, value {value}"),
@@ -61,7 +121,10 @@ pub fn write_thread(text: &mut String, timeline: &Timeline, thread: u32) -> Resu
 }
 
 /// Writes where a ready thread stands in the phase.
-fn write_ready(text: &mut String, timeline: &Timeline, thread: u32) -> Result<(), AllocError> {
+fn write_ready(text: &mut String, timeline: &Timeline, thread: u32) -> Result<(), AllocError>
+    ensures { OnOk result (string_bytes text.new ≡ string_bytes text.old
+        ++ ready_words (moment_of timeline.now.present) (sees_at (moment_of timeline.now.present) thread)) }
+{
     match timeline.sees(thread) {
         Sees::Own => {
             let (turn, phase) = (timeline.turn(), timeline.phase());
@@ -73,24 +136,65 @@ fn write_ready(text: &mut String, timeline: &Timeline, thread: u32) -> Result<()
 }
 
 /// Writes what a blocked thread waits for.
-fn write_wait(text: &mut String, timeline: &Timeline, thread: u32) -> Result<(), AllocError> {
-    for waiter in timeline.serial().objects().waiters() {
-        if u32::from(waiter.thread) == thread {
-            return match waiter.place {
-                Place::Condition { condition, mutex } => {
-                    write!(text, "waits at condition {condition} for mutex {mutex}")
-                }
-                Place::Barrier { barrier, count } => {
-                    write!(text, "waits at barrier {barrier} of {count}")
-                }
-            };
+fn write_wait(text: &mut String, timeline: &Timeline, thread: u32) -> Result<(), AllocError>
+    ensures { OnOk result
+        (string_bytes text.new ≡ string_bytes text.old ++ waiting_words (moment_of timeline.now.present).point thread) }
+{
+    match waiter_of(timeline.serial().objects().waiters(), thread) {
+        Some(waiter) => write_place(text, waiter.place),
+        None => write_join(text, joined_by(timeline, thread)),
+    }
+}
+
+/// The entry of a thread among those that wait, none if it has none.
+fn waiter_of(waiters: &[Waiter], thread: u32) -> Option<Waiter>
+    ensures { result ≡ find (λ waiter. waiter.thread == thread) waiters.now }
+{
+    waiters
+        .iter()
+        .copied()
+        .find(|waiter| u32::from(waiter.thread) == thread)
+}
+
+/// Writes where a thread waits.
+fn write_place(text: &mut String, place: Place) -> Result<(), AllocError>
+    ensures { OnOk result (string_bytes text.new ≡ string_bytes text.old ++ place_words place) }
+{
+    match place {
+        Place::Condition { condition, mutex } => {
+            write!(text, "waits at condition {condition} for mutex {mutex}")
         }
+        Place::Barrier { barrier, count } => write!(text, "waits at barrier {barrier} of {count}"),
     }
+}
+
+/// The thread that a thread joins by its call, none if its call is another.
+fn joined_by(timeline: &Timeline, thread: u32) -> Option<u32>
+    ensures { result ≡ joined_by (row_at (moment_of timeline.now.present).point thread) }
+{
     let threads = timeline.serial().threads();
-    if (thread as usize) < threads.len()
-        && let Call::Join { thread } = call_of(&threads.get(thread).hart)
-    {
-        return write!(text, "joins guest {thread}");
+    if (thread as usize) < threads.len() {
+        return joined_in(call_of(&threads.get(thread).hart));
     }
-    text.push_str("waits")
+    None
+}
+
+/// The thread that a call joins.
+fn joined_in(call: Call) -> Option<u32>
+    ensures { result ≡ joined_in call }
+{
+    match call {
+        Call::Join { thread } => Some(thread),
+        _ => None,
+    }
+}
+
+/// Writes what a thread waits for that waits at no object.
+fn write_join(text: &mut String, joined: Option<u32>) -> Result<(), AllocError>
+    ensures { OnOk result (string_bytes text.new ≡ string_bytes text.old ++ join_words joined) }
+{
+    match joined {
+        Some(thread) => write!(text, "joins guest {thread}"),
+        None => text.push_str("waits"),
+    }
 }

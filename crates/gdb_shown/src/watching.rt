@@ -31,8 +31,14 @@ pub struct Watching {
 }
 
 impl Watching {
+    ghost use Rattle.std.specs.Prelude.{◌≡◌, ◌++◌, ◌∷◌, [], None, Some, IfOk, MatchOption, OnOk, map};
+    ghost use Rattle.timeline.specs.Present.{moment_of};
+    ghost use Rattle.gdb_shown.specs.Watching.{IsBlank, armed, looks, ranges_of, tells};
+
     /// Nothing was seen.
-    pub fn new(alloc: Global) -> Self {
+    pub fn new(alloc: Global) -> Self
+        ensures { IsBlank result }
+    {
         Watching {
             alloc,
             seen: Vec::new(alloc),
@@ -42,29 +48,42 @@ impl Watching {
     }
 
     /// Forgets what was seen and told.
-    pub fn forget(&mut self) {
+    pub fn forget(&mut self)
+        ensures { IsBlank self.new }
+    {
         self.seen.clear();
         self.forget_told();
     }
 
     /// Forgets what was told and is to be told.
-    pub fn forget_told(&mut self) {
+    pub fn forget_told(&mut self)
+        ensures others { self.new.others.items ≡ [] }
+        ensures told { self.new ≡ record self.old { told = None; others = self.new.others } }
+    {
         self.told = None;
         self.others.clear();
     }
 
     /// The run moves away from the event that was told last.
-    pub fn move_on(&mut self) {
+    pub fn move_on(&mut self)
+        ensures { self.new ≡ record self.old { told = None } }
+    {
         self.told = None;
     }
 
     /// The event that was told last, if nothing moved since.
-    pub fn told(&self) -> Option<Told> {
+    pub fn told(&self) -> Option<Told>
+        ensures { result ≡ self.now.told }
+    {
         self.told
     }
 
     /// The next range of the same step that is to be told, which is told by this.
-    pub fn tell_other(&mut self) -> Option<Told> {
+    pub fn tell_other(&mut self) -> Option<Told>
+        ensures other { MatchOption result (self.old.others.items ≡ [])
+            (λ other. self.old.others.items ≡ self.new.others.items ++ other ∷ []) }
+        ensures told { self.new ≡ record self.old { told = tells result self.old.told; others = self.new.others } }
+    {
         let other = self.others.pop()?;
         self.told = Some(other);
         Some(other)
@@ -77,7 +96,11 @@ impl Watching {
         timeline: &Timeline,
         watches: &[Watch],
         thread: u32,
-    ) -> Result<(), AllocError> {
+    ) -> Result<(), AllocError>
+        ensures armed { OnOk result
+            (ranges_of self.new ≡ armed (moment_of timeline.now.present) self.old.seen.items watches.now thread) }
+        ensures rest { self.new ≡ record self.old { seen = self.new.seen } }
+    {
         let before = mem::replace(&mut self.seen, Vec::new(self.alloc));
         let mut seen = Vec::new(self.alloc);
         for watch in watches {
@@ -129,7 +152,10 @@ impl Watching {
     }
 
     /// What a thread sees of the ranges of which it is kept what gdb saw last.
-    pub fn look(&self, timeline: &Timeline, thread: u32) -> Result<Vec<Vec<u8>>, AllocError> {
+    pub fn look(&self, timeline: &Timeline, thread: u32) -> Result<Vec<Vec<u8>>, AllocError>
+        ensures { IfOk result
+            (λ seen. map (λ bytes. bytes.items) seen.items ≡ looks (moment_of timeline.now.present) self.now.seen.items thread) }
+    {
         let mut looks = Vec::new(self.alloc);
         for seen in &self.seen {
             looks.push(bytes_seen(self.alloc, timeline, thread, seen.start, seen.len)?)?;

@@ -1,4 +1,5 @@
-//! Tests of what the commands answer without a command line: arguments as text, and the status and the line of each end.
+//! Tests of what the built program can't be brought to by a command line alone: arguments as text, the status and the line of each
+//! end, and flushes that fail.
 #![tactic(auto)]
 
 #[cfg(test)]
@@ -7,3 +8,9 @@ mod argument_texts;
 mod conclusions;
 #[cfg(test)]
 mod failing_writer;
+#[cfg(test)]
+mod flushes;
+#[cfg(test)]
+mod given_files;
+#[cfg(test)]
+mod losing_writer;

@@ -2,7 +2,6 @@
 
 use crate::differences::Differences;
 use anyhow::Result;
-use std::alloc::{AllocError, Global};
 
 /// Whether a row is chosen: by its name, or by the first words of it. Each is if none is named.
 pub fn is_chosen(chosen: &[String], name: &str) -> bool {
@@ -17,22 +16,18 @@ fn begins_with(name: &str, words: &str) -> bool {
     }
 }
 
-/// Prints the line of a row: `NAME: ok`, or what differs.
+/// Prints the line of a row: `NAME: ok`, or the error and what differs.
 pub fn show<R: AllocGlobal + Print>(
     rt: &R,
     name: &str,
     compared: Result<()>,
     found: &Differences,
 ) -> Result<()> {
-    let said = said_of(rt.alloc(), compared, found)?;
-    Ok(println!(rt; "{name}: {said}")?)
-}
-
-/// What is said of a row: the error and what differs, or `ok`.
-fn said_of(alloc: Global, compared: Result<()>, found: &Differences) -> Result<String, AllocError> {
+    let text = found.text();
     match compared {
-        Err(error) => format!(in alloc; "{error} {}", found.text()),
-        Ok(()) if found.text().is_empty() => String::from_str(alloc, "ok"),
-        Ok(()) => String::from_str(alloc, found.text()),
+        Err(error) => println!(rt; "{name}: {error} {text}")?,
+        Ok(()) if text.is_empty() => println!(rt; "{name}: ok")?,
+        Ok(()) => println!(rt; "{name}: {text}")?,
     }
+    Ok(())
 }

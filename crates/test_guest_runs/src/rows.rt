@@ -1,16 +1,17 @@
-//! The rows: what of a program, a run, a call or a schedule is compared, and a line for each.
+//! The rows: what of a run or a call is compared, and a line for each.
 
-use crate::by_command::{compare_by_command, compare_written};
-use crate::replays::compare_replay;
+use crate::case::Case;
+use crate::every_way::{Effort, compare_call, compare_run};
+use crate::files::guests;
+use crate::guest::Guest;
+use crate::outputs::compare_outputs;
+use crate::single_call::SingleCall;
+use crate::walked::Tally;
 use anyhow::Result;
 use std::rt::Files;
 use std::sync::Wait;
 use std::thread::Threads;
-use test_guest_rows::{
-    Differences, Guest, ReplayRow, SingleCall, compare_outputs, guests, is_chosen, replays, show,
-    text_at,
-};
-use test_run_ways::{Case, Effort, Tally, compare_call, compare_program, compare_run};
+use test_guest_rows::{Differences, is_chosen, is_named, show, text_at};
 
 /// Prints the line of each row that is chosen: `NAME: ok`, or what differs.
 pub fn show_rows<R: AllocGlobal + Files + Print + Threads + Wait + Sync>(
@@ -18,71 +19,41 @@ pub fn show_rows<R: AllocGlobal + Files + Print + Threads + Wait + Sync>(
     effort: Effort,
     chosen: &[String],
 ) -> Result<()> {
-    let guests = guests(rt)?;
     let mut tally = Tally::new(1);
-    for guest in &guests {
+    for guest in &guests(rt)? {
         show_guest(rt, guest, effort, chosen, &mut tally)?;
     }
-    show_calls(rt, chosen)?;
-    for row in &replays(rt)? {
-        show_replay(rt, &guests, row, chosen)?;
+    for line in text_at(rt, "single.calls")?.lines() {
+        if is_named(line) {
+            show_call(rt, line, chosen)?;
+        }
     }
-    show_outputs(rt, chosen)?;
+    if is_chosen(chosen, "comparison of outputs") {
+        let mut found = Differences::new(rt.alloc());
+        compare_outputs(rt.alloc(), &mut found)?;
+        show(rt, "comparison of outputs", Ok(()), &found)?;
+    }
     if chosen.is_empty() {
         println!(rt; "{} walks", tally.walks())?;
     }
     Ok(())
 }
 
-/// Shows the rows of a program and of its runs.
-fn show_guest<R: AllocGlobal + Files + Print + Threads + Wait + Sync>(
+/// Shows the rows of the runs of a program.
+fn show_guest<R: AllocGlobal + Print + Threads + Wait + Sync>(
     rt: &R,
     guest: &Guest,
     effort: Effort,
     chosen: &[String],
     tally: &mut Tally,
 ) -> Result<()> {
-    let name = format!(in rt.alloc(); "listing of {}", guest.name)?;
-    if is_chosen(chosen, name.as_str()) {
-        let mut found = Differences::new(rt.alloc());
-        let compared = compare_program(rt, guest, &mut found);
-        show(rt, name.as_str(), compared, &found)?;
-    }
     let file = guest.file(rt.alloc())?;
     for run in &guest.runs {
         if is_chosen(chosen, run.name.as_str()) {
             let mut found = Differences::new(rt.alloc());
             let case = Case { run, file: &file };
-            let compared = compare_in_all_ways(rt, case, effort, tally, &mut found);
+            let compared = compare_run(rt, rt.alloc(), case, effort, tally, &mut found);
             show(rt, run.name.as_str(), compared, &found)?;
-        }
-    }
-    Ok(())
-}
-
-/// Compares a run in each way, and by its command lines unless this effort has it made once.
-fn compare_in_all_ways<R: AllocGlobal + Threads + Wait + Sync>(
-    rt: &R,
-    case: Case<'_>,
-    effort: Effort,
-    tally: &mut Tally,
-    found: &mut Differences,
-) -> Result<()> {
-    compare_run(rt, rt.alloc(), case, effort, tally, found)?;
-    if !effort.is_whole(case) {
-        return Ok(());
-    }
-    Ok(compare_by_command(rt, rt.alloc(), case, found)?)
-}
-
-/// Shows the rows of the single calls.
-fn show_calls<R: AllocGlobal + Files + Print + Threads + Wait + Sync>(
-    rt: &R,
-    chosen: &[String],
-) -> Result<()> {
-    for line in text_at(rt, "single.calls")?.lines() {
-        if !line.starts_with('#') {
-            show_call(rt, line, chosen)?;
         }
     }
     Ok(())
@@ -94,54 +65,17 @@ fn show_call<R: AllocGlobal + Print + Threads + Wait + Sync>(
     line: &str,
     chosen: &[String],
 ) -> Result<()> {
-    let alloc = rt.alloc();
-    let call = SingleCall::of_line(line)?;
-    let run = call.run(alloc)?;
+    let call = SingleCall::of_line(line);
+    let run = call.run(rt.alloc())?;
     if !is_chosen(chosen, run.name.as_str()) {
         return Ok(());
     }
-    let file = call.file(alloc)?;
+    let file = call.file(rt.alloc())?;
     let case = Case {
         run: &run,
         file: &file,
     };
-    let mut found = Differences::new(alloc);
-    let compared = compare_call_in_all_ways(rt, case, &mut found);
+    let mut found = Differences::new(rt.alloc());
+    let compared = compare_call(rt, rt.alloc(), case, &mut found);
     show(rt, run.name.as_str(), compared, &found)
-}
-
-/// Compares the run of a single call, by its command line too.
-fn compare_call_in_all_ways<R: AllocGlobal + Threads + Wait + Sync>(
-    rt: &R,
-    case: Case<'_>,
-    found: &mut Differences,
-) -> Result<()> {
-    compare_call(rt, rt.alloc(), case, found)?;
-    Ok(compare_written(rt, rt.alloc(), case, 4, found)?)
-}
-
-/// Shows whether outputs are told from others.
-fn show_outputs<R: AllocGlobal + Print>(rt: &R, chosen: &[String]) -> Result<()> {
-    if !is_chosen(chosen, "comparison of outputs") {
-        return Ok(());
-    }
-    let mut found = Differences::new(rt.alloc());
-    let compared = compare_outputs(rt.alloc(), &mut found);
-    show(rt, "comparison of outputs", compared, &found)
-}
-
-/// Shows the row of a schedule.
-fn show_replay<R: AllocGlobal + Print + Threads + Wait + Sync>(
-    rt: &R,
-    guests: &[Guest],
-    row: &ReplayRow,
-    chosen: &[String],
-) -> Result<()> {
-    let name = format!(in rt.alloc(); "replay of {}", row.name)?;
-    if !is_chosen(chosen, name.as_str()) {
-        return Ok(());
-    }
-    let mut found = Differences::new(rt.alloc());
-    let compared = compare_replay(rt, rt.alloc(), guests, row, &mut found);
-    show(rt, name.as_str(), compared, &found)
 }

@@ -1,8 +1,8 @@
 //! Lines on a memory of any kind: loads, stores, fetches and harts that run on it.
 
+use crate::answer::Answer;
 use crate::harts::write_hart;
-use crate::numbers::{numbers_of, write_found, write_number, write_whether, write_word};
-use anyhow::Result;
+use crate::numbers::numbers_of;
 use guest_memory::{AccessFault, GuestMemory, StoreFault};
 use hart::{Hart, run_to_stop, step};
 use std::alloc::AllocError;
@@ -10,43 +10,44 @@ use test_guest_rows::{decimal, split};
 
 /// Answers a line on a memory, if it is one.
 pub fn access<M: GuestMemory>(
-    answer: &mut String,
+    answer: &mut Answer,
     hart: &mut Hart,
     memory: &mut M,
     verb: &str,
     rest: &str,
-) -> Result<bool> {
+) -> Result<bool, AllocError> {
     match verb {
         "run" => write_run(answer, *hart, memory, rest)?,
         "step" => {
-            write!(answer, "{:?} ", step(hart, memory))?;
-            write_hart(answer, hart)?;
+            answer.shown(&step(hart, memory));
+            answer.push(" ");
+            write_hart(answer, hart);
         }
-        _ => return access_at(answer, memory, verb, numbers_of(rest)?),
+        _ => return Ok(access_at(answer, memory, verb, numbers_of(rest))),
     }
     Ok(true)
 }
 
 /// Answers a line on addresses of a memory, if it is one.
 fn access_at<M: GuestMemory>(
-    answer: &mut String,
+    answer: &mut Answer,
     memory: &mut M,
     verb: &str,
     [first, second, third, fourth, fifth, _]: [u32; 6],
-) -> Result<bool> {
+) -> bool {
     match verb {
-        "load" => write_loaded(answer, load(memory, first, second))?,
-        "store" => write_stored(answer, store(memory, first, second, third))?,
-        "fetch" => write_found(answer, fetch(memory, first))?,
-        "at" => write_at(answer, memory, first)?,
-        "near" => write_near(answer, memory, first)?,
-        "put" => write_whether(answer, put(memory, first, second, third))?,
+        "load" => write_loaded(answer, load(memory, first, second)),
+        "store" => write_stored(answer, store(memory, first, second, third)),
+        "fetch" => answer.found(fetch(memory, first)),
+        "at" => write_at(answer, memory, first),
+        "near" => write_near(answer, memory, first),
+        "put" => answer.whether(put(memory, first, second, third)),
         "bring" => bring(memory, first, second),
-        "stores" => store_all(answer, memory, [first, second, third, fourth, fifth])?,
-        "words" => write_words(answer, memory, first, second)?,
-        _ => return Ok(false),
+        "stores" => store_all(answer, memory, [first, second, third, fourth, fifth]),
+        "words" => write_words(answer, memory, first, second),
+        _ => return false,
     }
-    Ok(true)
+    true
 }
 
 /// Loads a byte, two bytes or a word.
@@ -97,92 +98,81 @@ fn bring<M: GuestMemory>(memory: &mut M, address: u32, times: u32) {
 }
 
 /// Writes what a load gave.
-fn write_loaded(answer: &mut String, loaded: Result<u32, AccessFault>) -> Result<(), AllocError> {
+fn write_loaded(answer: &mut Answer, loaded: Result<u32, AccessFault>) {
     match loaded {
-        Ok(value) => write_number(answer, value),
-        Err(AccessFault::Denied) => write_word(answer, "denied"),
-        Err(AccessFault::Misaligned) => write_word(answer, "misaligned"),
+        Ok(value) => answer.number(value),
+        Err(AccessFault::Denied) => answer.word("denied"),
+        Err(AccessFault::Misaligned) => answer.word("misaligned"),
     }
 }
 
 /// Writes why a store wasn't made, and nothing if it was.
-fn write_stored(answer: &mut String, stored: Result<(), StoreFault>) -> Result<(), AllocError> {
+fn write_stored(answer: &mut Answer, stored: Result<(), StoreFault>) {
     match stored {
-        Ok(()) => Ok(()),
-        Err(StoreFault::Refused(AccessFault::Denied)) => write_word(answer, "denied"),
-        Err(StoreFault::Refused(AccessFault::Misaligned)) => write_word(answer, "misaligned"),
-        Err(StoreFault::OutOfMemory(error)) => Err(error),
+        Ok(()) => {}
+        Err(StoreFault::Refused(AccessFault::Denied)) => answer.word("denied"),
+        Err(StoreFault::Refused(AccessFault::Misaligned)) => answer.word("misaligned"),
+        Err(StoreFault::OutOfMemory(_)) => answer.word("out of memory"),
     }
 }
 
 /// Writes what loads of each width and a fetch find at an address.
-fn write_at<M: GuestMemory>(
-    answer: &mut String,
-    memory: &M,
-    address: u32,
-) -> Result<(), AllocError> {
+fn write_at<M: GuestMemory>(answer: &mut Answer, memory: &M, address: u32) {
     for width in [1, 2, 4] {
-        write_loaded(answer, load(memory, width, address))?;
+        write_loaded(answer, load(memory, width, address));
     }
-    write_found(answer, fetch(memory, address))
+    answer.found(fetch(memory, address));
 }
 
 /// Writes what near loads of each width find at an address.
-fn write_near<M: GuestMemory>(
-    answer: &mut String,
-    memory: &M,
-    address: u32,
-) -> Result<(), AllocError> {
-    write_found(answer, memory.near8(address).map(u32::from))?;
-    write_found(answer, memory.near16(address).map(u32::from))?;
-    write_found(answer, memory.near32(address))
+fn write_near<M: GuestMemory>(answer: &mut Answer, memory: &M, address: u32) {
+    answer.found(memory.near8(address).map(u32::from));
+    answer.found(memory.near16(address).map(u32::from));
+    answer.found(memory.near32(address));
 }
 
 /// Stores words at places that are a step apart, from a first on, each by a number greater than the one before, from 0 on.
 fn store_all<M: GuestMemory>(
-    answer: &mut String,
+    answer: &mut Answer,
     memory: &mut M,
     [first, step, count, value, growth]: [u32; 5],
-) -> Result<(), AllocError> {
+) {
     for number in 0..count {
         let address = first.wrapping_add(number.wrapping_mul(step));
         let value = value.wrapping_add(number.wrapping_mul(growth));
-        write_stored(answer, memory.store32(address, value))?;
+        write_stored(answer, memory.store32(address, value));
     }
-    Ok(())
 }
 
 /// Writes the words from an address on that aren't 0, each after its address.
-fn write_words<M: GuestMemory>(
-    answer: &mut String,
-    memory: &M,
-    first: u32,
-    count: u32,
-) -> Result<(), AllocError> {
+fn write_words<M: GuestMemory>(answer: &mut Answer, memory: &M, first: u32, count: u32) {
     for number in 0..count {
         let address = first.wrapping_add(number.wrapping_mul(4));
         let loaded = memory.load32(address);
         if loaded != Ok(0) {
-            write_number(answer, address)?;
-            write_loaded(answer, loaded)?;
+            answer.number(address);
+            write_loaded(answer, loaded);
         }
     }
-    Ok(())
 }
 
 /// Writes where a run of a hart stops, after how many instructions, and the hart then.
 fn write_run<M: GuestMemory>(
-    answer: &mut String,
+    answer: &mut Answer,
     mut hart: Hart,
     memory: &mut M,
     limits: &str,
-) -> Result<()> {
+) -> Result<(), AllocError> {
     let (left, quantum) = split(limits);
     let quantum = match quantum {
         "" => None,
-        quantum => Some(decimal(quantum)?),
+        quantum => Some(decimal(quantum)),
     };
-    let (stop, count) = run_to_stop(&mut hart, memory, decimal(left)?, quantum)?;
-    write!(answer, "{stop:?} {count} ")?;
-    Ok(write_hart(answer, &hart)?)
+    let (stop, count) = run_to_stop(&mut hart, memory, decimal(left), quantum)?;
+    answer.shown(&stop);
+    answer.push(" ");
+    answer.count(count);
+    answer.push(" ");
+    write_hart(answer, &hart);
+    Ok(())
 }

@@ -1,7 +1,8 @@
 //! Lines on the pages that views list, patches and their merge.
 
+use crate::answer::Answer;
 use crate::memories::{Memories, at};
-use crate::numbers::{numbers_of, write_numbers};
+use crate::numbers::numbers_of;
 use anyhow::{Result, anyhow};
 use commit::{Patch, apply, changed, changed_addresses};
 use paged_memory::{GuestMemory, WholeMemory};
@@ -11,16 +12,16 @@ use twins::View;
 
 /// Takes a line on a view and what it changed, if it is one.
 pub fn take_commit_line(
-    answer: &mut String,
+    answer: &mut Answer,
     memories: &mut Memories,
     verb: &str,
     rest: &str,
 ) -> Result<bool> {
     let (name, other) = split(rest);
     match verb {
-        "dirty" => write_dirty(answer, at(&mut memories.views, name)?)?,
-        "private" => write_count(answer, at(&mut memories.views, name)?)?,
-        "patch" => write_patch(memories.alloc, answer, at(&mut memories.views, name)?)?,
+        "dirty" | "private" | "patch" => {
+            write_view(memories.alloc, answer, at(&mut memories.views, name)?, verb)?;
+        }
         "merge" => merge(answer, memories, name, other)?,
         "agree" => write_agreement(answer, memories, name, other)?,
         _ => return Ok(false),
@@ -28,34 +29,37 @@ pub fn take_commit_line(
     Ok(true)
 }
 
-/// Writes the pages of a view that were stored to.
-fn write_dirty(answer: &mut String, view: &View) -> Result<(), AllocError> {
-    write_numbers(answer, &view.dirty()?)
-}
-
-/// Writes how many pages a view keeps.
-fn write_count(answer: &mut String, view: &View) -> Result<(), AllocError> {
-    write!(answer, "{}", view.private_pages().len())
-}
-
-/// Writes how many bytes a view changed, and their addresses.
-fn write_patch(alloc: Global, answer: &mut String, view: &View) -> Result<(), AllocError> {
-    let patch = Patch::of(alloc, view)?;
-    write!(answer, "{}:", changed(&patch))?;
-    write_numbers(answer, &changed_addresses(alloc, &patch)?)
+/// Writes the pages of a view that were stored to, how many pages it keeps, or how many bytes it changed, and their addresses.
+fn write_view(
+    alloc: Global,
+    answer: &mut Answer,
+    view: &View,
+    verb: &str,
+) -> Result<(), AllocError> {
+    match verb {
+        "dirty" => answer.numbers(&view.dirty()?),
+        "private" => answer.count(view.private_pages().len() as u64),
+        _ => {
+            let patch = Patch::of(alloc, view)?;
+            answer.count(changed(&patch));
+            answer.push(":");
+            answer.numbers(&changed_addresses(alloc, &patch)?);
+        }
+    }
+    Ok(())
 }
 
 /// Merges what a view changed into a snapshot, and writes how many bytes that were.
-fn merge(answer: &mut String, memories: &mut Memories, snapshot: &str, view: &str) -> Result<()> {
+fn merge(answer: &mut Answer, memories: &mut Memories, snapshot: &str, view: &str) -> Result<()> {
     let patch = Patch::of(memories.alloc, at(&mut memories.views, view)?)?;
-    write!(answer, "{}", changed(&patch))?;
+    answer.count(changed(&patch));
     Ok(apply(at(&mut memories.snapshots, snapshot)?, &patch)?)
 }
 
 /// Writes how many bytes a view changed, if they are those in which two whole memories differ: the text is these memories, and the
 /// first address and the number of words that are looked at.
 fn write_agreement(
-    answer: &mut String,
+    answer: &mut Answer,
     memories: &mut Memories,
     view: &str,
     text: &str,
@@ -63,9 +67,11 @@ fn write_agreement(
     let wanted = differing_of(memories, text)?;
     let view = at(&mut memories.views, view)?;
     if is_patch(memories.alloc, view, &wanted)? {
-        return Ok(write!(answer, "{}", wanted.len())?);
+        answer.count(wanted.len() as u64);
+    } else {
+        answer.word("other bytes differ");
     }
-    Err(anyhow!("other bytes differ"))
+    Ok(())
 }
 
 /// Whether these are the addresses of the bytes that a view changed, and as many as are counted.
@@ -80,7 +86,7 @@ fn is_patch(alloc: Global, view: &View, wanted: &[u32]) -> Result<bool, AllocErr
 fn differing_of(memories: &Memories, text: &str) -> Result<Vec<u32>> {
     let (before, rest) = split(text);
     let (after, range) = split(rest);
-    let range = numbers_of(range)?;
+    let range = numbers_of(range);
     let before = whole_at(memories, before)?;
     let after = whole_at(memories, after)?;
     Ok(differing(memories.alloc, before, after, range)?)

@@ -1,12 +1,12 @@
 //! The file of a row, and lines on it.
 
+use crate::answer::Answer;
 use crate::images::take_image_line;
-use crate::numbers::{numbers_of, write_bytes};
-use anyhow::Result;
-use data_guest_programs::{ProgramHeader, file_of, file_of_headers, load, operands};
+use crate::numbers::{numbers_of, push_words};
+use data_guest_programs::{KEPT, ProgramHeader, file_of, file_of_headers, load, operands};
 use elf32_reader::{ElfFault, Image, read};
 use std::alloc::{AllocError, Global};
-use test_guest_rows::{program_named, small, split, word};
+use test_guest_rows::{small, split, word};
 
 /// The refusals, in the order of their numbers.
 static FAULTS: [ElfFault; 21] = [
@@ -58,84 +58,71 @@ impl Files {
 
 /// Takes a line on files, if it is one.
 pub fn take_file_line(
-    answer: &mut String,
+    answer: &mut Answer,
     files: &mut Files,
     verb: &str,
     rest: &str,
-) -> Result<bool> {
+) -> Result<bool, AllocError> {
     match verb {
         "program" | "file" | "headed" => make_file(files, verb, rest)?,
-        "size" => files.file.resize(small(rest)? as usize, 0)?,
+        "size" => files.file.resize(small(rest) as usize, 0)?,
         "seven" => {
             make_file(files, "program", "seven")?;
-            change(&mut files.file, rest)?;
-            write_refusal(answer, files)?;
+            change(&mut files.file, rest);
+            read_file(answer, files);
         }
-        "read" => write_refusal(answer, files)?,
-        "bytes" => write_bytes(answer, &files.file)?,
-        "fault" => write_fault(answer, small(rest)?)?,
+        "read" => read_file(answer, files),
+        "bytes" => answer.bytes(&files.file),
+        "fault" => write_fault(answer, small(rest)),
         _ => return take_part_line(answer, files, verb, rest),
     }
     Ok(true)
 }
 
-/// Makes a file: of a program, of words alone, or of program headers and words.
-fn make_file(files: &mut Files, verb: &str, name: &str) -> Result<()> {
-    files.file = match verb {
-        "program" => program_named(name)?.file(files.alloc)?,
-        "file" => file_of(files.alloc, &files.words)?,
-        _ => file_of_headers(files.alloc, &files.headers, &files.words)?,
-    };
+/// Makes a file: of a program, of words alone, or of program headers and words. There is none if no program has the name.
+fn make_file(files: &mut Files, verb: &str, name: &str) -> Result<(), AllocError> {
+    match verb {
+        "program" => {
+            files.file.clear();
+            for program in KEPT.iter().filter(|program| program.name == name) {
+                files.file = program.file(files.alloc)?;
+            }
+        }
+        "file" => files.file = file_of(files.alloc, &files.words)?,
+        _ => files.file = file_of_headers(files.alloc, &files.headers, &files.words)?,
+    }
     Ok(())
 }
 
 /// Takes a line on the parts of a file to come, or of the image, if it is one.
-fn take_part_line(answer: &mut String, files: &mut Files, verb: &str, rest: &str) -> Result<bool> {
+fn take_part_line(
+    answer: &mut Answer,
+    files: &mut Files,
+    verb: &str,
+    rest: &str,
+) -> Result<bool, AllocError> {
+    let numbers = numbers_of(rest);
+    let [first, second, third, fourth, fifth, _] = numbers;
     match verb {
         "words" => push_words(&mut files.words, rest)?,
-        "li" => push_load(&mut files.words, numbers_of(rest)?)?,
-        "operands" => push_operands(&mut files.words, numbers_of(rest)?)?,
-        "multiples" => push_multiples(&mut files.words, numbers_of(rest)?)?,
-        "header" => files.headers.push(numbers_of(rest)?)?,
-        "page-headers" => push_headers(&mut files.headers, small(rest)?)?,
+        "li" => files.words.extend_from_slice(&load(first, second))?,
+        "operands" => {
+            files.words.extend_from_slice(&operands(first, second))?;
+            files.words.extend_from_slice(&[third, fourth, fifth])?;
+        }
+        "multiples" => push_multiples(&mut files.words, first, second)?,
+        "header" => files.headers.push(numbers)?,
+        "page-headers" => push_headers(&mut files.headers, small(rest))?,
         _ => match &files.image {
-            Some(image) => return Ok(take_image_line(files.alloc, answer, image, verb)?),
+            Some(image) => return take_image_line(files.alloc, answer, image, verb),
             None => return Ok(false),
         },
     }
     Ok(true)
 }
 
-/// Appends the words of a list.
-fn push_words(words: &mut Vec<u32>, list: &str) -> Result<()> {
-    for digits in list.split_whitespace() {
-        words.push(word(digits)?)?;
-    }
-    Ok(())
-}
-
-/// Appends the two words that load a register.
-fn push_load(
-    words: &mut Vec<u32>,
-    [register, value, _, _, _, _]: [u32; 6],
-) -> Result<(), AllocError> {
-    words.extend_from_slice(&load(register, value))
-}
-
-/// Appends the four words that load x5 and x6, and three instructions.
-fn push_operands(
-    words: &mut Vec<u32>,
-    [first, second, third, fourth, fifth, _]: [u32; 6],
-) -> Result<(), AllocError> {
-    words.extend_from_slice(&operands(first, second))?;
-    words.extend_from_slice(&[third, fourth, fifth])
-}
-
 /// Appends the first multiples of a number, from 0 on.
-fn push_multiples(
-    words: &mut Vec<u32>,
-    [factor, count, _, _, _, _]: [u32; 6],
-) -> Result<(), AllocError> {
+fn push_multiples(words: &mut Vec<u32>, factor: u32, count: u32) -> Result<(), AllocError> {
     for number in 0..count {
         words.push(number.wrapping_mul(factor))?;
     }
@@ -152,28 +139,27 @@ fn push_headers(headers: &mut Vec<ProgramHeader>, count: u32) -> Result<(), Allo
 }
 
 /// Writes how a refusal is told: its name, and its number and its name.
-fn write_fault(answer: &mut String, number: u32) -> Result<(), AllocError> {
+fn write_fault(answer: &mut Answer, number: u32) {
     for fault in &FAULTS {
         if u32::from(fault.number()) == number {
-            write!(answer, "{fault:?}: {fault}")?;
+            answer.shown(fault);
+            answer.push(": ");
+            answer.told(fault);
         }
     }
-    Ok(())
 }
 
 /// Changes words of a file, each after its place.
-fn change(file: &mut [u8], changes: &str) -> Result<()> {
+fn change(file: &mut [u8], changes: &str) {
     let mut rest = changes;
     for _ in 0..changes.len() {
         let (place, others) = split(rest);
-        if place.is_empty() {
-            break;
-        }
         let (digits, others) = split(others);
-        put(file, small(place)? as usize, word(digits)?);
+        if !place.is_empty() {
+            put(file, small(place) as usize, word(digits));
+        }
         rest = others;
     }
-    Ok(())
 }
 
 /// Changes the word at a place, whose lowest byte comes first.
@@ -184,12 +170,12 @@ fn put(file: &mut [u8], place: usize, word: u32) {
 }
 
 /// Reads the file, and writes the number of its refusal, or 0 where it is read.
-fn write_refusal(answer: &mut String, files: &mut Files) -> Result<(), AllocError> {
+fn read_file(answer: &mut Answer, files: &mut Files) {
     match read(files.alloc, &files.file) {
         Ok(image) => {
             files.image = Some(image);
-            answer.push('0')
+            answer.push("0");
         }
-        Err(fault) => write!(answer, "{}", fault.number()),
+        Err(fault) => answer.count(u64::from(fault.number())),
     }
 }

@@ -1,11 +1,12 @@
 //! Changes for which a snapshot takes memory. Where that is refused (`rt try --fail-alloc N`), the snapshot stays as it was, and the
 //! change is made when it is asked for again.
 
+use crate::answer::Answer;
 use crate::numbers::numbers_of;
 use crate::perms::perm_of;
-use anyhow::{Result, anyhow};
 use guest_memory::{GuestMemory, Perm};
 use paged_memory::Snapshot;
+use std::alloc::AllocError;
 use test_guest_rows::split;
 
 /// How many pages there are.
@@ -24,14 +25,14 @@ pub enum Growth {
 
 impl Growth {
     /// The change of a line, without the snapshot's name.
-    pub fn of_line(verb: &str, text: &str) -> Result<Self> {
+    pub fn of_line(verb: &str, text: &str) -> Self {
         let (perm, rest) = if verb == "map" {
             split(text)
         } else {
             ("", text)
         };
-        let [first, second, _, _, _, _] = numbers_of(rest)?;
-        Ok(match verb {
+        let [first, second, _, _, _, _] = numbers_of(rest);
+        match verb {
             "map" => Growth::Map {
                 first,
                 count: second,
@@ -45,7 +46,7 @@ impl Growth {
                 address: first,
                 byte: (second % 256) as u8,
             },
-        })
+        }
     }
 
     /// Makes the change, and answers whether it was made. One past the last page isn't.
@@ -68,21 +69,27 @@ impl Growth {
     }
 }
 
-/// Makes a change, once more if it is refused and has changed nothing at these places.
-pub fn grow(snapshot: &mut Snapshot, growth: Growth, places: &[u32]) -> Result<()> {
+/// Makes a change, once more if it is refused. Writes if that changed something at these places, or if it is refused again.
+pub fn grow(
+    answer: &mut Answer,
+    snapshot: &mut Snapshot,
+    growth: Growth,
+    places: &[u32],
+) -> Result<(), AllocError> {
     let before = snapshot.try_clone()?;
     if growth.is_made(snapshot) {
         return Ok(());
     }
-    for place in places {
-        if !is_same(&before, snapshot, *place) {
-            return Err(anyhow!("a refused change changed the memory"));
-        }
+    if !places
+        .iter()
+        .all(|place| is_same(&before, snapshot, *place))
+    {
+        answer.word("a refused change changed the memory");
     }
-    if growth.is_made(snapshot) {
-        return Ok(());
+    if !growth.is_made(snapshot) {
+        answer.word("refused twice");
     }
-    Err(anyhow!("refused twice"))
+    Ok(())
 }
 
 /// Whether two snapshots have the same byte at an address, and the same permissions.

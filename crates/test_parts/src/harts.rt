@@ -1,11 +1,10 @@
 //! Lines on the hart and its calls.
 
+use crate::answer::Answer;
 use crate::numbers::numbers_of;
 use abi::Code;
-use anyhow::{Result, anyhow};
 use ecalls::{call_of, finish};
 use hart::{Cause, Hart};
-use std::alloc::AllocError;
 use test_guest_rows::{small, split, word};
 
 /// The causes of traps, in the order of their numbers.
@@ -36,82 +35,81 @@ static CODES: [Code; 10] = [
 ];
 
 /// Takes a line on the hart, if it is one.
-pub fn take_hart_line(
-    answer: &mut String,
-    hart: &mut Hart,
-    verb: &str,
-    rest: &str,
-) -> Result<bool> {
+pub fn take_hart_line(answer: &mut Answer, hart: &mut Hart, verb: &str, rest: &str) -> bool {
     match verb {
-        "hart" => *hart = hart_of(numbers_of(rest)?)?,
-        "set" => set(hart, numbers_of(rest)?)?,
-        "pc" => set_pc(hart, word(rest)?)?,
-        "registers" => write_hart(answer, hart)?,
-        "call" => write!(answer, "{:?}", call_of(hart))?,
-        "finish" => write_finished(answer, *hart, rest)?,
-        "causes" => write_causes(answer)?,
-        _ => return Ok(false),
+        "hart" => begin(answer, hart, numbers_of(rest)),
+        "set" => set(answer, hart, numbers_of(rest)),
+        "pc" => set_pc(answer, hart, word(rest)),
+        "registers" => write_hart(answer, hart),
+        "call" => answer.shown(&call_of(hart)),
+        "finish" => write_finished(answer, *hart, rest),
+        "causes" => write_causes(answer),
+        _ => return false,
     }
-    Ok(true)
+    true
 }
 
-/// A hart that begins at this pc.
-fn hart_of([pc, sp, argument, number, _, _]: [u32; 6]) -> Result<Hart> {
+/// Has the hart begin at this pc.
+fn begin(answer: &mut Answer, hart: &mut Hart, [pc, sp, argument, number, _, _]: [u32; 6]) {
     if pc % 4 != 0 {
-        return Err(anyhow!("no pc: {pc:x}"));
+        return answer.word("no pc");
     }
-    Ok(Hart::new(pc, sp, argument, number))
+    *hart = Hart::new(pc, sp, argument, number);
 }
 
 /// Sets a register.
-fn set(hart: &mut Hart, [register, value, _, _, _, _]: [u32; 6]) -> Result<()> {
+fn set(answer: &mut Answer, hart: &mut Hart, [register, value, _, _, _, _]: [u32; 6]) {
     if register >= 32 {
-        return Err(anyhow!("no register: {register}"));
+        return answer.word("no register");
     }
     hart.set_reg(register as usize, value);
-    Ok(())
 }
 
 /// Sets pc.
-fn set_pc(hart: &mut Hart, pc: u32) -> Result<()> {
+fn set_pc(answer: &mut Answer, hart: &mut Hart, pc: u32) {
     if pc % 4 != 0 {
-        return Err(anyhow!("no pc: {pc:x}"));
+        return answer.word("no pc");
     }
     hart.set_pc(pc);
-    Ok(())
 }
 
 /// Writes pc and each register that isn't 0.
-pub fn write_hart(answer: &mut String, hart: &Hart) -> Result<(), AllocError> {
-    write!(answer, "pc={:x}", hart.pc())?;
+pub fn write_hart(answer: &mut Answer, hart: &Hart) {
+    answer.push("pc=");
+    answer.digits(hart.pc());
     for register in 0..32 {
         let value = hart.reg(register);
         if value != 0 {
-            write!(answer, " x{register}={value:x}")?;
+            answer.push(" x");
+            answer.count(register as u64);
+            answer.push("=");
+            answer.digits(value);
         }
     }
-    Ok(())
 }
 
 /// Writes a code, and the hart after a call that is finished with it and, if there is one, a value.
-fn write_finished(answer: &mut String, mut hart: Hart, text: &str) -> Result<()> {
+fn write_finished(answer: &mut Answer, mut hart: Hart, text: &str) {
     let (place, value) = split(text);
     let value = match value {
         "" => None,
-        digits => Some(word(digits)?),
+        digits => Some(word(digits)),
     };
-    let Some(code) = CODES.get(small(place)? as usize) else {
-        return Err(anyhow!("no code: {place}"));
+    let Some(code) = CODES.get(small(place) as usize) else {
+        return answer.word("no code");
     };
     finish(&mut hart, *code, value);
-    write!(answer, "{code:?} ")?;
-    Ok(write_hart(answer, &hart)?)
+    answer.shown(code);
+    answer.push(" ");
+    write_hart(answer, &hart);
 }
 
 /// Writes the name and the number of each cause.
-fn write_causes(answer: &mut String) -> Result<(), AllocError> {
+fn write_causes(answer: &mut Answer) {
     for cause in &CAUSES {
-        write!(answer, "{cause:?} {},", cause.number())?;
+        answer.shown(cause);
+        answer.push(" ");
+        answer.count(u64::from(cause.number()));
+        answer.push(",");
     }
-    Ok(())
 }

@@ -1,6 +1,6 @@
 //! Lines on the image that was read.
 
-use crate::numbers::{write_bytes, write_number};
+use crate::answer::Answer;
 use crate::perms::write_perm;
 use disassembler::listing;
 use elf32_reader::{Image, Segment};
@@ -9,36 +9,30 @@ use std::alloc::{AllocError, Global};
 /// Answers a line on an image, if it is one.
 pub fn take_image_line(
     alloc: Global,
-    answer: &mut String,
+    answer: &mut Answer,
     image: &Image,
     verb: &str,
 ) -> Result<bool, AllocError> {
     match verb {
-        "entry" => write_number(answer, image.entry())?,
-        "segments" => write_segments(answer, image.segments())?,
-        "count" => write!(answer, "{}", image.segments().len())?,
-        "listing" => write_listing(alloc, answer, image)?,
+        "entry" => answer.number(image.entry()),
+        "segments" => write_segments(answer, image.segments()),
+        "count" => answer.count(image.segments().len() as u64),
+        "listing" => {
+            let lines = listing(alloc, image)?;
+            answer.push(lines.as_str().replace(alloc, "\n", ";")?.as_str());
+        }
         _ => return Ok(false),
     }
     Ok(true)
 }
 
 /// Writes the address, the size in memory, the permissions and the bytes of each segment.
-fn write_segments(answer: &mut String, segments: &[Segment]) -> Result<(), AllocError> {
+fn write_segments(answer: &mut Answer, segments: &[Segment]) {
     for segment in segments {
-        write_number(answer, segment.vaddr())?;
-        write_number(answer, segment.memsz())?;
-        write_perm(answer, Some(segment.flags()))?;
-        answer.push(' ')?;
-        write_bytes(answer, segment.bytes())?;
-        answer.push(',')?;
+        answer.numbers(&[segment.vaddr(), segment.memsz()]);
+        write_perm(answer, Some(segment.flags()));
+        answer.push(" ");
+        answer.bytes(segment.bytes());
+        answer.push(",");
     }
-    Ok(())
-}
-
-/// Writes a listing, with `;` in the place of the end of each line.
-fn write_listing(alloc: Global, answer: &mut String, image: &Image) -> Result<(), AllocError> {
-    let lines = listing(alloc, image)?;
-    let line = lines.as_str().replace(alloc, "\n", ";")?;
-    answer.push_str(line.as_str())
 }

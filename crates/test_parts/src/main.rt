@@ -6,11 +6,14 @@
 #![tactic(auto)]
 
 mod accesses;
+mod answer;
 mod commits;
 mod files;
 mod growth;
 mod harts;
 mod images;
+mod lined_row;
+mod lined_rows;
 mod memories;
 mod numbers;
 mod objects;

@@ -1,6 +1,7 @@
 //! The memories of a row, by their names, and lines that make, ask and compare them.
 
 use crate::accesses::access;
+use crate::answer::Answer;
 use crate::files::Files;
 use anyhow::{Result, anyhow};
 use elf32_reader::Image;
@@ -108,7 +109,7 @@ fn image_of(files: &Files) -> Result<&Image> {
 
 /// Takes a line on the memory that it names, or on two: the last kind of line.
 pub fn take_access_line(
-    answer: &mut String,
+    answer: &mut Answer,
     memories: &mut Memories,
     hart: &mut Hart,
     verb: &str,
@@ -124,7 +125,7 @@ pub fn take_access_line(
 
 /// Asks two memories the same, and writes both answers if they differ. The text is the second name and what is asked.
 fn compare(
-    answer: &mut String,
+    answer: &mut Answer,
     memories: &mut Memories,
     hart: &mut Hart,
     one: &str,
@@ -132,22 +133,21 @@ fn compare(
 ) -> Result<()> {
     let (other, asked) = split(text);
     let (verb, rest) = split(asked);
-    let mut wanted = String::new(memories.alloc);
+    let mut wanted = Answer::new(memories.alloc);
     let is_asked = ask(answer, memories, hart, verb, one, rest)?
         && ask(&mut wanted, memories, hart, verb, other, rest)?;
-    if !is_asked {
-        return Err(anyhow!("nothing that a memory is asked"));
-    }
-    if answer.as_str() == wanted.as_str() {
+    if is_asked && answer.text() == wanted.text() {
         answer.clear();
-        return Ok(());
+    } else {
+        answer.push(" and ");
+        answer.push(wanted.text());
     }
-    Ok(write!(answer, " and {wanted}")?)
+    Ok(())
 }
 
 /// Asks the memory of a name.
 fn ask(
-    answer: &mut String,
+    answer: &mut Answer,
     memories: &mut Memories,
     hart: &mut Hart,
     verb: &str,
@@ -155,10 +155,10 @@ fn ask(
     rest: &str,
 ) -> Result<bool> {
     if let Some(memory) = find(&mut memories.wholes, name) {
-        return access(answer, hart, memory, verb, rest);
+        return Ok(access(answer, hart, memory, verb, rest)?);
     }
     if let Some(memory) = find(&mut memories.snapshots, name) {
-        return access(answer, hart, memory, verb, rest);
+        return Ok(access(answer, hart, memory, verb, rest)?);
     }
-    access(answer, hart, at(&mut memories.views, name)?, verb, rest)
+    Ok(access(answer, hart, at(&mut memories.views, name)?, verb, rest)?)
 }

@@ -1,131 +1,111 @@
 //! Lines on mutexes, condition variables and barriers: calls, each by its thread, and what they answer.
 
-use crate::numbers::{numbers_of, write_number, write_whether, write_word};
+use crate::answer::Answer;
+use crate::numbers::numbers_of;
 use abi::Reply;
-use anyhow::{Result, anyhow};
 use condvar_barrier::{Objects, Woken};
-use std::alloc::AllocError;
 
 /// Takes a line on objects, if it is one.
 pub fn take_object_line(
-    answer: &mut String,
+    answer: &mut Answer,
     objects: &mut Objects,
     verb: &str,
     rest: &str,
-) -> Result<bool> {
+) -> bool {
+    let numbers = numbers_of(rest);
     match verb {
-        "lock" | "unlock" | "wait" => call(answer, objects, verb, numbers_of(rest)?)?,
-        "barrier" => pass(answer, objects, numbers_of(rest)?)?,
-        "signal" => signal(answer, objects, numbers_of(rest)?)?,
-        "broadcast" => broadcast(answer, objects, numbers_of(rest)?)?,
-        "release" | "take-back" | "holds" | "waits" => {
-            see(answer, objects, verb, numbers_of(rest)?)?;
-        }
-        _ => return Ok(false),
+        "lock" | "unlock" | "wait" | "barrier" => call(answer, objects, verb, numbers),
+        "signal" | "broadcast" => wake(answer, objects, verb, numbers),
+        "release" | "take-back" | "holds" | "waits" => see(answer, objects, verb, numbers),
+        _ => return false,
     }
-    Ok(true)
+    true
 }
 
-/// Carries out a call of a thread, and writes the reply.
+/// Carries out a call of a thread, and writes the reply, and who passes a barrier.
 fn call(
-    answer: &mut String,
+    answer: &mut Answer,
     objects: &mut Objects,
     verb: &str,
     [thread, first, second, _, _, _]: [u32; 6],
-) -> Result<()> {
+) {
     let is_blocked = objects.is_waiting(thread);
     if thread >= 256 || is_blocked {
-        return Err(anyhow!("no thread that runs: {thread}"));
+        return answer.word("no thread that runs");
     }
-    let reply = match verb {
-        "lock" => objects.lock(thread, first),
-        "unlock" => objects.unlock(thread, first),
-        _ => objects.wait(thread, first, second),
-    };
-    Ok(write_reply(answer, reply)?)
+    match verb {
+        "lock" => write_reply(answer, objects.lock(thread, first)),
+        "unlock" => write_reply(answer, objects.unlock(thread, first)),
+        "wait" => write_reply(answer, objects.wait(thread, first, second)),
+        _ => {
+            let passed = objects.barrier(thread, first, second);
+            write_reply(answer, passed.reply);
+            for thread in passed.let_go.as_slice() {
+                answer.push(", ");
+                answer.digits(u32::from(*thread));
+                answer.push(" passes");
+            }
+        }
+    }
 }
 
-/// Has a thread come to a barrier, and writes the reply and who passes.
-fn pass(
-    answer: &mut String,
+/// Signals a condition variable to one or to all, and writes the reply and who is woken.
+fn wake(
+    answer: &mut Answer,
     objects: &mut Objects,
-    [thread, barrier, count, _, _, _]: [u32; 6],
-) -> Result<()> {
-    let is_blocked = objects.is_waiting(thread);
-    if thread >= 256 || is_blocked {
-        return Err(anyhow!("no thread that runs: {thread}"));
-    }
-    let passed = objects.barrier(thread, barrier, count);
-    write_reply(answer, passed.reply)?;
-    for thread in passed.let_go.as_slice() {
-        write!(answer, ", {thread:x} passes")?;
-    }
-    Ok(())
-}
-
-/// Signals a condition variable, and writes the reply and who is woken.
-fn signal(
-    answer: &mut String,
-    objects: &mut Objects,
+    verb: &str,
     [condition, _, _, _, _, _]: [u32; 6],
-) -> Result<(), AllocError> {
+) {
+    if verb == "broadcast" {
+        let signalled = objects.broadcast(condition);
+        write_reply(answer, signalled.reply);
+        return write_woken(answer, signalled.let_go.as_slice());
+    }
     let signalled = objects.signal(condition);
-    write_reply(answer, signalled.reply)?;
-    match signalled.let_go {
-        Some(woken) => write_woken(answer, &[woken]),
-        None => Ok(()),
+    write_reply(answer, signalled.reply);
+    if let Some(woken) = signalled.let_go {
+        write_woken(answer, &[woken]);
     }
-}
-
-/// Signals a condition variable to all, and writes the reply and who is woken.
-fn broadcast(
-    answer: &mut String,
-    objects: &mut Objects,
-    [condition, _, _, _, _, _]: [u32; 6],
-) -> Result<(), AllocError> {
-    let signalled = objects.broadcast(condition);
-    write_reply(answer, signalled.reply)?;
-    write_woken(answer, signalled.let_go.as_slice())
 }
 
 /// Writes who is woken, with its mutex.
-fn write_woken(answer: &mut String, threads: &[Woken]) -> Result<(), AllocError> {
+fn write_woken(answer: &mut Answer, threads: &[Woken]) {
     for woken in threads {
-        write!(answer, ", {:x} takes {:x}", woken.thread, woken.mutex)?;
+        answer.push(", ");
+        answer.digits(u32::from(woken.thread));
+        answer.push(" takes ");
+        answer.digits(u32::from(woken.mutex));
     }
-    Ok(())
 }
 
 /// Writes a reply: its code and its value, that the caller waits, or that it ends.
-fn write_reply(answer: &mut String, reply: Reply) -> Result<(), AllocError> {
+fn write_reply(answer: &mut Answer, reply: Reply) {
     match reply {
         Reply::Completed { code, value } => {
-            write_number(answer, code.number())?;
-            match value {
-                Some(value) => write_number(answer, value),
-                None => Ok(()),
+            answer.number(code.number());
+            if let Some(value) = value {
+                answer.number(value);
             }
         }
-        Reply::Waits => write_word(answer, "wait"),
-        Reply::Ends => write_word(answer, "end"),
+        Reply::Waits => answer.word("wait"),
+        Reply::Ends => answer.word("end"),
     }
 }
 
 /// Frees the mutexes of a thread, gives it one back, or writes whether it holds any or waits.
 fn see(
-    answer: &mut String,
+    answer: &mut Answer,
     objects: &mut Objects,
     verb: &str,
     [thread, mutex, _, _, _, _]: [u32; 6],
-) -> Result<()> {
+) {
     if thread >= 256 {
-        return Err(anyhow!("no thread: {thread}"));
+        return answer.word("no thread");
     }
     match verb {
         "release" => objects.release_all(thread),
         "take-back" => objects.take_back(thread, mutex),
-        "holds" => write_whether(answer, objects.holds(thread))?,
-        _ => write_whether(answer, objects.is_waiting(thread))?,
+        "holds" => answer.whether(objects.holds(thread)),
+        _ => answer.whether(objects.is_waiting(thread)),
     }
-    Ok(())
 }

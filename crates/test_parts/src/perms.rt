@@ -1,8 +1,7 @@
 //! What pages permit, as texts: `rwx`, with `-` in the place of what isn't permitted.
 
-use crate::numbers::write_word;
+use crate::answer::Answer;
 use guest_memory::Perm;
-use std::alloc::AllocError;
 
 /// The permissions that a text says.
 pub fn perm_of(text: &str) -> Perm {
@@ -14,11 +13,11 @@ pub fn perm_of(text: &str) -> Perm {
 }
 
 /// Appends permissions to an answer, or `none`.
-pub fn write_perm(answer: &mut String, perm: Option<Perm>) -> Result<(), AllocError> {
+pub fn write_perm(answer: &mut Answer, perm: Option<Perm>) {
     let Some(perm) = perm else {
-        return write_word(answer, "none");
+        return answer.word("none");
     };
-    write_word(answer, if perm.read { "r" } else { "-" })?;
-    answer.push(if perm.write { 'w' } else { '-' })?;
-    answer.push(if perm.execute { 'x' } else { '-' })
+    answer.word(if perm.read { "r" } else { "-" });
+    answer.push(if perm.write { "w" } else { "-" });
+    answer.push(if perm.execute { "x" } else { "-" });
 }

@@ -1,37 +1,33 @@
 //! The rows: what each line is answered, compared with what it wants, and the line that is printed of a row.
 
+use crate::lined_row::LinedRow;
+use crate::lined_rows::lined_rows_of;
 use crate::scene::{Scene, take_line};
-use anyhow::{Result, anyhow};
+use anyhow::Result;
 use std::alloc::{AllocError, Global};
 use std::rt::Files;
-use test_guest_rows::{Differences, LinedRow, is_chosen, lined_rows_of, show, text_at};
+use test_guest_rows::{Differences, is_chosen, is_named, show, text_at};
 
 /// Prints the line of each row that is chosen: `NAME: ok`, or what differs.
 pub fn show_rows<R: AllocGlobal + Files + Print>(rt: &R, chosen: &[String]) -> Result<()> {
     for file in text_at(rt, "list")?.lines() {
-        if !file.is_empty() && !file.starts_with('#') {
-            show_file(rt, file, chosen)?;
+        if is_named(file) {
+            show_file(rt, text_at(rt, file)?.as_str(), chosen)?;
         }
     }
     Ok(())
 }
 
-/// Prints the lines of the rows of a file.
-fn show_file<R: AllocGlobal + Files + Print>(rt: &R, file: &str, chosen: &[String]) -> Result<()> {
-    let text = text_at(rt, file)?;
-    for row in &lined_rows_of(rt.alloc(), text.as_str())? {
+/// Prints the lines of the rows of a file's text.
+fn show_file<R: AllocGlobal + Print>(rt: &R, text: &str, chosen: &[String]) -> Result<()> {
+    for row in &lined_rows_of(rt.alloc(), text)? {
         if is_chosen(chosen, row.name.as_str()) {
-            show_row(rt, row)?;
+            let mut found = Differences::new(rt.alloc());
+            let compared = compare_row(rt.alloc(), row, &mut found);
+            show(rt, row.name.as_str(), compared, &found)?;
         }
     }
     Ok(())
-}
-
-/// Prints the line of a row.
-fn show_row<R: AllocGlobal + Print>(rt: &R, row: &LinedRow) -> Result<()> {
-    let mut found = Differences::new(rt.alloc());
-    let compared = compare_row(rt.alloc(), row, &mut found);
-    show(rt, row.name.as_str(), compared, &found)
 }
 
 /// Makes a row for each of its values, and notes what isn't as wanted.
@@ -45,13 +41,19 @@ fn compare_row(alloc: Global, row: &LinedRow, found: &mut Differences) -> Result
     Ok(())
 }
 
-/// Takes the lines of a row one by one, with this value in the place of `{}`.
+/// Takes the lines of a row one by one, with this value in the place of `{}`, and notes each whose answer isn't the wanted one.
 fn compare_once(alloc: Global, row: &LinedRow, value: &str, found: &mut Differences) -> Result<()> {
     let how = how_of(alloc, value)?;
     let mut scene = Scene::new(alloc)?;
     for line in &row.lines {
         let line = line.as_str().replace(alloc, "{}", value)?;
-        compare_line(&mut scene, line.as_str(), how.as_str(), found)?;
+        let (asked, wanted) = line
+            .as_str()
+            .split_once(" -> ")
+            .unwrap_or((line.as_str(), ""));
+        scene.answer.clear();
+        take_line(&mut scene, asked)?;
+        found.expect_text(scene.answer.text(), wanted, asked, how.as_str());
     }
     Ok(())
 }
@@ -62,14 +64,4 @@ fn how_of(alloc: Global, value: &str) -> Result<String, AllocError> {
         return String::from_str(alloc, "gives");
     }
     format!(in alloc; "at {value} gives")
-}
-
-/// Does what a line says, and notes it unless its answer is the wanted one.
-fn compare_line(scene: &mut Scene, line: &str, how: &str, found: &mut Differences) -> Result<()> {
-    let (asked, wanted) = line.split_once(" -> ").unwrap_or((line, ""));
-    scene.answer.clear();
-    if let Err(error) = take_line(scene, asked) {
-        return Err(anyhow!("{asked}: {error}"));
-    }
-    Ok(found.expect_text(scene.answer.as_str(), wanted, asked, how)?)
 }

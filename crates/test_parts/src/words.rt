@@ -1,17 +1,22 @@
 //! Lines on words and their instructions.
 
-use crate::numbers::{numbers_of, write_number, write_numbers};
-use anyhow::{Result, anyhow};
+use crate::answer::Answer;
+use crate::numbers::numbers_of;
 use decoder::*;
 use disassembler::text;
 use std::alloc::{AllocError, Global};
 
 /// Answers a line on words, if it is one.
-pub fn take_word_line(alloc: Global, answer: &mut String, verb: &str, rest: &str) -> Result<bool> {
+pub fn take_word_line(
+    alloc: Global,
+    answer: &mut Answer,
+    verb: &str,
+    rest: &str,
+) -> Result<bool, AllocError> {
     match verb {
-        "text" => write_text(alloc, answer, numbers_of(rest)?)?,
-        "parts" => write_parts(answer)?,
-        "make" => write_made(answer, rest)?,
+        "text" => write_text(alloc, answer, numbers_of(rest))?,
+        "parts" => write_parts(answer),
+        "make" => write_made(answer, rest),
         _ => return Ok(false),
     }
     Ok(true)
@@ -20,42 +25,40 @@ pub fn take_word_line(alloc: Global, answer: &mut String, verb: &str, rest: &str
 /// Writes the text of a word at an address, and whether the word's instruction is encoded otherwise.
 fn write_text(
     alloc: Global,
-    answer: &mut String,
+    answer: &mut Answer,
     [address, word, _, _, _, _]: [u32; 6],
 ) -> Result<(), AllocError> {
-    answer.push_str(text(alloc, address, word)?.as_str())?;
+    answer.push(text(alloc, address, word)?.as_str());
     let is_so = match decode(word) {
         Some(instr) => encode(&instr) == word,
-        None => answer.as_str().starts_with(".word "),
+        None => answer.text().starts_with(".word "),
     };
-    if is_so {
-        return Ok(());
+    if !is_so {
+        answer.push(", which is encoded otherwise");
     }
-    answer.push_str(", which is encoded otherwise")
+    Ok(())
 }
 
 /// Writes the numbers of a register, an amount, a field and an immediate.
-fn write_parts(answer: &mut String) -> Result<(), AllocError> {
-    let numbers = [
+fn write_parts(answer: &mut Answer) {
+    answer.numbers(&[
         u32::from(Register::new(31).number()),
         u32::from(ShiftAmount::new(31).number()),
         u32::from(FenceField::new(15).number()),
         Immediate::new(0xFFFF_F800).word(),
-    ];
-    write_numbers(answer, &numbers)
+    ]);
 }
 
 /// Writes the word of an instruction that is made of its parts, and whether the word is decoded otherwise.
-fn write_made(answer: &mut String, form: &str) -> Result<()> {
+fn write_made(answer: &mut Answer, form: &str) {
     let Some(instr) = made(form) else {
-        return Err(anyhow!("no instruction: {form}"));
+        return answer.word("no instruction");
     };
     let word = encode(&instr);
-    write_number(answer, word)?;
+    answer.number(word);
     if decode(word) != Some(instr) {
-        answer.push_str(", which is decoded otherwise")?;
+        answer.push(", which is decoded otherwise");
     }
-    Ok(())
 }
 
 /// An instruction with each kind of part: its destination is x31, and its sources are x2 and x3.

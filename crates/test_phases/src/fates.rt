@@ -4,7 +4,7 @@ use hart::Stop;
 use parallel_phase::Outcome;
 
 /// What became of a job, without its memory.
-#[derive(Clone, Copy, Debug, PartialEq, Eq)]
+#[derive(Clone, Copy, PartialEq, Eq)]
 pub enum Fate {
     /// It was run to this stop, executed so many instructions, and left pc here.
     Ran(Stop, u64, u32),

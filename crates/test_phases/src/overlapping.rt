@@ -10,7 +10,7 @@ use std::alloc::Global;
 use std::rt::Clock;
 use std::sync::Wait;
 use std::thread::Threads;
-use test_phase_by_phase::trace_of;
+use test_run_ways::trace_of;
 use token::Start;
 
 /// How often the run is made whose turns must overlap.

@@ -39,7 +39,7 @@ const WORDS: [u32; 12] = [
 ];
 
 /// A job, and what becomes of it.
-#[derive(Clone, Copy, Debug)]
+#[derive(Clone, Copy)]
 struct Row {
     /// The instruction that it begins at.
     instruction: u16,

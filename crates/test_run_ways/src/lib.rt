@@ -1,20 +1,18 @@
-//! Ways to make a run of a guest program: turn by turn, whole by the run time, with its recorders, phase by phase and by picked
-//! events. Each is compared with what the run's row says.
+//! Ways to make a run besides the run time's: by events that a seed picks, and phase by phase. Its tests are of what a run by written
+//! events lends in the middle.
 //!
-//! [`compare_run`] makes a run in all these ways, and [`compare_program`] compares a program's listing and its file.
+//! [`Dice`] picks events, which need not be enabled, and [`walk_to_end`] makes them happen in a world until its run ends. [`trace_of`]
+//! makes a run phase by phase, in which a taker does the turns in order while later jobs run, and answers its trace.
 #![tactic(auto)]
 
-mod case;
-mod every_way;
-mod listings;
-mod phases;
-mod recorded;
-mod sharing_gate;
-mod turn_by_turn;
-mod walked;
+mod dice;
+#[cfg(test)]
+mod lent;
+mod phase_turns;
+mod walker;
 mod whole_runs;
 
-pub use case::Case;
-pub use every_way::{Effort, compare_call, compare_run};
-pub use listings::compare_program;
-pub use walked::{Tally, show_walks};
+pub use dice::Dice;
+pub use phase_turns::PhaseTurns;
+pub use walker::walk_to_end;
+pub use whole_runs::trace_of;

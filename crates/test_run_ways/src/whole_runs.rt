@@ -1,80 +1,73 @@
-//! Whole runs by the run time, with few and with many workers.
+//! Whole runs taken phase by phase.
+ghost use Rattle.std.specs.Prelude.{◌≡◌, ◌<◌, ◌≤◌, IfOk};
+ghost use Rattle.claim_table.specs.Logs.{most_seats};
+ghost use Rattle.token.specs.RunInTurn.{point_of};
 
-use crate::case::{Case, ending_text};
-use crate::sharing_gate::SharingGate;
-use anyhow::{Result, anyhow};
-use runtime::{Config, Gate, OpenGate, Report, run};
-use sharing_report::report_text;
+use crate::phase_turns::PhaseTurns;
+use claim_table::JOBS;
+use parallel_phase::run_in_order;
+use phase_jobs::Gate;
 use std::alloc::{AllocError, Global};
+use std::marker::Brand;
 use std::sync::Wait;
 use std::thread::Threads;
-use test_guest_rows::Differences;
+use token::{Kept, Need, Serial, Start};
 use tracer::trace_text;
+use worker_pool::OfRun;
 
-/// The numbers of workers that each run is made with.
-const WORKERS: [u32; 5] = [1, 2, 3, 4, 64];
-
-/// Compares the report of a run with each number of workers, and with four that share no short phase.
-pub fn compare(
-    rt: &(impl Threads + Wait + Sync),
+/// Does the turns of the phase that a run is in.
+fn do_phase<B: OfRun, G: Gate + Sync, R: Threads + Wait + Sync>(
+    rt: &R,
     alloc: Global,
-    case: Case<'_>,
-    found: &mut Differences,
-) -> Result<()> {
-    for workers in WORKERS {
-        let report = report_of(rt, alloc, case, workers, &SharingGate)?;
-        let how = format!(in alloc; "with {workers} workers")?;
-        compare_report(alloc, case, &report, how.as_str(), found)?;
-    }
-    let report = report_of(rt, alloc, case, 4, &OpenGate)?;
-    Ok(compare_report(alloc, case, &report, "with 4 workers on call", found)?)
-}
-
-/// Compares the report of a run with four workers.
-pub fn compare_once(
-    rt: &(impl Threads + Wait + Sync),
-    alloc: Global,
-    case: Case<'_>,
-    found: &mut Differences,
-) -> Result<()> {
-    let report = report_of(rt, alloc, case, 4, &SharingGate)?;
-    Ok(compare_report(alloc, case, &report, "with 4 workers", found)?)
-}
-
-/// The report of a run with so many workers.
-fn report_of(
-    rt: &(impl Threads + Wait + Sync),
-    alloc: Global,
-    case: Case<'_>,
+    serial: Serial<Kept>,
     workers: u32,
-    gate: &(impl Gate + Sync),
-) -> Result<Report> {
-    let config = Config {
-        bound: case.bound(),
-        quantum: case.quantum(),
-        workers,
-    };
-    match run(rt, alloc, case.file, &case.run.input, &config, gate) {
-        Ok(report) => Ok(report),
-        Err(fault) => Err(anyhow!("{fault}")),
+    gate: &G,
+) -> Result<Serial<Kept>, AllocError>
+    requires setup { (point_of serial).setup ≡ B.setup }
+    requires workers { (0 < workers) × (workers ≤ most_seats) }
+    ensures { IfOk result (λ after. (point_of after).setup ≡ B.setup) }
+{
+    let mut turns = PhaseTurns::<B, G>::open(alloc, serial, gate)?;
+    let jobs = Vec::from_slice(alloc, turns.jobs())?;
+    let base = turns.base().try_clone()?;
+    if jobs.len() <= JOBS {
+        run_in_order(rt, alloc, jobs.as_slice(), workers, gate, &base, &mut turns)?;
     }
+    Ok(turns.into_serial())
 }
 
-/// Compares the report of a run.
-fn compare_report(
+/// Does all turns of a run.
+fn do_phases<B: OfRun, G: Gate + Sync, R: Threads + Wait + Sync>(
+    rt: &R,
     alloc: Global,
-    case: Case<'_>,
-    report: &Report,
-    how: &str,
-    found: &mut Differences,
-) -> Result<(), AllocError> {
-    let wanted = case.run;
-    let trace = trace_text(alloc, &report.trace)?;
-    found.expect_text(trace.as_str(), wanted.trace.as_str(), "trace", how)?;
-    let sharing = report_text(alloc, &report.sharing)?;
-    found.expect_text(sharing.as_str(), wanted.report.as_str(), "report", how)?;
-    let ending = ending_text(alloc, report.outcome)?;
-    found.expect_text(ending.as_str(), wanted.ending.as_str(), "ending", how)?;
-    found.expect(wanted.output.is(&report.output), "output", how)?;
-    found.expect(case.is_memory(&report.memory), "memory", how)
+    serial: Serial<Kept>,
+    workers: u32,
+    gate: &G,
+) -> Result<Serial<Kept>, AllocError>
+    requires setup { (point_of serial).setup ≡ B.setup }
+    requires workers { (0 < workers) × (workers ≤ most_seats) }
+{
+    let mut serial = serial;
+    for _ in rt.forever() {
+        if let Need::Ended(_) = serial.need() {
+            return Ok(serial);
+        }
+        serial = do_phase::<B, G, R>(rt, alloc, serial, workers, gate)?;
+    }
+    unreachable!()
+}
+
+/// The trace of a run whose phases are done one by one, with so many workers. The gate is told of jobs and turns.
+pub fn trace_of<G: Gate + Sync, R: Threads + Wait + Sync>(
+    rt: &R,
+    alloc: Global,
+    start: Start,
+    workers: u32,
+    gate: &G,
+) -> Result<String, AllocError>
+    requires { (0 < workers) × (workers ≤ most_seats) }
+{
+    let serial = start.recorded_by(Kept::new(alloc));
+    let ended = do_phases::<Brand, G, R>(rt, alloc, serial, workers, gate)?;
+    trace_text(alloc, ended.turns())
 }

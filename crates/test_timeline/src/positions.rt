@@ -3,7 +3,7 @@ use crate::rows::{Limits, MOST, Own, Row, WORD, own_of, rows_of, timeline_of, wo
 use anyhow::Result;
 use data_guest_programs::Program;
 use std::alloc::{AllocError, Global};
-use test_random_schedules::Dice;
+use test_run_ways::Dice;
 use timeline::{Spacing, Stops, Timeline};
 
 /// A run in which a thread may execute a few thousand instructions.

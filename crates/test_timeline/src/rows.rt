@@ -44,7 +44,7 @@ fn check(limits: &Limits) -> Result<()>
 }
 
 /// What is looked at in a thread's turn.
-#[derive(Clone, Copy, Debug, PartialEq, Eq)]
+#[derive(Clone, Copy, PartialEq, Eq)]
 pub struct Own {
     pub pc: u32,
     /// The sum of its registers, each times its number and one.
@@ -53,7 +53,7 @@ pub struct Own {
 }
 
 /// What is looked at in a position.
-#[derive(Clone, Copy, Debug, PartialEq, Eq)]
+#[derive(Clone, Copy, PartialEq, Eq)]
 pub struct Row {
     /// How many turns are done.
     pub done: usize,

@@ -6,7 +6,7 @@ use std::alloc::{AllocError, Global};
 use timeline::{Stage, Timeline};
 
 /// What a plain scan sees at a position.
-#[derive(Clone, Copy, Debug)]
+#[derive(Clone, Copy)]
 pub struct Seen {
     pub thread: u32,
     /// The pc, none if no instruction is due.

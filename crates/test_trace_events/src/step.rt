@@ -27,7 +27,7 @@ pub const BARRIER: u32 = 10;
 pub const SYNC: u32 = 14;
 
 /// A turn in a short form.
-#[derive(Clone, Copy, Debug)]
+#[derive(Clone, Copy)]
 pub enum Step {
     /// The phase, the thread, a call with its arguments, what it comes to, and how many instructions ran.
     Call(u64, u32, u32, [u32; 3], Answer, u64),
@@ -40,7 +40,7 @@ pub enum Step {
 }
 
 /// What a call comes to.
-#[derive(Clone, Copy, Debug)]
+#[derive(Clone, Copy)]
 pub enum Answer {
     /// It is done.
     Done,

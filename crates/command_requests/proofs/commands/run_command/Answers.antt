@@ -10,4 +10,4 @@ returns c =
     let two = adds _ spec.input _ _ _ one c.input.ensures c.in_ok-arg-2.ensures in
     let four = defaulted spec.workers c.workers.result _ c.default_value.result c.workers.ensures c.default_value.ensures in
     let three = adds _ (record spec.workers { defaults = codes "4" ∷ [] }) _ _ _ two four c.in_ok-command.ensures in
-    c.with_records.ensures _ (c.in_ok-limited.ensures _ three)
+    rw c.all.ensures at (c.with_texts.ensures _ (c.in_ok-limited.ensures _ three))

@@ -35,5 +35,5 @@ returns-clause-asked g c =
     let program_is : app_of c.in_ok-program.program ≡ spec.program = c.in_ok-program.ensures in
     let found = (c.in_ok-matches.ensures.ok.2 (ap is_simple program_is)).1 ∙ ap (λ (app : App). subcommand_of app words) program_is in (
       passed (app_of c.in_ok-program.program) words program_is (c.in_ok-matches.ensures.kinds (ap is_simple_and_free program_is)),
-      subst (λ (found : Option (Text × List Row)). AsksFor found c.requested.result) found c.requested.ensures,
+      subst (λ (found : Option (Text × List Row)). AsksFor found c.in_ok-requested.field-0) found c.in_ok-requested.ensures,
     )

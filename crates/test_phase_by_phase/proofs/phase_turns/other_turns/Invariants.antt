@@ -1,6 +1,0 @@
-use Rattle.std.proofs.Common.{◌≡◌}
-use Rattle.token.specs.RunInTurn.{point_of}
-use Rattle.test_phase_by_phase.proofs.phase_turns.other_turns.Given as goal
-
-abbrev pub invariant-loop : goal.invariant-loop
-invariant-loop g l = (point_of l.serial).setup ≡ (point_of l.fn.serial).setup
