@@ -12,7 +12,7 @@
 #include <threads.h>
 #include <time.h>
 #include <unistd.h>
-#include "../library/monitor.h"
+#include "../library/threads/monitor.h"
 
 #define ROW(name, ...) \
     do { \

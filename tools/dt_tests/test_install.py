@@ -90,9 +90,9 @@ class Library(OfACopy):
 
     def setUp(self):
         super().setUp()
-        for it in os.listdir(f"{self.copy}/guest/library"):
-            if it.endswith(".c") and it not in ("quick_exit.c", "status.c"):
-                os.remove(f"{self.copy}/guest/library/{it}")
+        for it in glob.glob(f"{self.copy}/guest/library/*/*.c"):
+            if os.path.basename(it) not in ("quick_exit.c", "status.c"):
+                os.remove(it)
 
     def test_it_is_built_if_its_compiler_is_there(self):
         said = self.install()

@@ -91,7 +91,7 @@ class Sums(unittest.TestCase):
             part = next(it for it in kit_tests.PARTS if it.name == name)
             return {file for it in (*kit_tests.COMMON, *part.reads) for file in kit_tests.files_below(it)}
 
-        wanted = {"guest/library", "guest/include", "tools/dt_commands", "guest/tests"}
+        wanted = {"guest/library/threads", "guest/library/files", "guest/include", "tools/dt_commands", "guest/tests"}
         self.assertTrue(wanted <= {os.path.dirname(it) for it in read("guest programs")})
         self.assertTrue({"guest/dthreads-cc", "guest/packages", "guest/link.ld", "tools/dt", "guest/tests/list"} <= read("guest programs"))
         self.assertFalse([it for it in read("guest programs") if it.startswith(("guest/out", "guest/tests/gdb"))])

@@ -8,7 +8,7 @@
 #include <fcntl.h>
 #include <limits.h>
 #include <string.h>
-#include "monitor.h"
+#include "../threads/monitor.h"
 #include "console.h"
 
 enum {

@@ -3,7 +3,7 @@
 #define SIGNALS_H
 
 #include <signal.h>
-#include "monitor.h"
+#include "../threads/monitor.h"
 
 #define BIT(signal) (UINT64_C(1) << (signal))
 

@@ -14,7 +14,7 @@
 #include <dthreads.h>
 #include "hints.h"
 #include "offsets.h"
-#include "names.h"
+#include "../names.h"
 
 enum {
     /* Conditions that sleepers share by their number. */

@@ -2,7 +2,7 @@
 #include <stdio.h>
 #include <stdlib.h>
 #include <string.h>
-#include "monitor.h"
+#include "../threads/monitor.h"
 
 struct memory_stream {
     struct __file_ext file;

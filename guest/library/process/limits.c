@@ -1,6 +1,6 @@
 /* Priorities and limits of the process, which has the machine for itself. */
 #include <sys/resource.h>
-#include "monitor.h"
+#include "../threads/monitor.h"
 
 /* Open descriptors at most. */
 #define DESCRIPTORS 256

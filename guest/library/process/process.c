@@ -1,8 +1,8 @@
 /* The run's beginning and end. */
 #include <stdlib.h>
 #include <unistd.h>
-#include "console.h"
-#include "packed.h"
+#include "../files/console.h"
+#include "../files/packed.h"
 
 /* Only a program in C++ with its library has it. */
 __attribute__((weak)) void dthreads_unwind_begin(void);

@@ -7,7 +7,7 @@
 #include <sys/times.h>
 #include <sys/utsname.h>
 #include <unistd.h>
-#include "monitor.h"
+#include "../threads/monitor.h"
 
 enum {
     PROCESSORS = 4

@@ -2,7 +2,7 @@
 #include <string.h>
 #include <unistd.h>
 #include <sys/mman.h>
-#include "monitor.h"
+#include "../threads/monitor.h"
 
 static void *refuse(int code)
 {

@@ -5,7 +5,7 @@
 #include <stdio.h>
 #include <string.h>
 #include <wchar.h>
-#include "decimal.h"
+#include "../numbers/decimal.h"
 #include "wide.h"
 
 enum {

@@ -1,6 +1,6 @@
 /* An end without the functions of atexit. */
 #include <stdlib.h>
-#include "monitor.h"
+#include "../threads/monitor.h"
 
 enum {
     MOST = 32

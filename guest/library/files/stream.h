@@ -3,7 +3,7 @@
 #define STREAM_H
 
 #include <stdio.h>
-#include "monitor.h"
+#include "../threads/monitor.h"
 
 struct stream {
     FILE file;

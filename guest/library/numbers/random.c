@@ -2,8 +2,8 @@
 #include <stdlib.h>
 #include <unistd.h>
 #include <sys/random.h>
-#include "console.h"
-#include "files.h"
+#include "../files/console.h"
+#include "../files/files.h"
 
 uint64_t random_state;
 

@@ -2,7 +2,7 @@
 #ifndef CONSOLE_H
 #define CONSOLE_H
 
-#include "monitor.h"
+#include "../threads/monitor.h"
 
 /* Kinds of the pieces of a framed output: docs/C-REFERENCE.md has the form. */
 enum frame {

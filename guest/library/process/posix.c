@@ -1,7 +1,7 @@
 /* What little there is of a process of POSIX. */
 #include <signal.h>
 #include <unistd.h>
-#include "console.h"
+#include "../files/console.h"
 
 /* Open descriptors at most, and bytes of arguments. */
 #define DESCRIPTORS 256

@@ -4,7 +4,7 @@
 
 #include <stdbool.h>
 #include <stdint.h>
-#include "names.h"
+#include "../names.h"
 
 enum {
     /* Decimal digits of a limb. */

@@ -5,7 +5,7 @@
 #include <stdbool.h>
 #include <stdio.h>
 #include <wchar.h>
-#include "names.h"
+#include "../names.h"
 
 /* A character of which some bytes came. */
 struct utf8 {

@@ -4,7 +4,7 @@
 #include <string.h>
 #include <errno.h>
 #include <malloc.h>
-#include "monitor.h"
+#include "../threads/monitor.h"
 
 enum {
     HEAP_START = 0x20000000,

@@ -1,6 +1,6 @@
 /* What C++ needs without its library: new and delete, and statics that are made once. */
 #include <stdlib.h>
-#include "monitor.h"
+#include "../threads/monitor.h"
 
 struct guard {
     uint8_t is_made;

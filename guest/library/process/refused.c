@@ -1,5 +1,5 @@
 /* What can't be had. */
-#include "monitor.h"
+#include "../threads/monitor.h"
 
 /* There is no fork that would call them. */
 int pthread_atfork(void (*prepare)(void), void (*parent)(void), void (*child)(void))

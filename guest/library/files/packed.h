@@ -3,7 +3,7 @@
 #define PACKED_H
 
 #include <stdint.h>
-#include "names.h"
+#include "../names.h"
 
 /* What comes first: how many arguments and variables there are, and the bytes of their texts, each with the zero at its end. */
 struct packed {

@@ -3,7 +3,7 @@
 #include <limits.h>
 #include <stdlib.h>
 #include <time.h>
-#include "wide.h"
+#include "../text/wide.h"
 #include "stream.h"
 
 #undef getwc

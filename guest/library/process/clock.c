@@ -1,5 +1,5 @@
 /* The clock: each operation moves it on, and where all threads wait it jumps to the next deadline. */
-#include "monitor.h"
+#include "../threads/monitor.h"
 
 bool deadline_of(clockid_t clock, const struct timespec *time, uint64_t *deadline)
 {

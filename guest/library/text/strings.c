@@ -4,7 +4,7 @@
 #include <stdbool.h>
 #include <stdint.h>
 #include <string.h>
-#include "hints.h"
+#include "../threads/hints.h"
 
 /* A word that may be part of any object. */
 typedef uint32_t __attribute__((may_alias)) word;

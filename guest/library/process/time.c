@@ -2,7 +2,7 @@
 #include <sys/time.h>
 #include <sys/times.h>
 #include <unistd.h>
-#include "monitor.h"
+#include "../threads/monitor.h"
 
 static bool is_clock(clockid_t clock)
 {

@@ -1,3 +1,4 @@
+/* The monitor's data, the list of those that wait to go on, and leaving it. */
 #include "monitor.h"
 
 struct monitor monitor;
