@@ -6,8 +6,8 @@ are one named record in specs/. Prints each line of a clause of more than 140 co
 import collections
 import re
 
-from .made_up_errors import files_of
 from .repository import TOP
+from .sources import files_of
 from .texts import read_text
 
 # A clause of a contract, from a line's start to the brace that ends it at a line's end.

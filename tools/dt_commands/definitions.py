@@ -3,6 +3,7 @@ import os
 import re
 
 from .repository import TOP, crates
+from .sources import below
 from .texts import read_text
 
 # The functions that carry the headline, by crate: the call that the program makes, and those of the library beside it.
@@ -11,12 +12,6 @@ LIBRARY = [("runtime", "run"), ("runtime", "run_into"), ("runtime", "run_recorde
 
 NAME = re.compile(r"[^\W\d]\w*'*(?:\.[^\W\d]\w*'*)*")
 HEAD = re.compile(r"^(?:(?:abbrev|unfoldable)(?: pub)?|pub record|record|pub data|data) ([^\W\d]\w*'*)", re.M)
-
-
-def sources(folder, ending):
-    for where, _, names in sorted(os.walk(folder)):
-        if "/out" not in where:
-            yield from (f"{where}/{it}" for it in sorted(names) if it.endswith(ending))
 
 
 def without_comments(text):
@@ -58,7 +53,7 @@ def modules():
     found = {}
     for crate in crates():
         folder = f"{TOP}/crates/{crate}/specs"
-        for file in sources(folder, ".antt"):
+        for file in below(folder, ".antt"):
             path = os.path.relpath(file, folder)[:-len(".antt")].replace("/", ".")
             found[(crate, "specs", *path.split("."))] = Module(crate, file)
     return found
@@ -82,7 +77,7 @@ def used(text, items, aliases, own, path):
 
 def contract(crate, function):
     """Returns the contract of a public function and what it refers to; None if the crate has no such function."""
-    for file in sources(f"{TOP}/crates/{crate}/src", ".rt"):
+    for file in below(f"{TOP}/crates/{crate}/src", ".rt"):
         text = read_text(file)
         head = re.search(rf"^pub fn {function}\b.*?^\{{", text, re.M | re.S)
         if head:

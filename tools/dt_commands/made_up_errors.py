@@ -14,12 +14,9 @@ import os
 import re
 
 from .repository import TOP
+from .sources import code_of, files_of, for_tests
 from .texts import read_text
 
-# What holds no code: comments, texts, imports, attributes, contracts and what else is for proofs, and the declarations of types.
-NO_CODE = re.compile(
-    r"""//[^\n]*|"(?:[^"\\]|\\.)*"|^ *(?:pub )?(?:ghost )?use [^;]*;|#!?\[[^\]]*\]|^ *(?:requires|ensures)\*? ?\w* ?\{.*?\}$|^ *ghost .*?;$"""
-    r"""|^(?P<indent> *)(?:pub(?:\(\w+\))? )?(?:enum|struct) \w[^\n;]*\{\n.*?^(?P=indent)\}""", re.M | re.S)
 VALUE = re.compile(r"\bAllocError\b|\b\w+::OutOfMemory\b(?!\()")
 # What stands right before or behind a type, a pattern, and what is compared.
 BEFORE_TYPE, BEHIND_TYPE = re.compile(r"((?<!:):|->|<|\b(for|as|dyn)|&)\s*\Z"), re.compile(r">|::")
@@ -87,7 +84,7 @@ def is_handed_on(lines, at, column):
 
 def complaints(source):
     """Returns, for each value of a source that says out of memory and was not told, its line and its name."""
-    code = NO_CODE.sub(lambda it: re.sub(r"[^\n]", " ", it[0]), source)
+    code = code_of(source)
     lines, found = code.split("\n"), []
     for value in VALUE.finditer(code):
         before, behind, name = code[: value.start()], code[value.end() :], value[0].rpartition("::")[2]
@@ -101,30 +98,13 @@ def complaints(source):
     return found
 
 
-def files_of(top):
-    """Yields the source files of all crates."""
-    for crate in sorted(os.listdir(f"{top}/crates")):
-        for folder, _, names in sorted(os.walk(f"{top}/crates/{crate}/src")):
-            yield from (f"{folder}/{it}" for it in sorted(names) if it.endswith(".rt"))
-
-
-def test_modules(files):
-    """Returns the files and folders of the modules that are there for tests alone."""
-    found = set()
-    for file in files:
-        base = os.path.dirname(file) if re.search(r"/(lib|main)\.rt$", file) else file[:-3]
-        for name in re.findall(r"#\[cfg\(test\)\]\s*(?:pub\(\w+\) )?mod (\w+);", read_text(file)):
-            found |= {f"{base}/{name}.rt", f"{base}/{name}/"}
-    return found
-
-
 def lines_found(top):
     """Returns the number of sources, and file, line number, name and text of each value that nobody told."""
     files = list(files_of(top))
-    tests, found = test_modules(files), []
+    tests, found = for_tests(files), []
     for file in files:
         name = os.path.relpath(file, top)
-        if name in FAKES or any(file == it or it.endswith("/") and file.startswith(it) for it in tests):
+        if name in FAKES or file in tests:
             continue
         text = read_text(file)
         lines = text.split("\n")

@@ -15,6 +15,7 @@ import re
 
 from . import conformance_page, crate_pages, debugging_page, definitions, layer_picture, man_page, page_links, uncontracted
 from .repository import TOP
+from .sources import below
 from .texts import read_text, write_file
 
 
@@ -59,7 +60,7 @@ def quoted():
 def misquoted():
     """Returns the lines of blocks marked `antt` that are in no definition and no contract, each with its page."""
     sources = set()
-    for file in definitions.sources(f"{TOP}/crates", (".antt", ".rt")):
+    for file in below(f"{TOP}/crates", (".antt", ".rt")):
         if "/proofs/" not in file:
             sources |= {it.strip() for it in read_text(file).split("\n")}
     return [f"{page}: {line}" for page, line in quoted() if line.strip() not in sources]

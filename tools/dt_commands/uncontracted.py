@@ -1,10 +1,7 @@
 """The public functions of the product that have no `ensures`: which crates have them, and how many. docs/PROVED.md lists them."""
 import re
 
-from dt_commands import layers
-from dt_commands.made_up_errors import files_of
-from dt_commands.repository import TOP
-from dt_commands.texts import read_text
+from dt_commands import sources
 from dt_mutants.functions import functions_of
 
 PUBLIC = re.compile(r"^ *pub (?:const )?fn ", re.M)
@@ -38,11 +35,8 @@ def told(counts):
 
 def listed():
     """Returns the sentence for the product's crates, in the order of crates.txt."""
-    rows = list(layers.rows_of(read_text(f"{TOP}/crates.txt")))
-    counts = {name: [0, 0] for section, name, _ in rows if section in layers.PRODUCT}
-    for file in files_of(TOP):
-        crate = file[len(TOP) + 1 :].split("/")[1]
-        if crate in counts:
-            found = counted(file, read_text(file))
-            counts[crate] = [old + new for old, new in zip(counts[crate], found)]
+    counts = {it: [0, 0] for it in sources.product()}
+    for file, text in sources.of_product("src", ".rt"):
+        crate = sources.crate_of(file)
+        counts[crate] = [old + new for old, new in zip(counts[crate], counted(file, text))]
     return told(counts)

@@ -8,7 +8,7 @@ import tempfile
 import unittest
 from unittest import mock
 
-from dt_commands import clauses, host_threads, layers, made_up_errors, page_links, pages, samples
+from dt_commands import catch_alls, clauses, exceptions, host_threads, layers, made_up_errors, page_links, pages, samples, sources, uncalled
 from dt_commands.repository import TOP
 from dt_commands.texts import write_file
 
@@ -37,6 +37,11 @@ class Checks(unittest.TestCase):
 
     def test_no_clauses_fail(self):
         self.assertIn("0 clauses", self.fails(clauses.check, mock.patch.object(clauses, "files_of", return_value=[])))
+
+    def test_a_product_without_sources_fails(self):
+        empty = mock.patch.object(sources, "of_product", return_value=[]), mock.patch.object(exceptions, "places", return_value={})
+        self.assertIn("0 files", self.fails(catch_alls.check, *empty))
+        self.assertIn("0 functions", self.fails(uncalled.check, *empty))
 
     def test_no_crates_fail(self):
         patches = mock.patch.object(layers, "rows_of", return_value=[]), mock.patch.object(layers, "complaints", return_value=[])
