@@ -1,11 +1,10 @@
-"""Timelines of runs, against the definitions.
+"""Timelines of runs, beside their traces and reports, and with other numbers of workers.
 
 Guests are the samples, the programs of crates/test_guest_runs/data, random programs, the samples in C and, if the compiler is there, the
-programs of guest/tests, with no quantum and with others. Each timeline is compared byte by byte with the one that timelines.py works out
-from the run's trace, for 1, 2, 4 and 64 workers. How many pages a turn changed isn't in the trace. These numbers are worked out for programs of crates/test_guest_runs/data and for runs
-whose report has one page, and the debugger is asked for those of other short runs. The rest is taken from the timeline, within bounds.
-All numbers together must be the report's. The timeline and the races beside the sample race are compared too. DTHREADS names the program
-that runs the guests, or else ./dthreads.
+programs of guest/tests, with no quantum and with others. That the text is the one of the definitions is proved. Here each timeline must be
+JSON with the turns of the run's trace and as many changed pages as the report has, and the same text for 1, 2, 4 and 64 workers. The
+timeline and the races beside the sample race must be what the program writes. DTHREADS names the program that runs the guests, or else
+./dthreads.
 """
 import json
 import os
@@ -15,19 +14,19 @@ import shutil
 import subprocess
 from collections import namedtuple
 
-from dt_commands import c_samples, changed_pages, guest_runs, guest_tests, random_guests, sample_pictures, timelines, written_guests
+from dt_commands import c_samples, guest_runs, guest_tests, random_guests, sample_pictures, written_guests
 from dt_commands.repository import TOP
-from dt_commands.texts import contents, first_difference, rows_of, write_file
+from dt_commands.texts import contents, rows_of, write_file
 
-SECONDS, SEEDS, PAGE = 120, range(1, 61), 4096
+SECONDS, SEEDS = 120, range(1, 61)
 # A quantum that would give a run more turns than these is left out.
 MOST_TURNS = 6000
 # Samples without an end get this bound.
 ENDLESS, BOUND = ("counting", "mixed", "turns"), ["--bound", "20000"]
 QUANTA = {"written": (None, 1, 2, 3, 7, 100), "random": (None, 1000), "c": (None, 10_000)}
-# A guest: its name, its file, or a function that makes it in a folder, the words of its run, its input, the quanta that it is tried
-# with, and the addresses that its run without another quantum changes, or None.
-Guest = namedtuple("Guest", "name file words given quanta changed")
+# A guest: its name, its file, or a function that makes it in a folder, the words of its run, its input, and the quanta it is tried with.
+Guest = namedtuple("Guest", "name file words given quanta")
+LINE = re.compile(r"(\d+) (\d+) (\S.*) changed=(\d+) ran=(\d+)")
 
 
 def arguments(parser):
@@ -50,51 +49,44 @@ def run(guest, file, quantum, room, workers, kinds):
     return [contents(it) for it in files.values()], ran.stderr[:200].decode(errors="replace")
 
 
-def pages_of(text):
-    """Returns the pages that a timeline says of each turn, by its number."""
-    told = [it["args"] for it in json.loads(text)["traceEvents"] if it.get("cat") == "segment"]
-    if not all(type(it["pages"]) is int for it in told):
-        raise TypeError("a number of pages is none")
-    return {it["turn"]: it["pages"] for it in told}
+def turns_traced(trace):
+    """Returns what a trace has of each turn: its number, phase and thread, what it did, changed bytes and instructions."""
+    found = enumerate(map(LINE.fullmatch, trace.splitlines()), 1)
+    return [(number, int(it[1]), int(it[2]), it[3], int(it[4]), int(it[5])) for number, it in found]
 
 
-def page_faults(pages, turns, report):
-    """Yields what can't be so of these numbers of pages."""
-    rows = [dict(part.split("=") for part in line.split()) for line in report.splitlines()]
-    for turn in turns:
-        count = pages.get(turn.number, 0)
-        if not -(-turn.changed // PAGE) <= count <= min(turn.changed, len(rows)):
-            yield f"turn {turn.number} changed {turn.changed} bytes, in {count} pages"
-    if sum(pages.values()) != sum(int(it["turns"]) for it in rows):
-        yield f"the turns changed {sum(pages.values())} pages in all, the report says {sum(int(it['turns']) for it in rows)}"
+def turns_shown(events):
+    """Returns the same of a timeline's events. The turn of a woken thread, which has no segment, has its phase from no event."""
+    segments = {it["args"]["turn"]: it for it in events if it.get("cat") == "segment"}
+    for it in (it for it in events if it.get("cat") == "turn"):
+        number = it["args"]["turn"]
+        segment = segments.get(number, {"args": {"phase": None, "changed": 0}, "dur": 0})
+        yield number, segment["args"]["phase"], it["tid"], it["args"]["text"], segment["args"]["changed"], segment["dur"]
 
 
-def known_pages(guest, file, quantum, texts, room):
-    """Returns how many pages each turn changed, by its number, as far as it is known without the timeline."""
-    trace, report = (it.decode() for it in texts[:2])
-    turns, addresses = timelines.turns_of(trace), [int(it, 16) for it in re.findall(r"^page=(\w+)", report, re.M)]
-    if guest.changed is not None and not quantum:
-        return written_guests.pages(turns, guest.changed)
-    pages = timelines.pages_if_one(trace, report)
-    if pages is None and changed_pages.is_short(turns, addresses):
-        write_file(f"{room}/input", guest.given)
-        words = [*guest.words, *(["--quantum", str(quantum)] if quantum else []), "--input", f"{room}/input"]
-        pages = changed_pages.pages(file, words, turns, addresses)
-    return pages or {}
+def pages_reported(report):
+    """Returns how many pages the turns changed in all, by the run's report."""
+    return sum(map(int, re.findall(r"^page=\w+ turns=(\d+)", report, re.M)))
 
 
-def faults(known, texts):
-    """Yields what is wrong with the timeline of a run, by its trace and its report, and the pages that are known."""
-    trace, report, text = (it.decode() for it in texts)
+def faults(trace, report, text):
+    """Yields in what a timeline differs from the trace and the report of its run."""
     try:
-        pages = {**pages_of(text), **known}
+        whole = json.loads(text)
+        shown, wanted = list(turns_shown(whole["traceEvents"])), turns_traced(trace)
+        pages = sum(it["args"]["pages"] for it in whole["traceEvents"] if it.get("cat") == "segment")
+        told = [whole["otherData"][it] for it in ("turns", "instructions")]
     except (ValueError, KeyError, TypeError) as why:
         yield f"it is no timeline: {why!r}"
         return
-    yield from list(page_faults(pages, timelines.turns_of(trace), report))[:3]
-    wanted = timelines.timeline(trace, pages)
-    if text != wanted:
-        yield f"not as defined: {first_difference(text.encode(), wanted.encode())}"
+    wanted = [it if not it[3].startswith("wake ") else (it[0], None, *it[2:]) for it in wanted]
+    differing = [(one, other) for one, other in zip(shown, wanted) if one != other]
+    if differing or len(shown) != len(wanted):
+        yield f"{len(shown)} turns of {len(wanted)}; the first that differs is {differing[:1]}"
+    if told != [len(wanted), sum(it[-1] for it in wanted)]:
+        yield f"its sums are {told}"
+    if pages != pages_reported(report):
+        yield f"the turns changed {pages} pages in all, the report says {pages_reported(report)}"
 
 
 def test_guest(tally, room, guest):
@@ -115,8 +107,9 @@ def test_guest(tally, room, guest):
         if None in texts:
             tally.fail(f"{where}: no timeline: {errors}")
             return
-        instructions = instructions or sum(it.ran for it in timelines.turns_of(texts[0].decode()))
-        for it in faults(known_pages(guest, file, quantum, texts, room), texts):
+        trace = texts[0].decode()
+        instructions = instructions or sum(it[-1] for it in turns_traced(trace))
+        for it in faults(trace, texts[1].decode(), texts[2].decode()):
             tally.fail(f"{where}: {it}")
         for workers in guest_runs.WORKERS[1:]:
             if run(guest, file, quantum, room, workers, ["timeline"])[0] != texts[2:]:
@@ -125,7 +118,7 @@ def test_guest(tally, room, guest):
 
 def test_picture(tally, room, name):
     """Compares the files that the picture of the pages is drawn of with what the program writes."""
-    guest = Guest(name, f"{sample_pictures.SAMPLES}/{name}.elf", [], b"", (), None)
+    guest = Guest(name, f"{sample_pictures.SAMPLES}/{name}.elf", [], b"", ())
     (timeline, races), errors = run(guest, guest.file, None, room, 1, ["timeline", "races"])
     for file, text in ((sample_pictures.TIMELINE, timeline), (sample_pictures.RACES, races)):
         if text is None or text != contents(file):
@@ -135,34 +128,28 @@ def test_picture(tally, room, name):
 def of_samples():
     """Yields the samples that aren't in C, and the programs of crates/test_guest_runs/data with each of their runs."""
     for name in written_guests.names():
-        elf = written_guests.elf(name)
-        own = written_guests.runs(name) or [written_guests.Run(name, BOUND if name in ENDLESS else [], b"", None)]
+        own = written_guests.runs(name) or [written_guests.Run(name, BOUND if name in ENDLESS else [], b"")]
         for it in own:
             quanta = (None,) if "--quantum" in it.words or name in ENDLESS else QUANTA["written"]
-            yield Guest(f"{name}{''.join(f' {word}' for word in it.words)}", writer(elf), it.words, it.given, quanta, it.changed)
+            yield Guest(f"{name}{''.join(f' {word}' for word in it.words)}", writer(written_guests.elf(name)), it.words, it.given, quanta)
 
 
 def writer(data):
     """Returns what writes these bytes to a file."""
-
-    def write(file):
-        write_file(file, data)
-
-    return write
+    return lambda file: write_file(file, data)
 
 
 def of_seeds(is_brief):
     """Yields random programs."""
     for seed in SEEDS[:: 4 if is_brief else 1]:
         elf = random_guests.guest(random.Random(seed))
-        given = b"some input to be read by several threads"
-        yield Guest(f"seed-{seed}", writer(elf), ["--bound", "100000"], given, QUANTA["random"], None)
+        yield Guest(f"seed-{seed}", writer(elf), ["--bound", "100000"], b"some input to be read by several threads", QUANTA["random"])
 
 
 def in_c(is_brief):
     """Yields the samples in C, and the programs of guest/tests if the compiler is there."""
     for it in c_samples.samples():
-        yield Guest(f"c/{it.name}", it.program, it.words, contents(it.given) if it.given else b"", QUANTA["c"], None)
+        yield Guest(f"c/{it.name}", it.program, it.words, contents(it.given) if it.given else b"", QUANTA["c"])
     if is_brief:
         return
     if not shutil.which("riscv64-unknown-elf-gcc"):
@@ -175,13 +162,13 @@ def in_c(is_brief):
         made = lambda file, name=name, words=guest_tests.of_compiler(words): guest_runs.compiled(
             ["-O2", *words, guest_tests.source_of(name)], file, guest_tests.FOLDER)
         quanta = (None,) if "--quantum" in of_run else QUANTA["c"]
-        yield Guest(f"tests/{name}", made, of_run, contents(f"{guest_tests.FOLDER}/{name}.in") or b"", quanta, None)
+        yield Guest(f"tests/{name}", made, of_run, contents(f"{guest_tests.FOLDER}/{name}.in") or b"", quanta)
 
 
 def test(options):
-    """Runs programs with --timeline: each file is what the definitions say, with any number of workers."""
+    """Runs programs with --timeline: each file has what trace and report have, and is the same with any number of workers."""
     guests = [*of_samples(), *of_seeds(options.brief), *in_c(options.brief)]
     guests = [it for it in guests if not options.names or it.name.startswith(tuple(options.names))]
     drawn, every = [] if options.names else [sample_pictures.NAME], guest_runs.share(options.share, guests)
     status = guest_runs.all_tried("pictures", drawn, test_picture, ": drawn of what the program writes", str) if drawn else 0
-    return max(status, guest_runs.all_tried("guests", every, test_guest, ", each timeline as defined, with 1, 2, 4 and 64 workers"))
+    return max(status, guest_runs.all_tried("guests", every, test_guest, ", each timeline as its trace and report, with 1, 2, 4 and 64 workers"))

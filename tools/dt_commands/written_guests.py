@@ -10,8 +10,8 @@ from dt_commands.texts import contents
 
 DATA = f"{TOP}/crates/test_guest_runs/data"
 WORD = re.compile(r"([0-9a-f]{8}): ([0-9a-f]{8}) ")
-# A run: its program's name, the options that it needs, its input, and the addresses of the changed bytes, turn by turn, if they are given.
-Run = namedtuple("Run", "name words given changed")
+# A run: its program's name, the options that it needs, and its input.
+Run = namedtuple("Run", "name words given")
 
 
 def names():
@@ -86,20 +86,9 @@ def of_block(name, block):
     """Returns the run of a block of a program's file."""
     told = {key: value for key, value in re.findall(r"^(input|bound|quantum) (\S+)$", block, re.M)}
     words = [word for key in ("bound", "quantum") if key in told for word in (f"--{key}", told[key])]
-    changed = re.search(r"^changed(.*)$", block, re.M)
-    addresses = [int(it, 16) for it in changed[1].split()] if changed else None
-    return Run(name, words, bytes.fromhex(told.get("input", "")), addresses)
+    return Run(name, words, bytes.fromhex(told.get("input", "")))
 
 
 def runs(name):
     """Returns the runs that a program's file has; some programs have none."""
     return [of_block(name, it) for it in re.split(r"^run .*$", text_of(name), flags=re.M)[1:]]
-
-
-def pages(turns, changed):
-    """Returns how many pages each turn changed, by its number, from the addresses of the changed bytes, turn by turn."""
-    found, at = {}, 0
-    for turn in turns:
-        found[turn.number] = len({it // 4096 for it in changed[at : at + turn.changed]})
-        at += turn.changed
-    return found
