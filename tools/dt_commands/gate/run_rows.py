@@ -12,7 +12,7 @@ import tempfile
 from dt_commands import guest_runs, written_guests
 from dt_commands.repository import TOP
 from dt_commands.row_texts import Differences, bytes_of, listed, split, text_at
-from dt_commands.texts import contents
+from dt_commands.texts import contents, write_file
 
 DATA = written_guests.DATA
 RACES = f"{TOP}/guest/tests/rows/races"
@@ -133,11 +133,9 @@ def performed(words, given, room):
 def compare_written(run, workers, room, found):
     """Compares what a run gives when its texts are written to files, and that no other file is there."""
     kinds = [it for it in TEXTS if it != "digest" or run.texts[it]]
-    with open(f"{room}/a.elf", "wb") as it:
-        it.write(run.file)
+    write_file(f"{room}/a.elf", run.file)
     for kind in kinds:
-        with open(f"{room}/{kind}", "wb") as it:
-            it.write(b"x" * 1000)
+        write_file(f"{room}/{kind}", b"x" * 1000)
     words = ["run", "a.elf", *(it for kind in kinds for it in (f"--{kind}", kind)), "--workers", str(workers), *run.limits]
     ran, how = performed(words, run.given, room), f"with {workers} workers"
     found.expect(ran.returncode, run.status, f"status {how}")
@@ -205,8 +203,7 @@ def compare_program(name, kept):
     """Compares a program's listing with what the program prints of its file, and both with what proved tests have by its name."""
     found, listing, (programs, traces) = Differences(), listing_of(name), kept
     with tempfile.TemporaryDirectory(prefix="row-") as room:
-        with open(f"{room}/a.elf", "wb") as it:
-            it.write(written_guests.elf(name))
+        write_file(f"{room}/a.elf", written_guests.elf(name))
         ran = performed(["disasm", "a.elf"], b"", room)
     found.expect((ran.returncode, ran.stderr), (0, b""), "status and message of disasm")
     found.expect(ran.stdout, listing.encode(), "listing by disasm")
@@ -273,8 +270,7 @@ def compare_replay(row, run, kept):
     turns, status, line = row.end or (None, run.status, run.message())
     with tempfile.TemporaryDirectory(prefix="row-") as room:
         for name, data in (("a.elf", run.file), ("schedule", row.text)):
-            with open(f"{room}/{name}", "wb") as it:
-                it.write(data)
+            write_file(f"{room}/{name}", data)
         ran = performed(["replay", "a.elf", "schedule", "--workers", str(row.workers), *run.limits], run.given, room)
     found.expect(ran.returncode, status, "status")
     found.expect(ran.stdout, "".join(f"{it}\n" for it in run.texts["trace"][:turns]).encode(), "trace")
@@ -292,8 +288,7 @@ def compare_races(run, wanted):
     """Compares the races of a run with the wanted ones."""
     found = Differences()
     with tempfile.TemporaryDirectory(prefix="row-") as room:
-        with open(f"{room}/a.elf", "wb") as it:
-            it.write(run.file)
+        write_file(f"{room}/a.elf", run.file)
         ran = performed(["run", "a.elf", "--races", "races", *run.limits], run.given, room)
         found.expect(contents(f"{room}/races"), wanted, "races")
     found.expect(ran.returncode < 122 or not ran.stderr, True, "a run that ended")

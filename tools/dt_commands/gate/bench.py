@@ -11,7 +11,7 @@ import tempfile
 
 from dt_commands import kit, toolchain
 from dt_commands.repository import TOP, below
-from dt_commands.texts import contents, first_difference
+from dt_commands.texts import contents, first_difference, write_file
 
 FOLDER, NAME = f"{TOP}/tools/bench", "tool_bench"
 # Where it is built. Git ignores folders of this name.
@@ -52,8 +52,7 @@ def put(place, is_proved):
         shutil.rmtree(f"{place}/crates/{NAME}/{part}", ignore_errors=True)
         shutil.copytree(f"{FOLDER}/{part}", f"{place}/crates/{NAME}/{part}", copy_function=named)
     lines = [it for it in contents(f"{TOP}/crates.txt").decode().splitlines() if it.split(":")[0] in crates_below()]
-    with open(f"{place}/crates.txt", "w", encoding="utf-8") as it:
-        it.write("\n".join([*lines, f"{NAME}: {' '.join(uses())}", ""]))
+    write_file(f"{place}/crates.txt", "\n".join([*lines, f"{NAME}: {' '.join(uses())}", ""]))
     shutil.copy(f"{TOP}/HANDLES", place)
     return f"{place}/crates/{NAME}"
 

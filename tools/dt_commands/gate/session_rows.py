@@ -5,13 +5,14 @@ or `^C` these bytes alone, and a line `< TEXT` is the packet of an answer. The d
 Its answers are the wanted ones. Those of each prefix are a prefix of them, and with any byte changed the session comes to its end, as any
 stream of packets and bytes does.
 """
-import os
 import random
 import subprocess
 import tempfile
 
 from dt_commands import guest_runs, written_guests
+from dt_commands.gdb_packets import framed
 from dt_commands.repository import TOP
+from dt_commands.texts import write_file
 from dt_commands.row_texts import Differences, listed, split, text_at
 
 FOLDER = f"{TOP}/guest/tests/rows/sessions"
@@ -28,11 +29,6 @@ PACKETS = [
     "vCont;s:1", "vCont;c:2", "vCont;r10000,10020:1;c", "bs", "bc", "qRcmd,7768657265", "qRcmd,7475726e2032", "qRcmd,676f2033",
     "qRcmd,6c6f636b73", "vKill;1", "D",
 ]
-
-
-def framed(packet):
-    """Returns a packet in its frame."""
-    return b"$" + packet + b"#" + f"{sum(packet) % 256:02x}".encode()
 
 
 class Session:
@@ -58,8 +54,7 @@ def answers(program, words, stream):
     """Returns how a session over a program ended to which these bytes were sent: its status, its answers and its message."""
     with tempfile.TemporaryDirectory(prefix="row-") as room:
         for name, data in (("a.elf", written_guests.elf(program)), ("input", INPUT)):
-            with open(f"{room}/{name}", "wb") as it:
-                it.write(data)
+            write_file(f"{room}/{name}", data)
         command = [guest_runs.program(), "debug", "a.elf", "--input", "input", "--bound", str(BOUND), *words]
         try:
             ran = subprocess.run(command, input=stream, stdout=subprocess.PIPE, stderr=subprocess.PIPE, cwd=room, timeout=SECONDS)

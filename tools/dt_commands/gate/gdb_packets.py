@@ -12,9 +12,9 @@ PACKET = re.compile(rb"\$([^#]*)#..")
 CREATED = "T05create:"
 
 
-def framed(text):
-    """Returns a packet."""
-    return f"${text}#{sum(text.encode()) % 256:02x}".encode()
+def framed(packet):
+    """Returns a packet in its frame."""
+    return b"$" + packet + b"#" + f"{sum(packet) % 256:02x}".encode()
 
 
 class Debugged:
@@ -38,7 +38,7 @@ class Debugged:
 
     def ask(self, text):
         """Sends a packet, and returns the answer to it."""
-        self.process.stdin.write(framed(text))
+        self.process.stdin.write(framed(text.encode()))
         self.printed = ""
         while True:
             said = self.answer()

@@ -11,7 +11,7 @@ import tempfile
 from dt_commands import guest_runs, written_guests
 from dt_commands.repository import TOP
 from dt_commands.row_texts import Differences, bytes_of, lined_rows, listed, split, text_at
-from dt_commands.texts import contents
+from dt_commands.texts import contents, write_file
 
 FOLDER = f"{TOP}/guest/tests/rows/commands"
 PROGRAM, SCHEDULE = "a.elf", "schedule"
@@ -65,8 +65,7 @@ class Scene:
         return sorted(left - {stays})
 
     def write(self, name, data):
-        with open(f"{self.folder}/{name}", "wb") as it:
-            it.write(data)
+        write_file(f"{self.folder}/{name}", data)
 
     def read(self, name):
         return contents(f"{self.folder}/{name}")

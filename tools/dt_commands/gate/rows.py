@@ -2,7 +2,6 @@
 
 DTHREADS names the program, or else ./dthreads.
 """
-import os
 import tempfile
 
 from dt_commands import command_rows, guest_runs, lanes, run_rows, session_rows

@@ -93,7 +93,7 @@ def install_picture(prefix):
     if os.path.isdir(folder):
         shutil.rmtree(folder)
     os.makedirs(f"{folder}/dt_commands")
-    for it in [f"{TOP}/tools/dt_commands/__init__.py", *glob.glob(f"{TOP}/tools/dt_commands/picture*.*")]:
+    for it in [f"{TOP}/tools/dt_commands/__init__.py", *glob.glob(f"{TOP}/tools/dt_commands/users/picture*.*")]:
         shutil.copy2(it, f"{folder}/dt_commands")
 
 

@@ -10,6 +10,7 @@ import tempfile
 
 from dt_commands.progress import Progress
 from dt_commands.repository import TOP
+from dt_commands.texts import write_file
 
 KIT = f"{TOP}/guest"
 PAGE = f"{TOP}/docs/C-FUNCTIONS.md"
@@ -137,6 +138,5 @@ def check(options):
 def write(options):
     """Writes the table of functions into docs/C-FUNCTIONS.md."""
     page, found, fresh, _ = compared()
-    with open(PAGE, "w", encoding="utf-8") as file:
-        file.write(page[: found.start(2)] + fresh + page[found.end(2) :])
+    write_file(PAGE, page[: found.start(2)] + fresh + page[found.end(2) :])
     return 0

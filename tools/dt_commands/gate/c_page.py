@@ -13,7 +13,7 @@ import tempfile
 from dt_commands import guest_runs, guest_tests
 from dt_commands.progress import Progress
 from dt_commands.repository import TOP
-from dt_commands.texts import first_difference
+from dt_commands.texts import first_difference, write_file
 
 PAGES = ("docs/C.md", "docs/CLEAN-RUNS.md", "docs/OPENMP.md")
 # What a page's commands need besides.
@@ -40,8 +40,7 @@ def files_in(text):
 def printed(text, room, progress):
     """Runs the commands of a page in a folder, and returns their lines, each with what was printed below it."""
     for contents, name in files_in(text):
-        with open(f"{room}/{name}", "w", encoding="utf-8") as it:
-            it.write(contents)
+        write_file(f"{room}/{name}", contents)
     got = []
     for line in progress.each([it for it in shown_in(text) if it.startswith("$ ")]):
         how = {"stdin": subprocess.DEVNULL, "stdout": subprocess.PIPE, "stderr": subprocess.STDOUT}

@@ -6,6 +6,7 @@ import tempfile
 
 from dt_commands import guest_runs
 from dt_commands.progress import Progress
+from dt_commands.texts import write_file
 
 # Instructions that take less than a tenth of a second.
 SOON = 5000000
@@ -73,11 +74,6 @@ def call(words, room):
     return subprocess.run([f"{guest_runs.KIT}/dthreads-cc", *words], **how)
 
 
-def written(room, name, text):
-    with open(f"{room}/{name}", "w", encoding="utf-8") as it:
-        it.write(text)
-
-
 def started(command, room, name, *words):
     """Runs a program by a command of the kit."""
     how = {"stdin": subprocess.DEVNULL, "stdout": subprocess.PIPE, "stderr": subprocess.PIPE, "text": True, "check": False}
@@ -105,14 +101,14 @@ def status(room, *words):
 
 def preprocessed(room):
     """Preprocessed text is the program's alone."""
-    written(room, "one.c", "int one;\n")
+    write_file(f"{room}/one.c", "int one;\n")
     text = call(["-E", "one.c"], room).stdout
     return [it for it in text.splitlines() if it.strip() and not it.startswith("#")], ["int one;"]
 
 
 def main_in_archive(room):
     """An archive may have main."""
-    written(room, "main.c", MAIN)
+    write_file(f"{room}/main.c", MAIN)
     call(["-c", "main.c"], room)
     subprocess.run(["riscv64-unknown-elf-ar", "rcs", "libmain.a", "main.o"], cwd=room, check=True)
     return status(room, "-L.", "-lmain"), 7
@@ -120,7 +116,7 @@ def main_in_archive(room):
 
 def warns_once(room):
     """A program that names absent functions is linked, with one warning for each."""
-    written(room, "forks.c", FORKS)
+    write_file(f"{room}/forks.c", FORKS)
     said = call(["forks.c", "-o", "forks.elf"], room)
     wanted = [f"dthreads-cc: {it}: there are no processes here; the call fails with ENOSYS" for it in ("execv", "fork")]
     return (said.returncode, sorted(said.stderr.splitlines())), (0, wanted)
@@ -128,13 +124,13 @@ def warns_once(room):
 
 def visible(room):
     """C++ sees what it sees on Linux."""
-    written(room, "visible.cc", VISIBLE)
+    write_file(f"{room}/visible.cc", VISIBLE)
     return status(room, "visible.cc"), 7
 
 
 def models(room):
     """Any model of thread-local storage may be asked for."""
-    written(room, "local.c", LOCAL)
+    write_file(f"{room}/local.c", LOCAL)
     every = ("global-dynamic", "local-dynamic", "initial-exec", "local-exec")
     return [status(room, f"-ftls-model={it}", "-fPIC", "local.c") for it in every], [7] * 4
 
@@ -146,7 +142,7 @@ def instructions(trace):
 
 def quantum(room):
     """dthreads-exec has a quantum, so that a sleep ends soon beside a thread that computes, or none, and says what a used-up bound is."""
-    written(room, "beside.c", BESIDE)
+    write_file(f"{room}/beside.c", BESIDE)
     call(["-O2", "beside.c", "-o", "beside.elf"], room)
     ways = [["--trace", f"{room}/trace"], ["--bound", "100000000", "--quantum", "100000"], ["--bound", "3000000", "--quantum", "none"]]
     runs = [executed(room, "beside", *it) for it in ways]
@@ -157,7 +153,7 @@ def quantum(room):
 
 def clock(room):
     """The clock of the day begins when the link, dthreads-exec or dthreads-gdb says."""
-    written(room, "day.c", DAY)
+    write_file(f"{room}/day.c", DAY)
     call(["-O2", "day.c", "-o", "day.elf"], room)
     call(["-O2", "--clock=2026-11-30", "day.c", "-o", "linked.elf"], room)
     runs = [with_workers(room, "day"), with_workers(room, "day", "--clock", "2026-11-30T17:45:09Z"), with_workers(room, "linked"),
@@ -171,14 +167,14 @@ def clock(room):
 
 def files(room):
     """Files of dthreads-exec may be larger than the input, and may be written."""
-    written(room, "whole.c", WHOLE)
+    write_file(f"{room}/whole.c", WHOLE)
     call(["-O2", "whole.c", "-o", "whole.elf"], room)
     total = 0
     with open(f"{room}/large", "wb") as file:
         for number in range(LARGE // 65536):
             file.write(bytes([number % 251]) * 65536)
             total = (total * 31 + number % 251) % 2 ** 32
-    written(room, "small", "small, and more\n")
+    write_file(f"{room}/small", "small, and more\n")
     words = ["--file", f"/data/large={room}/large", "--file", f"/data/small={room}/small"]
     found, more = with_workers(room, "whole", *words), executed(room, "whole", *words, "--file", f"/data/more={room}/large")
     return (found, more.returncode, "has room for" in more.stderr), ({(0, f"{LARGE} {total} SMALL, and more\n", "")}, 2, True)
@@ -186,7 +182,7 @@ def files(room):
 
 def full(room):
     """At the output's end dthreads-exec says so, and keeps texts apart."""
-    written(room, "full.c", FULL)
+    write_file(f"{room}/full.c", FULL)
     call(["-O2", "full.c", "-o", "full.elf"], room)
     said = "279, No space left on device\ndthreads-exec: the output's limit of 16,777,216 bytes was reached: writes beyond it fail with ENOSPC\n"
     return with_workers(room, "full"), {(5, "\0" * 60000 * 279, said)}

@@ -226,7 +226,7 @@ def replays(room, program):
 
 def debugs(room, program):
     """Yields the sweeps of debugging sessions, each with its name."""
-    given = b"+".join(map(framed, PACKETS))
+    given = b"+".join(framed(it.encode()) for it in PACKETS)
     for guest in DEBUGGED:
         yield f"debug {guest}", Sweep(room, [program, "debug", f"{TOP}/samples/{guest}.elf"], given)
 
