@@ -123,7 +123,7 @@ class Guest:
 
 
 def agree(tally, name, guest, room, output, status=None, workers=WORKERS, also=None):
-    """Runs a guest with each number of workers: output and status must be the wanted ones, and all traces one. `also(run)` yields what
+    """Runs a guest with each number of workers: output and status must be as expected, and all traces one. `also(run)` yields what
     else is wrong with a run."""
     first = None
     for count in workers:
@@ -134,7 +134,7 @@ def agree(tally, name, guest, room, output, status=None, workers=WORKERS, also=N
 
 
 def faults(run, first, output, status):
-    """Yields in what a run differs from the wanted output and status, and from the first run."""
+    """Yields in what a run differs from the expected output and status, and from the first run."""
     if status is not None and run.status != status:
         yield f"status {run.status}, wanted {status}: {run.errors[:200].decode(errors='replace')}"
     if run.output != output:

@@ -1,4 +1,4 @@
-"""Runs every test of the crates, and every program against its wanted output, unproved: minutes in place of the gate's hours.
+"""Runs every test of the crates, and every program against its expected output, unproved: minutes in place of the gate's hours.
 
 It proves nothing: `.ci/run` is the verdict. Tests and programs are run as `rt ci` runs them, a program with its files data/, args,
 stdin, stdout and status, but compiled with checks in place of proofs, which makes them up to a hundred times slower. So a crate's folder

@@ -77,5 +77,5 @@ def test(options):
     if wrote != wanted:
         print(f"the help of the bench: {first_difference(wrote, wanted)}\n{said.decode(errors='replace')}")
         return 1
-    print("1 bench, compiled without a proof: its help is as wanted")
+    print("1 bench, compiled without a proof: its help is as expected")
     return 0

@@ -1,6 +1,6 @@
 """The samples in C: sources and built files in samples/c, with what each must give.
 
-samples/c/list has a line for each sample: its program, further words for `run`, its input, the wanted output and the wanted status. The
+samples/c/list has a line for each sample: its program, further words for `run`, its input, the expected output and the expected status. The
 packages of the compiler must have the versions that guest/packages lists. DTHREADS names the program to run the samples with, or else
 ./dthreads.
 """
@@ -80,6 +80,6 @@ def test_sample(tally, room, it):
 
 
 def test(options):
-    """Runs the built samples in C, each with 1, 2, 3, 4 and 64 workers: wanted output and status, and one trace."""
-    well = ", each with 1, 2, 3, 4 and 64 workers: the wanted output and one trace"
+    """Runs the built samples in C, each with 1, 2, 3, 4 and 64 workers: expected output and status, and one trace."""
+    well = ", each with 1, 2, 3, 4 and 64 workers: the expected output and one trace"
     return guest_runs.all_tried("samples", samples(), test_sample, well, lambda it: it.name)

@@ -146,7 +146,7 @@ def run(chosen):
 
 
 def write(options):
-    """Runs the sessions of gdb in guest/tests/gdb, and writes what gdb prints where a session says something else."""
+    """Runs the sessions of gdb in guest/tests/gdb, and writes what gdb prints into sessions that differ."""
     for session, text, found in run(options.names or names()):
         if isinstance(found, str) or found[0][-1][1][-1:] == [SILENT]:
             raise SystemExit(f"{session.name}: {found if isinstance(found, str) else SILENT}")

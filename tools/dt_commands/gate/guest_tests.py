@@ -124,10 +124,10 @@ def tasks(names):
 
 
 def test(options):
-    """Builds the programs of guest/tests, and runs each with 1, 2, 4 and 64 workers: wanted output and status, and one trace."""
+    """Builds the programs of guest/tests, and runs each with 1, 2, 4 and 64 workers: expected output and status, and one trace."""
     tally, every = guest_runs.Tally(), guest_runs.share(options.share, tasks(options.names))
     tally.tried = len(every)
     with tempfile.TemporaryDirectory() as room, Progress("programs", len(every)) as progress:
         for _, does in progress.each(every, lambda it: it[0]):
             does(tally, room)
-    return tally.status("programs", ", each with 1, 2, 4 and 64 workers: the wanted output and one trace; or it must not build")
+    return tally.status("programs", ", each with 1, 2, 4 and 64 workers: the expected output and one trace; or it must not build")

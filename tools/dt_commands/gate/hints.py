@@ -196,7 +196,7 @@ def test_program(tally, room, name):
 def test(options):
     """Traces the hints of guest/tests/hints.c, and those of other programs, in which each thread leaves what it entered."""
     every = guest_runs.share(options.share, [NAME, *BALANCED])
-    return guest_runs.all_tried("programs", every, test_program, ": the wanted hints, and each thread leaves what it entered", str)
+    return guest_runs.all_tried("programs", every, test_program, ": the expected hints, and each thread leaves what it entered", str)
 
 
 def write(options):

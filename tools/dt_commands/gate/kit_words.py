@@ -201,4 +201,4 @@ def test(_):
                 found, wanted = case(room)
             if found != wanted:
                 tally.fail(f"{case.__name__}: {found}, wanted {wanted}")
-    return tally.status("cases", ": dthreads-cc does what is wanted")
+    return tally.status("cases", ": dthreads-cc does what is expected")

@@ -44,7 +44,7 @@ HANDED_ON = {
     ("crates/trace_events/src/timeline_recorder.rt", "self.failure = Some(TurnFault::OutOfMemory);"),
 }
 
-# Lines that say so where no host could have the time: a run of 2^63 turns, of 2^62 turns and changed bytes, or of 2^62
+# Lines that say so after more work than any host has time for: a run of 2^63 turns, of 2^62 turns and changed bytes, or of 2^62
 # events, 2^64 library regions in one another, 2^64 instructions, and 2^32 accesses that differ on a page.
 BEYOND_ANY_HOST = {
     ("crates/token/src/serial.rt", "return Err(TurnFault::OutOfMemory);"),

@@ -1,7 +1,7 @@
 """The example programs of the manual pages on threads.
 
 The manual pages are those of the Debian package manpages-dev, in the folder that MANUAL names, or else /usr/share/man/man3. The examples
-are compiled unchanged; guest/tests/manual has a list of them and the wanted outputs. DTHREADS names the program to run them with, or
+are compiled unchanged; guest/tests/manual has a list of them and the expected outputs. DTHREADS names the program to run them with, or
 else ./dthreads.
 """
 import gzip
@@ -57,8 +57,8 @@ def test_example(tally, room, page, name, *words):
 
 
 def test(options):
-    """Compiles the examples on threads of the manual pages, and runs each with 1, 2, 4 and 64 workers: wanted output, and one trace."""
+    """Compiles the examples on threads of the manual pages, and runs each with 1, 2, 4 and 64 workers: expected output, and one trace."""
     if not os.path.exists(f"{PAGES}/pthread_create.3.gz"):
         raise SystemExit("the package manpages-dev is missing")
-    does, well = lambda tally, room, row: test_example(tally, room, *row), ", each with 1, 2, 4 and 64 workers: the wanted output"
+    does, well = lambda tally, room, row: test_example(tally, room, *row), ", each with 1, 2, 4 and 64 workers: the expected output"
     return guest_runs.all_tried("runs of examples", rows_of(f"{WANTED}/list"), does, well, lambda it: it[1])

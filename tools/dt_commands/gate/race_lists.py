@@ -113,7 +113,7 @@ def arguments(parser):
 
 
 def test(options):
-    """Runs programs in C with --races: the cases have the races that are wanted, right programs and samples none."""
+    """Runs programs in C with --races: the cases have the expected races, correct programs and samples none."""
     tasks = [(name, wanted, test_case) for name, wanted in CASES.items()] + [(it[0], *it[1:], test_right) for it in programs()]
     does = lambda tally, room, task: task[-1](tally, room, *task[:-1])
-    return guest_runs.all_tried("programs", guest_runs.share(options.share, tasks), does, ": the races that are wanted, and no others")
+    return guest_runs.all_tried("programs", guest_runs.share(options.share, tasks), does, ": the expected races, and no others")

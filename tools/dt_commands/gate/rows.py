@@ -23,7 +23,7 @@ def every(room):
 
 
 def test(options):
-    """Runs the built program by the rows of its data: outputs, texts and statuses must be the wanted ones."""
+    """Runs the built program by the rows of its data: outputs, texts and statuses must be as expected."""
     tally = guest_runs.Tally()
     with tempfile.TemporaryDirectory(prefix="rows-") as room:
         tasks = [it for it in every(room) if is_chosen(it[0], options.rows)]
@@ -35,4 +35,4 @@ def test(options):
             return []
 
         lanes.tasks_in_lanes(lanes.count(options.lanes), tasks, ended)
-    return tally.status("rows", ": as wanted")
+    return tally.status("rows", ": as expected")

@@ -58,7 +58,7 @@ def begin(lane_count):
 
 
 def ends(lane_count):
-    """Runs the tests, in lanes where that can be. Yields of each, as it ends, what `done` returned."""
+    """Runs the tests, in lanes if there can be some. Yields what `done` returned for each, as it ends."""
     pool, begun = begin(lane_count)
     with Progress("tests", len(TESTS)) as progress, pool or contextlib.nullcontext():
         for it in futures.as_completed(begun):

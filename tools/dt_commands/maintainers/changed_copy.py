@@ -53,7 +53,7 @@ BOUND = re.compile(r"let (mut )?(\w+|\([\w, ]+\)) = .*;", re.S)
 
 
 def guarded(number, is_statement, old, new):
-    """Returns the text of a place that is the new one where this change is tried."""
+    """Returns a text that is the new one if this change is tried, and else the old one."""
     asked, bound = f"if {SWITCH}::is({number})", BOUND.fullmatch(old)
     for place in () if is_statement else PLACES:
         was, now = place.fullmatch(old), place.fullmatch(new)
