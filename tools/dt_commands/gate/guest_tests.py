@@ -7,6 +7,7 @@ others with, or else ./dthreads.
 import glob
 import os
 import tempfile
+from collections import namedtuple
 
 from dt_commands import guest_runs
 from dt_commands.progress import Progress
@@ -59,17 +60,33 @@ def of_run(words):
     return [part for it in words if it not in of_compiler(words) for part in it.split("=", 1)]
 
 
+# A program of the list: its name, its source and the folder that it is compiled in, the words for dthreads-cc and for `run`, and its input,
+# which is a file or None.
+Program = namedtuple("Program", "name source folder of_compiler of_run given")
+
+
+def program(name, words):
+    """Returns a program of the list, from its line's words."""
+    given = f"{FOLDER}/{name}.in"
+    return Program(name, source_of(name), FOLDER, of_compiler(words), of_run(words), given if os.path.exists(given) else None)
+
+
+def programs():
+    """Returns the programs of the list that can be built here."""
+    return [program(name, words) for name, _, *words in rows_of(f"{FOLDER}/list") if not lacking(words)]
+
+
 def test_program(tally, room, name, status, *words):
     """Builds and runs a program of the list."""
     if lacking(words):
         print(f"{name}: left out, {lacking(words)} wasn't done")
         return
-    elf, given = f"{room}/{name}.elf", f"{FOLDER}/{name}.in"
-    said = guest_runs.compiled(["-O2", *of_compiler(words), source_of(name)], elf, FOLDER)
+    it, elf = program(name, words), f"{room}/{name}.elf"
+    said = guest_runs.compiled(["-O2", *it.of_compiler, it.source], elf, FOLDER)
     if said is not None:
         tally.fail(f"{said}{name}: doesn't build")
         return
-    guest = guest_runs.Guest([guest_runs.program(), "run", elf], of_run(words), given if os.path.exists(given) else None)
+    guest = guest_runs.Guest([guest_runs.program(), "run", elf], it.of_run, it.given)
     guest_runs.agree(tally, name, guest, room, contents(f"{FOLDER}/{name}.out"), int(status))
 
 

@@ -11,7 +11,7 @@ import tempfile
 
 from dt_commands import c_samples, guest_runs, guest_tests
 from dt_commands.repository import TOP
-from dt_commands.texts import read_text, rows_of
+from dt_commands.texts import read_text
 
 SOURCE = "guest/tests/races/cases.c"
 WORKERS, QUANTA, SECONDS = (1, 2, 3, 4, 64), (1, 7, 1000), 120
@@ -86,26 +86,22 @@ def test_case(tally, room, name, wanted):
             tally.fail(f"{name}: {shown(min(texts))}, wanted {wanted}")
 
 
-def test_right(tally, room, name, words, source, folder, given):
+def test_right(tally, room, program):
     """Tries a program, whose list must be empty but for those of RACY."""
-    elf = f"{room}/{name}.elf"
-    said = guest_runs.compiled(["-O2", "-g", *guest_tests.of_compiler(words), source], elf, folder)
+    elf = f"{room}/{program.name}.elf"
+    said = guest_runs.compiled(["-O2", "-g", *program.of_compiler, program.source], elf, program.folder)
     if said is not None:
-        tally.fail(f"{name}: doesn't build: {said}")
+        tally.fail(f"{program.name}: doesn't build: {said}")
         return
-    found = shown(list_of(elf, guest_tests.of_run(words), given))
-    if found != RACY.get(name, []):
-        tally.fail(f"{name}: {found[:5]}")
+    found = shown(list_of(elf, program.of_run, program.given))
+    if found != RACY.get(program.name, []):
+        tally.fail(f"{program.name}: {found[:5]}")
 
 
 def programs():
-    """Yields the programs of the kit's tests and the samples: name, words, source, its folder, and input."""
-    for name, _, *words in rows_of(f"{guest_tests.FOLDER}/list"):
-        if not guest_tests.lacking(words):
-            given = f"{guest_tests.FOLDER}/{name}.in"
-            yield name, words, guest_tests.source_of(name), guest_tests.FOLDER, given if os.path.exists(given) else None
-    for it in c_samples.samples():
-        yield it.name, [], f"samples/c/{it.name}.c", TOP, it.given
+    """Returns the programs of the kit's tests and the samples."""
+    samples = [guest_tests.Program(it.name, f"samples/c/{it.name}.c", TOP, [], [], it.given) for it in c_samples.samples()]
+    return guest_tests.programs() + samples
 
 
 def arguments(parser):
@@ -114,6 +110,7 @@ def arguments(parser):
 
 def test(options):
     """Runs programs in C with --races: the cases have the expected races, correct programs and samples none."""
-    tasks = [(name, wanted, test_case) for name, wanted in CASES.items()] + [(it[0], *it[1:], test_right) for it in programs()]
-    does = lambda tally, room, task: task[-1](tally, room, *task[:-1])
+    tasks = [(it, lambda tally, room, it=it: test_case(tally, room, it, CASES[it])) for it in CASES]
+    tasks += [(it.name, lambda tally, room, it=it: test_right(tally, room, it)) for it in programs()]
+    does = lambda tally, room, task: task[1](tally, room)
     return guest_runs.all_tried("programs", guest_runs.share(options.share, tasks), does, ": the expected races, and no others")

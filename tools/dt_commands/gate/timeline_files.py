@@ -2,9 +2,9 @@
 
 Guests are the samples, the programs of crates/test_guest_runs/data, random programs, the samples in C and, if the compiler is there, the
 programs of guest/tests, with no quantum and with others. That the text is the one of the definitions is proved. Here each timeline must be
-JSON with the turns of the run's trace and as many changed pages as the report has, and the same text for 1, 2, 4 and 64 workers. The
-timeline and the races beside the sample race must be what the program writes. DTHREADS names the program that runs the guests, or else
-./dthreads.
+JSON with the turns of the run's trace and as many changed pages as the report has. Status, output, trace, report and timeline must be the same
+for 1, 2, 4 and 64 workers. The timeline and the races beside the sample race must be what the program writes. DTHREADS names the program that
+runs the guests, or else ./dthreads.
 """
 import json
 import os
@@ -16,9 +16,9 @@ from collections import namedtuple
 
 from dt_commands import c_samples, guest_runs, guest_tests, random_guests, sample_pictures, written_guests
 from dt_commands.repository import TOP
-from dt_commands.texts import contents, rows_of, write_file
+from dt_commands.texts import contents, write_file
 
-SECONDS, SEEDS = 120, range(1, 61)
+SECONDS = 120
 # A quantum that would give a run more turns than these is left out.
 MOST_TURNS = 6000
 # Samples without an end get this bound.
@@ -26,27 +26,29 @@ ENDLESS, BOUND = ("counting", "mixed", "turns"), ["--bound", "20000"]
 QUANTA = {"written": (None, 1, 2, 3, 7, 100), "random": (None, 1000), "c": (None, 10_000)}
 # A guest: its name, its file, or a function that makes it in a folder, the words of its run, its input, and the quanta it is tried with.
 Guest = namedtuple("Guest", "name file words given quanta")
+Run = namedtuple("Run", "status output errors texts")
+TEXTS = ("trace", "report", "timeline")
 LINE = re.compile(r"(\d+) (\d+) (\S.*) changed=(\d+) ran=(\d+)")
 
 
 def arguments(parser):
     parser.add_argument("names", nargs="*", metavar="PROGRAM", help="the guests whose names begin so (default: all)")
     parser.add_argument("--brief", action="store_true", help="the gate's part alone: no program of guest/tests, and every fourth random one")
+    parser.add_argument("--seeds", type=int, default=60, metavar="N", help="how many random programs (default: 60)")
     guest_runs.with_share(parser)
 
 
-def run(guest, file, quantum, room, workers, kinds):
-    """Runs a guest, and returns the texts of these kinds, or None for each that it doesn't leave."""
+def run(guest, file, quantum, room, workers, kinds=TEXTS):
+    """Runs a guest, and returns all that the run gives: its status, output and line on standard error, and the texts of these kinds, or
+    None for each that it doesn't leave."""
     files = {it: f"{room}/{it}" for it in kinds}
     for it in files.values():
         if os.path.exists(it):
             os.remove(it)
     words = [*guest.words, *(["--quantum", str(quantum)] if quantum else []), "--workers", str(workers)]
     words += [word for it in kinds for word in (f"--{it}", files[it])]
-    command = [guest_runs.program(), "run", file, *words]
-    how = {"stdout": subprocess.DEVNULL, "stderr": subprocess.PIPE, "timeout": SECONDS, "check": False}
-    ran = subprocess.run(command, input=guest.given, **how)
-    return [contents(it) for it in files.values()], ran.stderr[:200].decode(errors="replace")
+    ran = subprocess.run([guest_runs.program(), "run", file, *words], input=guest.given, capture_output=True, timeout=SECONDS, check=False)
+    return Run(ran.returncode, ran.stdout, ran.stderr, [contents(it) for it in files.values()])
 
 
 def turns_traced(trace):
@@ -103,26 +105,26 @@ def test_guest(tally, room, guest):
         if quantum and instructions / quantum > MOST_TURNS:
             continue
         where = f"{guest.name}{f', quantum {quantum}' if quantum else ''}"
-        texts, errors = run(guest, file, quantum, room, 1, ["trace", "report", "timeline"])
-        if None in texts:
-            tally.fail(f"{where}: no timeline: {errors}")
+        first = run(guest, file, quantum, room, 1)
+        if None in first.texts:
+            tally.fail(f"{where}: no timeline: {first.errors[:200]}")
             return
-        trace = texts[0].decode()
+        trace, report, timeline = (it.decode() for it in first.texts)
         instructions = instructions or sum(it[-1] for it in turns_traced(trace))
-        for it in faults(trace, texts[1].decode(), texts[2].decode()):
+        for it in faults(trace, report, timeline):
             tally.fail(f"{where}: {it}")
         for workers in guest_runs.WORKERS[1:]:
-            if run(guest, file, quantum, room, workers, ["timeline"])[0] != texts[2:]:
-                tally.fail(f"{where}: with {workers} workers another timeline")
+            if run(guest, file, quantum, room, workers) != first:
+                tally.fail(f"{where}: {workers} workers give another run than one")
 
 
 def test_picture(tally, room, name):
     """Compares the files that the picture of the pages is drawn of with what the program writes."""
     guest = Guest(name, f"{sample_pictures.SAMPLES}/{name}.elf", [], b"", ())
-    (timeline, races), errors = run(guest, guest.file, None, room, 1, ["timeline", "races"])
-    for file, text in ((sample_pictures.TIMELINE, timeline), (sample_pictures.RACES, races)):
+    found = run(guest, guest.file, None, room, 1, ["timeline", "races"])
+    for file, text in zip((sample_pictures.TIMELINE, sample_pictures.RACES), found.texts):
         if text is None or text != contents(file):
-            tally.fail(f"{os.path.relpath(file, TOP)} isn't what the program writes: {errors}")
+            tally.fail(f"{os.path.relpath(file, TOP)} isn't what the program writes: {found.errors[:200]}")
 
 
 def of_samples():
@@ -139,9 +141,9 @@ def writer(data):
     return lambda file: write_file(file, data)
 
 
-def of_seeds(is_brief):
-    """Yields random programs."""
-    for seed in SEEDS[:: 4 if is_brief else 1]:
+def of_seeds(count, is_brief):
+    """Yields random programs, those of the first seeds."""
+    for seed in range(1, count + 1, 4 if is_brief else 1):
         elf = random_guests.guest(random.Random(seed))
         yield Guest(f"seed-{seed}", writer(elf), ["--bound", "100000"], b"some input to be read by several threads", QUANTA["random"])
 
@@ -155,19 +157,15 @@ def in_c(is_brief):
     if not shutil.which("riscv64-unknown-elf-gcc"):
         print("guest/tests: left out, there is no compiler of guest programs")
         return
-    for name, _, *words in rows_of(f"{guest_tests.FOLDER}/list"):
-        if guest_tests.lacking(words):
-            continue
-        of_run = guest_tests.of_run(words)
-        made = lambda file, name=name, words=guest_tests.of_compiler(words): guest_runs.compiled(
-            ["-O2", *words, guest_tests.source_of(name)], file, guest_tests.FOLDER)
-        quanta = (None,) if "--quantum" in of_run else QUANTA["c"]
-        yield Guest(f"tests/{name}", made, of_run, contents(f"{guest_tests.FOLDER}/{name}.in") or b"", quanta)
+    for it in guest_tests.programs():
+        made = lambda file, it=it: guest_runs.compiled(["-O2", *it.of_compiler, it.source], file, it.folder)
+        quanta = (None,) if "--quantum" in it.of_run else QUANTA["c"]
+        yield Guest(f"tests/{it.name}", made, it.of_run, contents(it.given) if it.given else b"", quanta)
 
 
 def test(options):
-    """Runs programs with --timeline: each file has what trace and report have, and is the same with any number of workers."""
-    guests = [*of_samples(), *of_seeds(options.brief), *in_c(options.brief)]
+    """Runs programs with --timeline: it has what trace and report have, and all that a run gives is the same with any number of workers."""
+    guests = [*of_samples(), *of_seeds(options.seeds, options.brief), *in_c(options.brief)]
     guests = [it for it in guests if not options.names or it.name.startswith(tuple(options.names))]
     drawn, every = [] if options.names else [sample_pictures.NAME], guest_runs.share(options.share, guests)
     status = guest_runs.all_tried("pictures", drawn, test_picture, ": drawn of what the program writes", str) if drawn else 0
