@@ -1,6 +1,6 @@
-"""The clauses of contracts: how many there are, how many stand again in their file, and which lines are too long.
+"""The clauses of contracts: how many there are, how many are repeated in their file, and which lines are too long.
 
-A clause stands again if another function of its file has one of the same kind with the same text; clauses that several functions share
+A clause is repeated if another function of its file has one of the same kind with the same text; clauses that several functions share
 are one named record in specs/. Prints each line of a clause of more than 140 columns, and ends with 1 if there is any.
 """
 import collections
@@ -21,7 +21,7 @@ def clauses_of(text):
 
 
 def repeated(clauses):
-    """Returns how many of these clauses stand again."""
+    """Returns how many of these clauses are repetitions."""
     counts = collections.Counter(it[0] for it in clauses)
     return sum(counts.values()) - len(counts)
 
@@ -32,7 +32,7 @@ def long_lines(clauses):
 
 
 def check(options):
-    """Checks that no line of a clause is too long, and counts the clauses that stand again in their file."""
+    """Checks that no line of a clause is too long, and counts the clauses that are repeated in their file."""
     every = again = found = 0
     for file in files_of(TOP):
         clauses = clauses_of(read_text(file))
@@ -40,5 +40,5 @@ def check(options):
         for number in long_lines(clauses):
             print(f"{file[len(TOP) + 1:]}:{number}: a clause of more than {COLUMNS} columns")
             found += 1
-    print(f"{every:,} clauses, {again} stand again in their file, {found} lines of more than {COLUMNS} columns")
+    print(f"{every:,} clauses, {again} repeated in their file, {found} lines of more than {COLUMNS} columns")
     return 1 if found or not every else 0

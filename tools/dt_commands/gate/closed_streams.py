@@ -1,8 +1,8 @@
 """Runs of the program with standard streams closed: no file may take the number of one.
 
 Each command line is run with all streams open, and then with some of them closed. If it needs a closed input, it must say that it can't
-read it; if anything goes to a closed output, that it can't write it, and leave the file as it was. Else closing a stream changes nothing but
-what comes through it. DTHREADS names the program to run, or else ./dthreads.
+read it. If it writes to a closed output, it must say that it can't, and leave the file as it was. Otherwise a closed stream changes nothing
+but what goes through it. DTHREADS names the program to run, or else ./dthreads.
 """
 import itertools
 import os

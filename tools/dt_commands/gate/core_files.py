@@ -1,9 +1,9 @@
 """Core files of runs, read by gdb and by readelf.
 
-Each program of PROGRAMS is built by the kit and run with `--core`. gdb-multiarch has to show its threads, the one that trapped or exited
-first, with a backtrace of each that begins in the named function, and the value of a global; and readelf has to read headers and notes
-without a complaint. Needed are Debian's gdb-multiarch, gcc-riscv64-unknown-elf and binutils-riscv64-unknown-elf. DTHREADS names the
-program that runs the guests, or else ./dthreads.
+The kit builds each program of PROGRAMS, which is run with `--core`. gdb-multiarch must show its threads, the one that trapped or exited
+first, with a backtrace of each that begins in the named function, and the value of a global. readelf must read headers and notes without a
+complaint. It needs Debian's gdb-multiarch, gcc-riscv64-unknown-elf and binutils-riscv64-unknown-elf. DTHREADS names the program that runs
+the guests, or else ./dthreads.
 """
 import os
 import re

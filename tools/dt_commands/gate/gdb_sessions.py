@@ -3,16 +3,16 @@
 A session is a transcript. Its head has lines `word: text`, and lines that begin with # are remarks:
 
     program: race.c -O2 -g       what guest/dthreads-cc compiles, with its options
-    folder: samples/c            where it does so and where gdb starts, from the top of the repository (else guest/tests/gdb)
+    folder: samples/c            the folder for both and for gdb, from the top of the repository (else guest/tests/gdb)
     options: --quantum 100       options of `dthreads debug`, if any
     status: 3                    the status that gdb ends with (else 0)
     seconds: 600                 how long a command may take (else 60)
 
-Then come gdb's commands, each behind `(gdb) `, and below each what gdb has to print. Empty lines don't count, and a line `...` stands for
-any lines. Within a line {hex} stands for a number such as 0x100a8, {n} for a decimal number, and {*} for any text. Below a command,
-`^C` has gdb interrupted a second later, and `^KILL` has it killed. However a session ends, `dthreads debug` must end with it.
+Then come gdb's commands, each after `(gdb) `, and below each what gdb must print. Empty lines don't count, and a line `...` matches any
+lines. Within a line {hex} matches a number such as 0x100a8, {n} a decimal number, and {*} any text. Below a command, `^C` interrupts gdb a
+second later, and `^KILL` kills it. However a session ends, `dthreads debug` must end with it.
 
-Needed are Debian's gdb-multiarch and the packages that guest/packages lists. DTHREADS names the program that debugs, or else ./dthreads.
+It needs Debian's gdb-multiarch and the packages that guest/packages lists. DTHREADS names the program that debugs, or else ./dthreads.
 """
 import os
 import select

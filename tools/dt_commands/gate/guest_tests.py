@@ -1,8 +1,8 @@
 """The tests of the C library: the programs of guest/tests.
 
-A word `--argument=TEXT` of a line of guest/tests/list is one of dthreads-cc, all others are of `run`. A program marked `--c++` is left
-out if guest/build-libstdcxx was not done, one marked `-fopenmp` if guest/build-libgomp was not. The programs of guest/tests/refused must not build. DTHREADS names the program to run the
-others with, or else ./dthreads.
+In a line of guest/tests/list, a word `--argument=TEXT` is for dthreads-cc; all others are for `run`. A program marked `--c++` is left out
+unless guest/build-libstdcxx was run, one marked `-fopenmp` unless guest/build-libgomp was. The programs of guest/tests/refused must not
+build. DTHREADS names the program to run the others with, or else ./dthreads.
 """
 import glob
 import os

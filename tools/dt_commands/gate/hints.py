@@ -1,9 +1,9 @@
 """Traces the hints that the C library gives to tools that look for races, and compares them with what they must be.
 
-guest/tests/hints.c has a row for each function that orders threads, gives memory or has data of the library's own, and some that must
-execute no hint. guest/tests/hints.wanted has a line for each thread's row, with its hints in their order, so that a lost or a moved hint is
-refused. The other programs of guest/tests named here are traced whole: in each thread what is entered must be left again. The debugger
-executes them, with a breakpoint at each hint. DTHREADS names the program, or else ./dthreads.
+guest/tests/hints.c has a row for each function that orders threads, gives memory or has data of the library's own, and for some that must
+execute no hint. guest/tests/hints.wanted has a line for each thread's row, with its hints in order, so a lost or moved hint fails. The other
+programs of guest/tests named here are traced whole: each thread must leave what it entered. The debugger executes them, with a breakpoint at
+each hint. DTHREADS names the program, or else ./dthreads.
 """
 import os
 import re

@@ -1,7 +1,7 @@
 """Installs the Debian packages that the gate needs and that are missing, or names them.
 
-Root gets them by apt-get, those that guest/packages lists in its versions. Whoever isn't root, or if a package is still missing then, gets
-their names and the status 1.
+For root it installs them with apt-get, those that guest/packages lists in the versions given there. For anybody else, or if a package is
+still missing, it prints their names and ends with 1.
 """
 import os
 import shutil

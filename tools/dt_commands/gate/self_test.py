@@ -1,7 +1,7 @@
 """Runs the tests of these tools, those that prove nothing and need no compiler, several at a time.
 
-A test is run in a process of its own lane, so that none sees what another one changed in the modules. Tests of classes with `is_long`
-come first. A test that is skipped is counted as such, and is a failure with `--all`, as in the gate.
+Each lane is a process, so tests of two lanes can't see each other's changes of modules. Tests of classes with `is_long` come first. Skipped
+tests are counted, and are failures with `--all`, as in the gate.
 """
 import contextlib
 import multiprocessing

@@ -2,8 +2,8 @@
 
 A session has a line `program NAME`, and `quantum N` if there is one. A line `> TEXT` is a packet that gdb sends, `> ` and a sign of `+`, `-`
 or `^C` these bytes alone, and a line `< TEXT` is the packet of an answer. The debugger is asked over standard input and standard output.
-Its answers are the wanted ones. Those of each prefix are a prefix of them, and with any byte changed the session comes to its end, as any
-stream of packets and bytes does.
+It must give these answers, to each prefix of a session a prefix of them, and come to its end with any byte changed, and with any stream of
+packets and bytes.
 """
 import random
 import subprocess

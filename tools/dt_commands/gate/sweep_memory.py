@@ -1,10 +1,10 @@
-"""Refuses requests for memory of three programs.
+"""Refuses the allocations of three programs.
 
-`alloc_failures` must print the same text whichever of its requests is refused. With all refused from the first on that comes right before
-its calls that take no memory, it must say of that request and of the last one that they were refused, and of these calls what it says
-else. `dthreads` runs, lists and records small guests, replays schedules, and debugs: each answer is the true one or out of memory (125);
-then standard output has a prefix of the true output, and no file was written after the first that lacks. `phase_failures` runs phases of
-these guests: each of its lines is the true one or says out of memory, and its draws take no memory.
+`alloc_failures` must print the same text whichever of its allocations is refused. It has calls that allocate nothing, between two
+allocations. If all are refused from the first of these two on, it must report both as refused, and print of the calls what it prints
+otherwise. `dthreads` runs, lists and records small guests, replays schedules, and debugs. Each answer must be the true one or out of memory
+(125); then standard output has a prefix of the true output, and no file was written after the first that is missing. `phase_failures` runs
+phases of these guests: each of its lines must be the true one or say out of memory, and its draws must allocate nothing.
 
 A sweep counts only if its refusals reached the program: at least one answer is out of memory, and of the requests of an undisturbed run
 all were refused in turn but for SPREAD, if it has several host threads, and nine tenths of those of the longest run. A run that doesn't
