@@ -14,7 +14,7 @@ from dt_commands.repository import TOP
 PARTS = {
     "check": ["sources", "clauses", "layers", "pages", "samples", "pictures", "c-samples", "c-functions"],
     "test": ["c-samples", "guest", "manual", "c-page", "real", "openmp", "nptl", "timeline", "kit"],
-    "sweep": ["memory", "changes", "schedules", "floats"],
+    "sweep": ["memory", "changes", "floats"],
     "measure": ["workers", "c-samples", "library", "debugger"],
     "write": ["pages", "samples", "pictures", "c-samples", "c-functions"],
 }

@@ -1,5 +1,4 @@
 """Tests of the commands that build, run and measure guests: what they read and compare. No guest is run."""
-import argparse
 import contextlib
 import hashlib
 import io
@@ -10,9 +9,9 @@ import tempfile
 import unittest
 
 from dt_commands import c_page, c_samples, guest_runs, guest_tests, manual_examples, measure_c_samples, random_guests, samples
-from dt_commands import sweep_schedules, texts, written_guests
+from dt_commands import texts, written_guests
 from dt_commands.progress import Progress
-from dt_commands.texts import read_text, write_file
+from dt_commands.texts import write_file
 from rooms import WithRoom
 
 PAGE = """.SS Program source
@@ -108,30 +107,6 @@ class Pages(unittest.TestCase):
 
     def test_the_first_whole_program_of_the_last_heading_is_the_example(self):
         self.assertEqual(manual_examples.program_in(PAGE), "#include <stdio.h>\n    printf(\"\\n-''\");\n")
-
-
-# A command rt, and the program that it would build: each notes how it was called.
-NOTES = '#!/bin/sh\necho "$(basename "$0") $*" >> "$NOTES"\n'
-
-
-class Programs(WithRoom):
-    """What the commands ask of the program test_guest_runs, in a crate's folder of its own."""
-
-    def setUp(self):
-        super().setUp()
-        self.notes = f"{self.room}/notes"
-        for file in ("rt", "out/test_guest_runs"):
-            self.write(file, NOTES, 0o755)
-        self.set(PATH=f"{self.room}:{os.environ['PATH']}", NOTES=self.notes)
-        self.patch(sweep_schedules, "CRATE", self.room)
-
-    def asked(self):
-        return read_text(self.notes).splitlines()
-
-    def test_schedules_are_walked_by_the_built_program(self):
-        options = argparse.Namespace(count=7, seed=3)
-        self.assertEqual(sweep_schedules.sweep(options), 0)
-        self.assertEqual(self.asked(), ["rt run -- comparison", "test_guest_runs walk 7 3"])
 
 
 class Samples(WithRoom):
