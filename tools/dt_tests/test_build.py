@@ -123,8 +123,8 @@ class Whole(WithRoom):
         for file in ("dthreads", "tools/dt", "tools/list-sources"):
             shutil.copy(f"{TOP}/{file}", f"{self.top}/{file}")
         self.write("top/crates.txt", "low:\nside:\nhigh: low\ncommand: high side\n")
-        for name in ("low", "side", "high", "command"):
-            self.write(f"top/crates/{name}/src/lib.rt", "//! Some.\n")
+        for name, lines in (("low", 9), ("side", 1), ("high", 9), ("command", 1)):
+            self.write(f"top/crates/{name}/src/lib.rt", "//! Some.\n" * lines)
         self.write("top/bin/rt", RT, 0o755)
 
     def ran(self, *words, **environment):
@@ -139,15 +139,16 @@ class Whole(WithRoom):
     def test_the_crates_are_built_and_the_program_is_started(self):
         wrote, asked = self.ran("run", "x y")
         self.assertEqual(wrote, "built, run x y\n")
-        self.assertRegex("\n".join(asked), r"\Aversion\nall check --jobs \d+\nrun -- --version\Z")
-        self.assertIn("== high\n", self.said)
+        self.assertRegex("\n".join(asked), r"\Aversion\nall check --jobs \d+\nrun -- --help\Z")
+        self.assertIn("3 of 4: high", self.said)
+        self.assertIn("4 of 4: command", self.said)
         self.assertEqual(self.ran("run"), ("built, run\n", []))
         self.assertEqual(self.said, "")
 
     def test_so_many_lanes_are_at_work_as_are_asked_for(self):
         _, asked = self.ran("--build", "--lanes", "3")
         self.assertIn("all check --jobs 3", asked)
-        self.assertIn("3 crates at a time", self.said)
+        self.assertIn("building 4 crates, 3 at a time", self.said)
         self.assertIn("there is no release/", self.said)
 
     def test_a_failure_shows_what_was_said_and_leaves_no_record(self):

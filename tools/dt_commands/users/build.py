@@ -4,14 +4,23 @@ What is built stays when the build is interrupted, and the next one goes on from
 released one, byte for byte. `./dthreads --build` is this command, and `./dthreads` calls it if it has no program to start.
 """
 import contextlib
+import glob
 import os
 import signal
 import sys
+import time
 
 from dt_commands import built_from, lanes, release, toolchain
-from dt_commands.repository import TOP
+from dt_commands.progress import minutes
+from dt_commands.repository import TOP, below
+from dt_commands.texts import contents
 
 COMMAND = f"{TOP}/crates/command"
+LOG = f"{COMMAND}/out/build.log"
+# The processor seconds that a crate takes at least, and for each line of its files, on a fast machine.
+EACH_CRATE, EACH_LINE = 15, 0.08
+# How much of a failed build's output is shown.
+SHOWN = 40
 
 
 def arguments(parser):
@@ -24,13 +33,40 @@ def say(text):
     print(f"dthreads: {text}", file=sys.stderr, flush=True)
 
 
-def is_built(lane_count):
-    """Builds the crates, then the program, and lets the toolchain say how far it is. Returns whether the program is there."""
-    how = {"cwd": COMMAND, "stdout": sys.stderr}
-    for words in (["all", "check", "--jobs", str(lane_count)], ["run", "--", "--version"]):
-        if toolchain.start(["rt", *words], **how).wait():
-            return False
-    return os.access(release.BUILT, os.X_OK)
+def cost(name):
+    """Returns the processor seconds that the crate is likely to take."""
+    files = [it for part in ("src", "specs", "proofs") for it in glob.glob(f"{TOP}/crates/{name}/{part}/**/*.*", recursive=True)]
+    return EACH_CRATE + EACH_LINE * sum((contents(it) or b"").count(b"\n") for it in files)
+
+
+def show_failure():
+    say(f"a crate was not built. The output, whole in {os.path.relpath(LOG)}, ends:")
+    print(*contents(LOG).decode(errors="replace").splitlines()[-SHOWN:], sep="\n", file=sys.stderr, flush=True)
+
+
+def are_built(names, lane_count):
+    """Builds the crates, the program among them, and says each that is done. Returns whether all are built."""
+    begun, done = time.time(), []
+    low = sum(map(cost, names)) / lane_count / 60
+    say(f"building {len(names)} crates, {lane_count} at a time: from nothing this takes {low:.0f} to {2 * low + 1:.0f} minutes")
+
+    def ended(name):
+        done.append(name)
+        say(f"{len(done)} of {len(names)}: {name} ({minutes(time.time() - begun)} so far)")
+
+    with open(LOG, "w", encoding="utf-8", errors="replace") as log:
+        words = ["rt", "all", "check", "--jobs", str(lane_count)]
+        ran = toolchain.start(words, cwd=COMMAND, stdout=toolchain.PIPE, stderr=toolchain.STDOUT, errors="replace")
+        for line in ran.stdout:
+            print(line, end="", file=log, flush=True)
+            if line.startswith("== ") and line[3:].strip() in names[:-1]:
+                ended(line[3:].strip())
+        status = ran.wait() or toolchain.start(["rt", "run", "--", "--help"], cwd=COMMAND, stdout=log, stderr=log).wait()
+    if status or not os.access(release.BUILT, os.X_OK):
+        show_failure()
+        return False
+    ended(names[-1])
+    return True
 
 
 def named():
@@ -55,10 +91,8 @@ def build(lane_count):
     if not version:
         say("`rt version` failed: see that the Rattle toolchain is whole")
         return 1
-    lane_count = lanes.count(lane_count)
-    say(f"building the program from nothing, {lane_count} crates at a time, takes half an hour to two hours")
-    if not is_built(lane_count):
-        say("the program was not built")
+    os.makedirs(f"{COMMAND}/out", exist_ok=True)
+    if not are_built(below("command"), lanes.count(lane_count)):
         return 1
     if built_from.listed() != text:
         say("a source changed during the build, so the program is of neither: build again")
