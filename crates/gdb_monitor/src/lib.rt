@@ -5,12 +5,15 @@
 #![tactic(auto)]
 
 mod command;
+mod name;
 mod performing;
+mod reading;
 mod searching;
 mod texts;
 mod trace;
 mod writers;
 
-pub use command::{Command, Span, command_of};
+pub use command::{Command, Span};
 pub use performing::perform_command;
+pub use reading::command_of;
 pub use searching::{existing, step_named, step_of};

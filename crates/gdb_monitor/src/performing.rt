@@ -1,5 +1,6 @@
 //! Does the commands.
 ghost use Rattle.std.specs.Prelude.{OnOk};
+ghost use Rattle.timeline.specs.Line.{SameRun};
 ghost use Rattle.gdb_monitor.specs.Searching.{Stays};
 
 use crate::command::Command;
@@ -33,7 +34,8 @@ pub fn perform_command(
     listed: u32,
     command: Command,
 ) -> Result<Option<u64>, AllocError>
-    ensures { OnOk result (Stays timeline.old timeline.new) }
+    ensures run { SameRun timeline.old timeline.new }
+    ensures stays { OnOk result (Stays timeline.old timeline.new) }
 {
     match command {
         Command::Turn { turn, count } => {

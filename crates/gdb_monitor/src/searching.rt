@@ -1,10 +1,10 @@
 //! Finds positions: the run goes there and comes back.
 ghost use Rattle.std.specs.Prelude.{◌≡◌, IfOk, OnOk};
 ghost use Rattle.timeline.specs.Line.{SameRun, start_of};
-ghost use Rattle.gdb_monitor.specs.Searching.{HasStep, Stays, same_or_none};
+ghost use Rattle.gdb_monitor.specs.Searching.{HasStep, Stays, same_or_none, step_named};
 
-use crate::command::decimal;
-use gdb_packets::bytes_of_digits;
+use crate::reading::decimal;
+use gdb_packets::{bytes_of_digits, split_at_byte};
 use std::alloc::{AllocError, Global};
 use timeline::Timeline;
 
@@ -13,6 +13,7 @@ const LEAP: u64 = 0x10_0000;
 
 /// This step, if the run has it. The run stands where it stood, unless memory is refused.
 pub fn existing(timeline: &mut Timeline, step: u64) -> Result<Option<u64>, AllocError>
+    ensures run { SameRun timeline.old timeline.new }
     ensures stays { OnOk result (Stays timeline.old timeline.new) }
     ensures found { IfOk result (HasStep (start_of timeline.old) step) }
 {
@@ -97,11 +98,13 @@ fn first_step_of(timeline: &mut Timeline, turn: u64) -> Result<u64, AllocError>
 }
 
 /// The step that the arguments of a restart name, in digits, and else the first.
-pub fn step_named(alloc: Global, arguments: &[u8]) -> Result<u64, AllocError> {
-    let Some(place) = arguments.iter().position(|byte| *byte == b';') else {
+pub fn step_named(alloc: Global, arguments: &[u8]) -> Result<u64, AllocError>
+    ensures { IfOk result (λ step. step ≡ step_named arguments.now) }
+{
+    let Some((_, digits)) = split_at_byte(arguments, b';') else {
         return Ok(0);
     };
-    match bytes_of_digits(alloc, &arguments[place + 1..])? {
+    match bytes_of_digits(alloc, digits)? {
         Some(text) => Ok(decimal(text.as_slice()).unwrap_or(0)),
         None => Ok(0),
     }
