@@ -1,5 +1,5 @@
 -- What the commands and their arguments are, built up step by step.
-use Rattle.std.proofs.Common.{◌≡◌, ◌∙◌, [], ◌∷◌, Option, true, ap, ap₂}
+use Rattle.std.proofs.Common.{◌≡◌, ◌∙◌, [], ◌∷◌, Option, Some, true, ap, ap₂}
 use Rattle.std.specs.Borrow.{Bor}
 use Rattle.std.specs.Prelude.{◌||◌, false}
 use Rattle.clap.specs.Simple.{app_of_fields, new_shape}
@@ -45,3 +45,10 @@ required rule arg new is given = record {
 pub has_command : (app : App) (shape : Shape) (old sub new : Command) → app_of old ≡ app → Takes shape sub → AddsSubcommand old sub new
     → app_of new ≡ with_subcommand app shape
 has_command app shape old sub new is takes added = added.shape takes.local ∙ ap₂ with_subcommand is (ap (λ (app : App). app.top) takes.shape_is)
+
+-- an argument with a text of help
+pub helped : (rule : Rule) (arg : Arg) (text : Bor Text) (new : Arg) → Is rule arg → new ≡ record arg { help = Some text } → Is rule new
+helped rule arg text new is given = record {
+  rule_is = ap rule_of given ∙ is.rule_is;
+  local = ap (λ (arg : Arg). arg.global) given ∙ is.local;
+}

@@ -56,11 +56,6 @@ AreWanted rows (text ∷ others) wanted =
 abbrev pub AddsWanted : List Row → List RunText → (old new : List Wanted) → Type 0
 AddsWanted rows texts old new = (more : List Wanted) × AreWanted rows texts more × (new ≡ old ++ more)
 
--- this text was, if it is wanted
-abbrev pub AddsIfWanted : List Row → RunText → (old new : List Wanted) → Type 0
-AddsIfWanted rows text old new =
-    (destination : Option Destination) × IsNamed (first_of (name_of text) rows) destination × (new ≡ old ++ wanted_for text destination)
-
 -- a file, and the file of its input if one is named
 pub record AreFiles (rows : List Row) (file : Bor (List ℕ)) (input : Option (Bor (List ℕ))) : Type 0 where
   pub file_is : IsText rows (codes "FILE") (Some file)

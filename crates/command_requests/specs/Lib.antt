@@ -3,6 +3,7 @@ pub mod Commands
 pub mod Destination
 pub mod Names
 pub mod Needed
+pub mod Parameter
 pub mod Reading
 pub mod Status
 pub mod Texts

@@ -1,11 +1,13 @@
 //! The commands of the command line, and what each takes.
 ghost use Rattle.std.specs.Prelude.{◌≡◌, IfOk};
+ghost use Rattle.clap.specs.Simple.{new_shape};
 ghost use Rattle.clap.specs.Words.{Shape, app_of};
 ghost use Rattle.command_requests.specs.Commands as spec;
-ghost use Rattle.command_requests.specs.Commands.{Takes, options_of, with_rules};
+ghost use Rattle.command_requests.specs.Commands.{Takes, with_rules};
+ghost use Rattle.command_requests.specs.Parameter.{rules_for};
 
-use crate::parameters::{bound, file, input, quantum, schedule, text_option, turn, workers};
-use crate::text::Text;
+use crate::parameter::{Parameter, arg};
+use crate::parameters::{DEBUG, DISASM, REPLAY, RUN};
 use clap::Command;
 use std::alloc::{AllocError, Global};
 
@@ -16,78 +18,65 @@ const VERSION: &str = "0.1.0";
 pub(crate) fn program<'a>(alloc: Global) -> Result<Command<'a>, AllocError>
     ensures { IfOk result (λ program. app_of program ≡ spec.program) }
 {
+    let run = command(
+        alloc,
+        "run",
+        "Run a program, with standard input as its input",
+        &RUN,
+    )?;
+    let debug = command(
+        alloc,
+        "debug",
+        "Debug a program with gdb, forwards and backwards, on standard input and output",
+        &DEBUG,
+    )?;
+    let disasm = command(
+        alloc,
+        "disasm",
+        "Print the instructions of a program",
+        &DISASM,
+    )?;
+    let replay = command(
+        alloc,
+        "replay",
+        "Apply a schedule to a program and print the trace",
+        &REPLAY,
+    )?;
     Command::new(alloc, "dthreads")
         .bin_name("dthreads")?
         .version(VERSION)
         .about("Runs multithreaded RV32IM programs with the same result each time")
         .subcommand_required(true)
         .disable_help_subcommand(true)
-        .subcommand(run_command(alloc)?)?
-        .subcommand(debug_command(alloc)?)?
-        .subcommand(disasm_command(alloc)?)?
-        .subcommand(replay_command(alloc)?)
+        .subcommand(run)?
+        .subcommand(debug)?
+        .subcommand(disasm)?
+        .subcommand(replay)
 }
 
-fn run_command<'a>(alloc: Global) -> Result<Command<'a>, AllocError>
-    ensures { IfOk result (Takes spec.run) }
+/// A command of this name, with what help says of it and what it takes.
+fn command<'a>(
+    alloc: Global,
+    name: &'a str,
+    about: &'a str,
+    parameters: &[Parameter],
+) -> Result<Command<'a>, AllocError>
+    ensures { IfOk result (Takes (with_rules (new_shape name.entry.now) (rules_for parameters.now))) }
 {
-    let command = Command::new(alloc, "run")
-        .about("Run a program, with standard input as its input")
-        .arg(file(alloc))?
-        .arg(input(alloc, "The program's input [default: standard input]"))?
-        .arg(workers(alloc).default_value("4"))?;
-    with_texts(limited(command, alloc)?, alloc, Text::all())
+    with_parameters(Command::new(alloc, name).about(about), alloc, parameters)
 }
 
-fn debug_command<'a>(alloc: Global) -> Result<Command<'a>, AllocError>
-    ensures { IfOk result (Takes spec.debug) }
-{
-    let command = Command::new(alloc, "debug")
-        .about("Debug a program with gdb, forwards and backwards, on standard input and output")
-        .arg(file(alloc))?
-        .arg(input(alloc, "The program's input [default: empty]"))?
-        .arg(turn(alloc))?;
-    limited(command, alloc)
-}
-
-fn disasm_command<'a>(alloc: Global) -> Result<Command<'a>, AllocError>
-    ensures { IfOk result (Takes spec.disasm) }
-{
-    Command::new(alloc, "disasm")
-        .about("Print the instructions of a program")
-        .arg(file(alloc))
-}
-
-fn replay_command<'a>(alloc: Global) -> Result<Command<'a>, AllocError>
-    ensures { IfOk result (Takes spec.replay) }
-{
-    let command = Command::new(alloc, "replay")
-        .about("Apply a schedule to a program and print the trace")
-        .arg(file(alloc))?
-        .arg(schedule(alloc))?
-        .arg(input(alloc, "The program's input [default: standard input]"))?
-        .arg(workers(alloc).required(true))?;
-    limited(command, alloc)
-}
-
-/// Adds how many instructions are executed.
-fn limited<'a>(command: Command<'a>, alloc: Global) -> Result<Command<'a>, AllocError>
-    ensures { (shape : Shape) → Takes shape command.entry → IfOk result (Takes (with_rules shape spec.limits)) }
-{
-    command.arg(bound(alloc))?.arg(quantum(alloc))
-}
-
-/// Adds the options of these texts.
-fn with_texts<'a>(
+/// Adds these parameters.
+fn with_parameters<'a>(
     command: Command<'a>,
     alloc: Global,
-    texts: &[Text],
+    parameters: &[Parameter],
 ) -> Result<Command<'a>, AllocError>
-    ensures { (shape : Shape) → Takes shape command.entry → IfOk result (Takes (with_rules shape (options_of texts.now))) }
+    ensures { (shape : Shape) → Takes shape command.entry → IfOk result (Takes (with_rules shape (rules_for parameters.now))) }
 {
-    let [text, others @ ..] = texts else {
+    let Some((parameter, others)) = parameters.split_first() else {
         return Ok(command);
     };
-    let command = command.arg(text_option(alloc, *text))?;
-    with_texts(command, alloc, others)
+    let command = command.arg(arg(alloc, parameter))?;
+    with_parameters(command, alloc, others)
 }

@@ -1,96 +1,135 @@
-//! The arguments that the commands take.
-ghost use Rattle.std.specs.Prelude.{◌≡◌};
-ghost use Rattle.command_requests.specs.Commands as spec;
-ghost use Rattle.command_requests.specs.Commands.{Is};
-ghost use Rattle.command_requests.specs.Texts.{name_of};
-
+//! The table of all parameters: the parser, its help, the manual page, the completions and the tables of options are made of it.
+use crate::form::Form;
+use crate::need::Need;
+use crate::parameter::Parameter;
 use crate::text::Text;
-use clap::builder::ValueParser;
-use clap::{Arg, value_parser};
-use run_limits::{MAX_BOUND, MAX_WORKERS};
-use std::alloc::Global;
 
-pub(crate) fn file<'a>(alloc: Global) -> Arg<'a>
-    ensures { Is spec.file result }
-{
-    Arg::new(alloc, "FILE")
-        .required(true)
-        .help("The program, an ELF file")
-}
+pub(crate) const FILE: Parameter = Parameter {
+    name: "FILE",
+    form: Form::Placed,
+    need: Need::Required,
+    help: "The program, an ELF file",
+};
 
-pub(crate) fn input<'a>(alloc: Global, help: &'a str) -> Arg<'a>
-    ensures { Is spec.input result }
-{
-    Arg::new(alloc, "input")
-        .long("input")
-        .value_name("FILE")
-        .help(help)
-}
+pub(crate) const SCHEDULE: Parameter = Parameter {
+    name: "SCHEDULE",
+    form: Form::Placed,
+    need: Need::Required,
+    help: "The events, one in each line",
+};
 
-pub(crate) fn turn<'a>(alloc: Global) -> Arg<'a>
-    ensures { Is spec.turn result }
-{
-    number(alloc, "turn", count())
-        .default_value("1")
-        .help("The turn at whose start gdb finds the program")
-}
+/// The input of a run and of a replay.
+pub(crate) const INPUT: Parameter = Parameter {
+    name: "input",
+    form: Form::File,
+    need: Need::Optional,
+    help: "The program's input [default: standard input]",
+};
 
-pub(crate) fn schedule<'a>(alloc: Global) -> Arg<'a>
-    ensures { Is spec.schedule result }
-{
-    Arg::new(alloc, "SCHEDULE")
-        .required(true)
-        .help("The events, one in each line")
-}
+/// The input of a debugging, which needs standard input for gdb.
+const DEBUGGED_INPUT: Parameter = Parameter {
+    name: "input",
+    form: Form::File,
+    need: Need::Optional,
+    help: "The program's input [default: empty]",
+};
 
-pub(crate) fn workers<'a>(alloc: Global) -> Arg<'a>
-    ensures { Is spec.workers result }
-{
-    let range = value_parser!(u32).range(1..=i64::from(MAX_WORKERS));
-    number(alloc, "workers", range).help("How many workers there are, 1 to 64")
-}
+/// The workers of a run.
+pub(crate) const WORKERS: Parameter = Parameter {
+    name: "workers",
+    form: Form::Workers,
+    need: Need::Default("4"),
+    help: "How many workers there are, 1 to 64",
+};
 
-pub(crate) fn bound<'a>(alloc: Global) -> Arg<'a>
-    ensures { Is spec.bound result }
-{
-    number(alloc, "bound", count())
-        .default_value("1000000000")
-        .help("How many instructions a thread may execute, 1 to 2^40")
-}
+/// The workers of a replay, whose schedule names them.
+const SCHEDULED_WORKERS: Parameter = Parameter {
+    name: "workers",
+    form: Form::Workers,
+    need: Need::Required,
+    help: "How many workers there are, 1 to 64",
+};
 
-pub(crate) fn quantum<'a>(alloc: Global) -> Arg<'a>
-    ensures { Is spec.quantum result }
-{
-    number(alloc, "quantum", count()).help(
-        "After how many instructions a thread's turn ends, 1 to 2^40 [default: none]",
-    )
-}
+pub(crate) const TURN: Parameter = Parameter {
+    name: "turn",
+    form: Form::Count,
+    need: Need::Default("1"),
+    help: "The turn at whose start gdb finds the program",
+};
 
-/// The option that says where a text of a run goes.
-pub(crate) fn text_option<'a>(alloc: Global, text: Text) -> Arg<'a>
-    ensures { Is (spec.option (name_of text)) result }
-{
-    let name: &'a str = text.name();
-    let help: &'a str = text.help();
-    Arg::new(alloc, name)
-        .long(name)
-        .value_name("FILE")
-        .help(help)
-}
+pub(crate) const BOUND: Parameter = Parameter {
+    name: "bound",
+    form: Form::Count,
+    need: Need::Default("1000000000"),
+    help: "How many instructions a thread may execute, 1 to 2^40",
+};
 
-/// An option whose value is a number in a range.
-fn number<'a>(alloc: Global, id: &'a str, range: ValueParser<'a>) -> Arg<'a>
-    ensures { Is (spec.number id.entry.now range.entry) result }
-{
-    Arg::new(alloc, id)
-        .long(id)
-        .value_name("N")
-        .value_parser(range)
-}
+pub(crate) const QUANTUM: Parameter = Parameter {
+    name: "quantum",
+    form: Form::Count,
+    need: Need::Optional,
+    help: "After how many instructions a thread's turn ends, 1 to 2^40 [default: none]",
+};
 
-/// How many instructions, or which turn.
-fn count<'a>() -> ValueParser<'a>
-    ensures { result ≡ spec.count }
-{
-    value_parser!(u64).range(1..=MAX_BOUND as i64)
-}
+const TRACE: Parameter = Parameter {
+    name: "trace",
+    form: Form::Text(Text::Trace),
+    need: Need::Optional,
+    help: "Write a line for each turn to this file, or to standard output where it is -",
+};
+
+const TIMELINE: Parameter = Parameter {
+    name: "timeline",
+    form: Form::Text(Text::Timeline),
+    need: Need::Optional,
+    help: "Write a timeline for trace viewers to this file, or to standard output where it is -",
+};
+
+const REPORT: Parameter = Parameter {
+    name: "report",
+    form: Form::Text(Text::Report),
+    need: Need::Optional,
+    help: "Write the sharing of pages to this file, or to standard output where it is -",
+};
+
+const RACES: Parameter = Parameter {
+    name: "races",
+    form: Form::Text(Text::Races),
+    need: Need::Optional,
+    help: "Write the data races to this file, or to standard output where it is -",
+};
+
+const CORE: Parameter = Parameter {
+    name: "core",
+    form: Form::Text(Text::Core),
+    need: Need::Optional,
+    help: "Write a core file of the end, for gdb, to this file, or to standard output where it is -",
+};
+
+const DIGEST: Parameter = Parameter {
+    name: "digest",
+    form: Form::Text(Text::Digest),
+    need: Need::Optional,
+    help: "Write hashes of output, memory and trace to this file, or to standard output where it is -",
+};
+
+/// The parameters of the command run. The texts are in the order in which a run begins them and puts them where they are to be.
+pub(crate) static RUN: [Parameter; 11] = [
+    FILE, INPUT, WORKERS, BOUND, QUANTUM, TRACE, TIMELINE, REPORT, RACES, CORE, DIGEST,
+];
+
+/// The parameters of the command debug.
+pub(crate) static DEBUG: [Parameter; 5] = [FILE, DEBUGGED_INPUT, TURN, BOUND, QUANTUM];
+
+/// The parameters of the command disasm.
+pub(crate) static DISASM: [Parameter; 1] = [FILE];
+
+/// The parameters of the command replay.
+pub(crate) static REPLAY: [Parameter; 6] = [
+    FILE,
+    SCHEDULE,
+    INPUT,
+    SCHEDULED_WORKERS,
+    BOUND,
+    QUANTUM,
+];

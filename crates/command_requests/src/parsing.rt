@@ -3,16 +3,19 @@ ghost use Rattle.std.specs.Prelude.{◌≡◌, IfErr, IfOk, OnOk, Some, codes, m
 ghost use Rattle.clap.specs.Faults.{fault_of};
 ghost use Rattle.clap.specs.Kinds.{HasKind};
 ghost use Rattle.clap.specs.Words.{first_of, found_of, one_of, rows_of, subcommand_rows_of};
-ghost use Rattle.command_requests.specs.Asked.{AddsIfWanted, AddsWanted, AreNumbers, AreWanted, Asks, AsksFor, IsAsked, IsNamed, IsRead, IsText};
+ghost use Rattle.command_requests.specs.Asked.{AddsWanted, AreNumbers, AreWanted, Asks, AsksFor, IsAsked, IsNamed, IsRead, IsText};
 ghost use Rattle.command_requests.specs.Commands as spec;
 ghost use Rattle.command_requests.specs.Needed.{HasDebug, HasNumber, HasReplay, HasRun, HasText, IsFound};
+ghost use Rattle.command_requests.specs.Parameter.{AreNamed, IsNamedFor, texts_in_form, texts_of};
 ghost use Rattle.command_requests.specs.Texts.{texts};
 
 use crate::commands::program;
 use crate::destination::Destination;
+use crate::form::Form;
 use crate::numbers::Numbers;
+use crate::parameter::Parameter;
+use crate::parameters::{BOUND, FILE, INPUT, QUANTUM, RUN, SCHEDULE, TURN, WORKERS};
 use crate::request::Request;
-use crate::text::Text;
 use crate::wanted::Wanted;
 use clap::{ArgMatches, Error};
 use std::alloc::{AllocError, Global};
@@ -37,7 +40,7 @@ fn requested<'a>(alloc: Global, matches: &ArgMatches<'a>) -> Result<Request<'a>,
         ("run", run) => run_request(alloc, run),
         ("debug", debug) => Ok(debug_request(debug)),
         ("disasm", disasm) => Ok(Request::Disasm {
-            file: given_text(disasm, "FILE"),
+            file: given_text(disasm, FILE.name),
         }),
         ("replay", replay) => Ok(replay_request(replay)),
         _ => unreachable!(),
@@ -51,8 +54,8 @@ fn run_request<'a>(alloc: Global, matches: &ArgMatches<'a>) -> Result<Request<'a
 {
     let wanted = wanted_of(alloc, matches)?;
     Ok(Request::Run {
-        file: given_text(matches, "FILE"),
-        input: text(matches, "input"),
+        file: given_text(matches, FILE.name),
+        input: text(matches, INPUT.name),
         numbers: numbers_of(matches, workers_of(matches)),
         wanted,
     })
@@ -64,10 +67,10 @@ fn debug_request<'a>(matches: &ArgMatches<'a>) -> Request<'a>
     ensures { Asks (codes "debug") (rows_of (found_of matches.now)) result }
 {
     Request::Debug {
-        file: given_text(matches, "FILE"),
-        input: text(matches, "input"),
+        file: given_text(matches, FILE.name),
+        input: text(matches, INPUT.name),
         numbers: numbers_of(matches, 1),
-        turn: given_number(matches, "turn"),
+        turn: given_number(matches, TURN.name),
     }
 }
 
@@ -77,9 +80,9 @@ fn replay_request<'a>(matches: &ArgMatches<'a>) -> Request<'a>
     ensures { Asks (codes "replay") (rows_of (found_of matches.now)) result }
 {
     Request::Replay {
-        file: given_text(matches, "FILE"),
-        schedule: given_text(matches, "SCHEDULE"),
-        input: text(matches, "input"),
+        file: given_text(matches, FILE.name),
+        schedule: given_text(matches, SCHEDULE.name),
+        input: text(matches, INPUT.name),
         numbers: numbers_of(matches, workers_of(matches)),
     }
 }
@@ -91,8 +94,8 @@ fn numbers_of(matches: &ArgMatches<'_>, workers: u32) -> Numbers
     ensures workers { result.workers ≡ workers }
 {
     Numbers {
-        bound: given_number(matches, "bound"),
-        quantum: number(matches, "quantum"),
+        bound: given_number(matches, BOUND.name),
+        quantum: number(matches, QUANTUM.name),
         workers,
     }
 }
@@ -102,34 +105,40 @@ fn wanted_of<'a>(alloc: Global, matches: &ArgMatches<'a>) -> Result<Vec<Wanted<'
     ensures { IfOk result (λ wanted. AreWanted (rows_of (found_of matches.now)) texts wanted.items) }
 {
     let mut wanted = Vec::new(alloc);
-    add_wanted(matches, Text::all(), &mut wanted)?;
+    add_wanted(matches, &RUN, &mut wanted)?;
     Ok(wanted)
 }
 
-/// Adds those of these texts whose options are given.
+/// Adds the texts whose options are among these and are given.
 fn add_wanted<'a>(
     matches: &ArgMatches<'a>,
-    texts: &[Text],
+    parameters: &[Parameter],
     wanted: &mut Vec<Wanted<'a>>,
 ) -> Result<(), AllocError>
-    ensures { OnOk result (AddsWanted (rows_of (found_of matches.now)) texts.now wanted.old.items wanted.new.items) }
+    requires { AreNamed parameters.now }
+    ensures { OnOk result (AddsWanted (rows_of (found_of matches.now)) (texts_of parameters.now) wanted.old.items wanted.new.items) }
 {
-    let [text, others @ ..] = texts else {
+    let Some((parameter, others)) = parameters.split_first() else {
         return Ok(());
     };
-    add_if_wanted(matches, *text, wanted)?;
+    add_if_wanted(matches, parameter, wanted)?;
     add_wanted(matches, others, wanted)
 }
 
-/// Adds this text if its option is given.
+/// Adds the text whose place this says, if there is one and it is given.
 fn add_if_wanted<'a>(
     matches: &ArgMatches<'a>,
-    text: Text,
+    parameter: &Parameter,
     wanted: &mut Vec<Wanted<'a>>,
 ) -> Result<(), AllocError>
-    ensures { OnOk result (AddsIfWanted (rows_of (found_of matches.now)) text wanted.old.items wanted.new.items) }
+    requires { IsNamedFor parameter.now.form parameter.now.name.now }
+    ensures { OnOk result
+        (AddsWanted (rows_of (found_of matches.now)) (texts_in_form parameter.now.form) wanted.old.items wanted.new.items) }
 {
-    match destination(matches, text.name()) {
+    let Form::Text(text) = parameter.form else {
+        return Ok(());
+    };
+    match destination(matches, parameter.name) {
         Some(destination) => {
             wanted.push(Wanted { text, destination })?;
             Ok(())
@@ -191,5 +200,5 @@ fn workers_of(matches: &ArgMatches<'_>) -> u32
 fn workers_found(matches: &ArgMatches<'_>) -> Option<u32>
     ensures { IsRead 32 (one_of (codes "workers") (rows_of (found_of matches.now))) result }
 {
-    matches.get_one("workers")
+    matches.get_one(WORKERS.name)
 }

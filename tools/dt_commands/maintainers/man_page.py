@@ -105,9 +105,9 @@ def synopsis(page):
     return "\n.br\n".join("\n".join(textwrap.wrap(it, WIDTH, **WHOLE)) for it in marked)
 
 
-def page():
-    """Returns the whole manual page."""
-    text = read(SOURCE)
+def page(text=None):
+    """Returns the whole manual page, for what it is made of, or else for that as it is."""
+    text = re.sub(r"^<!-- .* -->\n", "", text or read(SOURCE), flags=re.M)
     version = re.search(r'const VERSION: &str = "(.*)";', read(VERSION))[1]
     sections = text[text.index("\n## ") :]
     return read(FORM).format(version=version, date=DATE, synopsis=synopsis(text), body="\n".join(body_of(sections)))

@@ -4,16 +4,17 @@ Generated are docs/CONFORMANCE.md as a whole, from tools/changes and tools/pages
 each crate root; the limits in docs/GUEST.md, from the definitions; the list of the definitions that the headline
 needs in docs/LAW.md, from the contracts of run, run_into and run_recorded; how many public functions have no `ensures` in
 docs/PROVED.md; the transcripts in docs/DEBUGGING.md, from the
-sessions of guest/tests/gdb; and man/dthreads.1, from docs/CLI.md and tools/pages. Besides,
-each line of a block marked `antt` must be in the sources, so that no page quotes what isn't there, each link must lead to a file
-and a heading, the picture of the layers in docs/ARCHITECTURE.md must show what crates.txt has, what README.md says of speed must be in
+sessions of guest/tests/gdb; the tables of options in docs/CLI.md and the completions, from the table in the sources; and man/dthreads.1,
+from docs/CLI.md and tools/pages. Besides, each line of a block marked `antt` must be in the sources, so that no page quotes what isn't there, each link must lead to a file
+and a heading, the command lines in docs/CLI.md must have the options of their commands, the picture of the layers in docs/ARCHITECTURE.md must show what crates.txt has, what README.md says of speed must be in
 docs/BENCH.md, docs/PROVED.md must name the toolchain of the release, and the pages that are read as a whole have a size that they
 don't exceed.
 """
 import os
 import re
 
-from . import conformance_page, crate_pages, debugging_page, definitions, layer_picture, man_page, page_links, uncontracted
+from . import completions, conformance_page, crate_pages, debugging_page, definitions, layer_picture, man_page, options, page_links
+from . import uncontracted
 from .repository import TOP
 from .sources import below
 from .texts import read_text, write_file
@@ -28,9 +29,9 @@ def read(page):
     return read_text(f"{TOP}/{page}")
 
 
-def with_part(page, name, text):
-    """Returns a page with the part between the two markers of this name replaced."""
-    whole = read(page)
+def with_part(page, name, text, whole=None):
+    """Returns a page, or its text as it is so far, with the part between the two markers of this name replaced."""
+    whole = whole or read(page)
     start, end = f"<!-- generated: {name} -->\n", f"<!-- end of generated: {name} -->"
     if whole.count(start) != 1 or whole.count(end) != 1:
         raise SystemExit(f"{page}: the markers of the part {name} must be there once each")
@@ -38,16 +39,28 @@ def with_part(page, name, text):
     return head + start + text + end + rest.split(end)[1]
 
 
+def command_line_page():
+    """Returns docs/CLI.md with the tables of the commands that have options."""
+    text = read(man_page.SOURCE)
+    for command in options.commands():
+        if any(it.is_option for it in command.parameters):
+            text = with_part(man_page.SOURCE, f"options of {command.name}", options.table_of(command), text)
+    return text
+
+
 def pages():
     """Returns each page that has generated parts, with what must be in it."""
+    command_line = command_line_page()
     return {
+        **completions.files(),
+        man_page.SOURCE: command_line,
         "docs/CONFORMANCE.md": conformance_page.page(),
         "docs/CRATES.md": crate_pages.page(),
         debugging_page.PAGE: debugging_page.page(),
         "docs/GUEST.md": with_part("docs/GUEST.md", "limits", crate_pages.limits()),
         "docs/LAW.md": with_part("docs/LAW.md", "definitions", definitions.listed()),
         "docs/PROVED.md": with_part("docs/PROVED.md", "functions without ensures", uncontracted.listed()),
-        man_page.FILE: man_page.page(),
+        man_page.FILE: man_page.page(command_line),
     }
 
 
@@ -93,9 +106,11 @@ def differing():
 
 def told_wrong():
     """Prints each wrong quotation, each broken link, each page that is too long, what the picture of the layers shows wrongly, each number
-    that no measurement has and another toolchain than the release's, and returns how many there are."""
+    that no measurement has, each command line without its options and another toolchain than the release's, and returns how many there
+    are."""
     wrong = [f"{it}: no source has this line" for it in misquoted()] + page_links.broken() + too_long(LIMITS)
     wrong += layer_picture.found() + unmeasured(read("README.md"), read("docs/BENCH.md"))
+    wrong += options.untold(read(man_page.SOURCE), options.commands())
     wrong += of_another_toolchain(read("docs/PROVED.md"), read("release/sources.sha256"))
     for line in wrong:
         print(line)

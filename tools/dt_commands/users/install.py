@@ -2,8 +2,8 @@
 
 Below PREFIX, bin/ has dthreads, and dthreads-cc, dthreads-c++, dthreads-rustc, dthreads-cargo, dthreads-exec, dthreads-gdb,
 dthreads-lines and dthreads-picture as links to the kit; share/dthreads/ has the kit (guest/), the samples and what draws pictures
-(tools/), share/doc/dthreads the pages, as they speak of what is installed, and share/man/man1 the manual page. All of it works without
-the checkout, from any folder, and may be moved as a whole. What an earlier call left below share/dthreads and share/doc/dthreads is
+(tools/), share/doc/dthreads the pages, as they speak of what is installed, share/man/man1 the manual page, and the completions are where
+bash and zsh look for them. All of it works without the checkout, from any folder, and may be moved as a whole. What an earlier call left below share/dthreads and share/doc/dthreads is
 replaced.
 
 The program is the one built here from the sources as they are, or the release if it is theirs; else build it first. If the compiler of
@@ -16,13 +16,15 @@ import shutil
 import subprocess
 import sys
 
-from dt_commands import built_from, executable, installed_pages, release
+from dt_commands import built_from, completions, executable, installed_pages, release
 from dt_commands.progress import Progress
 from dt_commands.repository import TOP
 from dt_commands.texts import read_text, write_file
 
 # The folders below the prefix.
 BIN, SHARE, DOC, MAN = "bin", "share/dthreads", "share/doc/dthreads", "share/man/man1"
+# Where bash and zsh look for completions, by their files in the checkout.
+COMPLETIONS = {completions.BASH: "share/bash-completion/completions/dthreads", completions.ZSH: "share/zsh/site-functions/_dthreads"}
 # What of guest/ isn't the kit: its tests, the lists that a page is made from, and what was built.
 NOT_KIT = ("tests", "reference", "out")
 COMMANDS = ("dthreads-cc", "dthreads-c++", "dthreads-rustc", "dthreads-cargo", "dthreads-exec", "dthreads-gdb", "dthreads-lines",
@@ -113,6 +115,12 @@ def install_pages(prefix):
     shutil.copyfile(f"{TOP}/man/dthreads.1", f"{prefix}/{MAN}/dthreads.1")
 
 
+def install_completions(prefix):
+    for file, target in COMPLETIONS.items():
+        os.makedirs(os.path.dirname(f"{prefix}/{target}"), exist_ok=True)
+        shutil.copyfile(f"{TOP}/{file}", f"{prefix}/{target}")
+
+
 def build_library(prefix):
     """Builds the C library of the installed kit, if its compiler is there."""
     with Progress("libraries built", 1):
@@ -132,6 +140,7 @@ def run(options):
     install_kit(prefix)
     install_picture(prefix)
     install_pages(prefix)
+    install_completions(prefix)
     build_library(prefix)
-    print(f"installed below {prefix}: {BIN}/dthreads, {', '.join(COMMANDS)}, {SHARE}, {DOC}, {MAN}/dthreads.1")
+    print(f"installed below {prefix}: {BIN}/dthreads, {', '.join(COMMANDS)}, {SHARE}, {DOC}, {MAN}/dthreads.1, {', '.join(COMPLETIONS.values())}")
     return 0

@@ -1,0 +1,17 @@
+//! How a parameter of a command is given, and what kind of value it has.
+use crate::text::Text;
+
+/// How a parameter is given, and where its value goes.
+#[derive(Clone, Copy)]
+pub(crate) enum Form {
+    /// By its place.
+    Placed,
+    /// As an option that names a file.
+    File,
+    /// As an option that says where this text of a run goes.
+    Text(Text),
+    /// As an option with a number of workers, 1 to 64.
+    Workers,
+    /// As an option with a number of instructions or of turns, 1 to 2^40.
+    Count,
+}

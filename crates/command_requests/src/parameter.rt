@@ -1,0 +1,78 @@
+//! A parameter of a command, and the parser's argument that it is.
+ghost use Rattle.std.specs.Prelude.{◌≡◌};
+ghost use Rattle.clap.specs.Words.{Rule};
+ghost use Rattle.command_requests.specs.Commands.{Is};
+ghost use Rattle.command_requests.specs.Commands as rule;
+ghost use Rattle.command_requests.specs.Parameter.{formed, needed, rule_for};
+
+use crate::form::Form;
+use crate::need::Need;
+use clap::builder::ValueParser;
+use clap::{Arg, value_parser};
+use run_limits::{MAX_BOUND, MAX_WORKERS};
+use std::alloc::Global;
+
+/// A parameter of a command: a row of the table of them.
+#[derive(Clone, Copy)]
+pub(crate) struct Parameter {
+    /// Its name, by which the parser knows it: that of the option, without `--`, or of the place.
+    pub name: &'static str,
+    /// How it is given.
+    pub form: Form,
+    /// Whether it must be given.
+    pub need: Need,
+    /// What help says of it.
+    pub help: &'static str,
+}
+
+/// The parser's argument for a parameter.
+pub(crate) fn arg<'a>(alloc: Global, parameter: &Parameter) -> Arg<'a>
+    ensures { Is (rule_for parameter.now) result }
+{
+    let name: &'a str = parameter.name;
+    let help: &'a str = parameter.help;
+    with_need(of_form(alloc, parameter.form, name), parameter.need).help(help)
+}
+
+/// An argument of this form.
+fn of_form<'a>(alloc: Global, form: Form, name: &'a str) -> Arg<'a>
+    ensures { Is (formed form name.entry.now) result }
+{
+    match form {
+        Form::Placed => Arg::new(alloc, name),
+        Form::File | Form::Text(_) => option(alloc, name, "FILE"),
+        Form::Workers => {
+            let range = value_parser!(u32).range(1..=i64::from(MAX_WORKERS));
+            option(alloc, name, "N").value_parser(range)
+        }
+        Form::Count => option(alloc, name, "N").value_parser(count()),
+    }
+}
+
+/// An option whose value help calls so.
+fn option<'a>(alloc: Global, name: &'a str, value: &'a str) -> Arg<'a>
+    ensures { Is (rule.option name.entry.now) result }
+{
+    Arg::new(alloc, name).long(name).value_name(value)
+}
+
+/// How many instructions, or which turn.
+fn count<'a>() -> ValueParser<'a>
+    ensures { result ≡ rule.count }
+{
+    value_parser!(u64).range(1..=MAX_BOUND as i64)
+}
+
+/// The argument, which must be given so.
+fn with_need<'a>(arg: Arg<'a>, need: Need) -> Arg<'a>
+    ensures { (rule : Rule) → Is rule arg.entry → Is (needed need rule) result }
+{
+    match need {
+        Need::Optional => arg,
+        Need::Required => arg.required(true),
+        Need::Default(value) => {
+            let value: &'a str = value;
+            arg.default_value(value)
+        }
+    }
+}
