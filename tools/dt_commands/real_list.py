@@ -36,6 +36,35 @@ select number, text from numbers order by text desc limit 20;
 select substr(text, 1, 3) as start, count(*), avg(square) from numbers group by start order by start limit 30;
 """
 
+# Four threads of JavaScript sort and add numbers.
+WORKER_TEXT = """
+import * as os from "os";
+const parent = os.Worker.parent;
+parent.onmessage = event => {
+    const numbers = [];
+    for (let at = event.data.from; at < event.data.to; at++) numbers.push(at * 7919 % 10007);
+    numbers.sort((one, other) => one - other);
+    parent.postMessage({ number: event.data.number, median: numbers[numbers.length >> 1], root: numbers.reduce((a, b) => a + Math.sqrt(b), 0) });
+    parent.onmessage = null;
+};
+"""
+SCRIPT_TEXT = """
+import * as os from "os";
+const answers = [];
+for (let number = 0; number < 4; number++) {
+    const worker = new os.Worker("./worker.js");
+    worker.onmessage = event => {
+        answers.push(event.data);
+        worker.onmessage = null;
+        if (answers.length === 4)
+            for (const it of answers.sort((one, other) => one.number - other.number)) console.log(it.number, it.median, it.root);
+    };
+    worker.postMessage({ number, from: number * 3000, to: number * 3000 + 3000 });
+}
+console.log(JSON.stringify([0.1, 1e300, 2 ** -1074, 123456789012345680000]), 10n ** 40n, "a,b;c".split(/[,;]/), new Date(0).toISOString());
+"""
+
+
 def own_text():
     """Some of the repository's own text, the same in every call."""
     text = b""
@@ -50,6 +79,15 @@ def own_text():
 def numbers():
     """Lines of numbers, in no order."""
     return b"".join(b"%d\n" % (number * 7919 % 40009) for number in range(40009))
+
+
+def pictures():
+    """Pictures of 128 by 96 points in planes of brightness and colours: a pattern that moves."""
+    width, height, made = 128, 96, bytearray()
+    for number in range(24):
+        made += bytes((x * x // 32 + y * 3 + number * 5 + (x * 7919 ^ y * 104729) % 9) % 220 + 16 for y in range(height) for x in range(width))
+        made += bytes(128 + (x + number) % 32 - y % 16 for y in range(height // 2) for x in range(width // 2)) * 2
+    return bytes(made)
 
 
 class Run:
@@ -114,6 +152,17 @@ PROGRAMS = [
         "mkdir -p built && cd built && CC=gcc ../sqlite3/configure -q --disable-tcl --disable-readline > /dev/null && make -s CC=gcc sqlite3.c shell.c",
         "$CC $FLAGS -w -DSQLITE_THREADSAFE=1 -DSQLITE_OMIT_LOAD_EXTENSION -DSQLITE_MAX_MMAP_SIZE=0 -o $OUT built/sqlite3.c built/shell.c "
         "-lm -lpthread"], [Run(["-batch", "numbers.db"], SQL_TEXT.encode)]),
+    Program("quickjs", ["quickjs"], [
+        "cp -r quickjs built && make -s -C built -j$JOBS $CROSS CC=\"$CC\" CONFIG_LTO= qjs && cp built/qjs $OUT"],
+        [Run(["script.js"], nothing, {"script.js": SCRIPT_TEXT.encode, "worker.js": WORKER_TEXT.encode})],
+        variables={"native": {"CROSS": ""}, "elf": {"CROSS": "CROSS_PREFIX=riscv64-unknown-elf-"}}),
+    Program("x264", ["x264"], [
+        # (its configuration knows some systems by their names; Linux is the nearest)
+        "mkdir built && cd built && CC=\"$CC\" ../x264/configure $SYSTEM --extra-cflags=\"$FLAGS\" --disable-asm --disable-opencl "
+        "--disable-avs --disable-swscale --disable-lavf --disable-ffms --disable-gpac --disable-lsmash --bit-depth=8 && make -s -j$JOBS x264",
+        "cp built/x264 $OUT"],
+        [Run(["--quiet", "--threads", "4", "--preset", "fast", "--qp", "26", "--demuxer", "raw", "--input-res", "128x96", "-o", "-", "-"], pictures)],
+        variables={"native": {"SYSTEM": ""}, "elf": {"SYSTEM": "--host=riscv32-linux-gnu --cross-prefix=riscv64-unknown-elf-"}}),
     Program("xz", ["xz-utils"], [
         "mkdir -p built && cd built && ../xz-utils/configure -q $HOST CC=\"$CC\" CFLAGS=\"$FLAGS\" --disable-nls --disable-shared "
         "--disable-scripts --disable-doc --disable-lzmadec --disable-lzmainfo --enable-threads=posix && make -s -j$JOBS",

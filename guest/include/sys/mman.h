@@ -34,6 +34,9 @@ extern "C" {
 #define POSIX_MADV_WILLNEED 3
 #define POSIX_MADV_DONTNEED 4
 
+#define MCL_CURRENT 1
+#define MCL_FUTURE 2
+
 #define MS_ASYNC 1
 #define MS_INVALIDATE 2
 #define MS_SYNC 4
@@ -46,6 +49,8 @@ int posix_madvise(void *, size_t, int);
 int msync(void *, size_t, int);
 int mlock(const void *, size_t);
 int munlock(const void *, size_t);
+int mlockall(int);
+int munlockall(void);
 
 #ifdef __cplusplus
 }

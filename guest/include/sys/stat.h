@@ -20,6 +20,9 @@ extern "C" {
 
 int lstat(const char *__restrict, struct stat *__restrict);
 int mknod(const char *, mode_t, dev_t);
+int mknodat(int, const char *, mode_t, dev_t);
+int mkfifo(const char *, mode_t);
+int mkfifoat(int, const char *, mode_t);
 
 #ifdef __cplusplus
 }

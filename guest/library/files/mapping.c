@@ -115,3 +115,14 @@ int munlock(const void *address, size_t length)
     (void)length;
     return 0;
 }
+
+int mlockall(int flags)
+{
+    (void)flags;
+    return 0;
+}
+
+int munlockall(void)
+{
+    return 0;
+}

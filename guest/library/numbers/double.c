@@ -313,6 +313,7 @@ double dthreads_double_longer(uint32_t a, uint32_t high, uint32_t low, uint32_t 
 INLINE int32_t zeros_of(uint32_t word)
 {
     int32_t zeros = 0;
+#pragma GCC unroll 5
     for (int32_t step = 16; step > 0; step /= 2)
         if (word >> (32 - step) == 0) {
             zeros += step;

@@ -47,3 +47,21 @@ struct group *getgrnam(const char *name)
 {
     return strcmp(name, root) == 0 ? &group : NULL;
 }
+
+int getgrgid_r(gid_t number, struct group *entry, char *room, size_t size, struct group **result)
+{
+    (void)room;
+    (void)size;
+    *entry = group;
+    *result = number == 0 ? entry : NULL;
+    return 0;
+}
+
+int getgrnam_r(const char *name, struct group *entry, char *room, size_t size, struct group **result)
+{
+    (void)room;
+    (void)size;
+    *entry = group;
+    *result = getgrnam(name) ? entry : NULL;
+    return 0;
+}

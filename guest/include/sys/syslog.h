@@ -1,0 +1,2 @@
+/* syslog.h by its older name. */
+#include <syslog.h>
