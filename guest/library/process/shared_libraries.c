@@ -31,6 +31,17 @@ int dlclose(void *library)
     return -1;
 }
 
+/* A program may have a function of this name. */
+#pragma weak dladdr
+
+/* No address lies in one. */
+int dladdr(const void *address, Dl_info *information)
+{
+    (void)address;
+    (void)information;
+    return 0;
+}
+
 /* Why the last call failed, once. */
 char *dlerror(void)
 {

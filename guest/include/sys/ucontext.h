@@ -1,0 +1,2 @@
+/* ucontext.h by the name of Linux. */
+#include <ucontext.h>
