@@ -1,4 +1,4 @@
-/* Deferred cancellation. */
+/* Cancellation of both types. */
 #include <errno.h>
 #include <pthread.h>
 #include <semaphore.h>
@@ -73,6 +73,34 @@ static void *joins(void *argument)
     return NULL;
 }
 
+/* Of the asynchronous type: the thread's own cancellation comes at once, and another's when the type is set. */
+static void *cancels_itself(void *argument)
+{
+    int first, second;
+    pthread_setcanceltype(PTHREAD_CANCEL_ASYNCHRONOUS, &first);
+    pthread_setcanceltype(PTHREAD_CANCEL_ASYNCHRONOUS, &second);
+    printf("types %d %d, another %d\n", first == PTHREAD_CANCEL_DEFERRED, second == PTHREAD_CANCEL_ASYNCHRONOUS, pthread_setcanceltype(5, NULL) == EINVAL);
+    pthread_setcancelstate(PTHREAD_CANCEL_DISABLE, NULL);
+    pthread_cancel(pthread_self());
+    printf("disabled\n");
+    pthread_cleanup_push(says, "at once");
+    pthread_setcancelstate(PTHREAD_CANCEL_ENABLE, NULL);
+    printf("not reached\n");
+    pthread_cleanup_pop(0);
+    return argument;
+}
+
+static void *sets_the_type(void *argument)
+{
+    pthread_setcancelstate(PTHREAD_CANCEL_DISABLE, NULL);
+    usleep(20000);
+    pthread_setcancelstate(PTHREAD_CANCEL_ENABLE, NULL);
+    printf("deferred\n");
+    pthread_setcanceltype(PTHREAD_CANCEL_ASYNCHRONOUS, NULL);
+    printf("not reached\n");
+    return argument;
+}
+
 static void cancelled(const char *name, pthread_t thread)
 {
     void *value;
@@ -99,6 +127,12 @@ int main(void)
     pthread_create(&other, NULL, posts, NULL);
     pthread_create(&thread, NULL, joins, &other);
     cancelled("join", thread);
+    pthread_create(&thread, NULL, sets_the_type, NULL);
+    cancelled("type", thread);
+    void *value;
+    pthread_create(&thread, NULL, cancels_itself, NULL);
+    pthread_join(thread, &value);
+    printf("itself: %d\n", value == PTHREAD_CANCELED);
     sem_post(&semaphore);
     printf("other %d\n", pthread_join(other, NULL));
     printf("free %d\n", pthread_mutex_trylock(&mutex));

@@ -1,8 +1,8 @@
 """The programs of `tools/dt test real`: the packages whose sources each takes, the commands that build it, and its runs.
 
 In the commands, $CC and $CXX are the compilers, $OUT is the program to be made, $FLAGS what each compilation gets, $HOST the words of
-configure for the machine, and $JOBS how many compilers run at a time. They run in a folder with one folder for each package. No source file
-is changed, and none is added.
+configure for the machine, and $JOBS how many compilers run at a time; $KIT is the folder guest, or nothing for the host's build, and $GUESTS
+is tools/guests. They run in a folder with one folder for each package. No source file is changed, and none is added.
 """
 import glob
 
@@ -163,6 +163,12 @@ PROGRAMS = [
         "cp built/x264 $OUT"],
         [Run(["--quiet", "--threads", "4", "--preset", "fast", "--qp", "26", "--demuxer", "raw", "--input-res", "128x96", "-o", "-", "-"], pictures)],
         variables={"native": {"SYSTEM": ""}, "elf": {"SYSTEM": "--host=riscv32-linux-gnu --cross-prefix=riscv64-unknown-elf-"}}),
+    Program("oneTBB", ["onetbb"], [
+        # (the host's C++ library does the same algorithms one after the other)
+        "if [ -n \"$KIT\" ]; then cmake -S onetbb -B built -DCMAKE_TOOLCHAIN_FILE=$KIT/cmake-toolchain.cmake -DCMAKE_BUILD_TYPE=Release "
+        "-DTBB_TEST=OFF -DBUILD_SHARED_LIBS=OFF -DTBBMALLOC_BUILD=OFF > /dev/null && make -s -C built -j$JOBS tbb; fi",
+        "$CXX $FLAGS -std=c++17 $BACKEND -o $OUT $GUESTS/execution.cc $(find built -name libtbb.a)"], [Run([], nothing)], is_cxx=True,
+        variables={"native": {"BACKEND": "-D_GLIBCXX_USE_TBB_PAR_BACKEND=0"}, "elf": {"BACKEND": "-Ionetbb/include"}}),
     Program("xz", ["xz-utils"], [
         "mkdir -p built && cd built && ../xz-utils/configure -q $HOST CC=\"$CC\" CFLAGS=\"$FLAGS\" --disable-nls --disable-shared "
         "--disable-scripts --disable-doc --disable-lzmadec --disable-lzmainfo --enable-threads=posix && make -s -j$JOBS",

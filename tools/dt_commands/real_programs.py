@@ -22,6 +22,7 @@ from dt_commands.repository import TOP
 from dt_commands.texts import contents
 
 WORKERS = (1, 4, 64)
+GUESTS = f"{TOP}/tools/guests"
 BOUND = "1099511627776"
 # The suites that sources are taken from: the first whose archive the mirror has.
 SUITES = ("bookworm", "trixie")
@@ -102,11 +103,12 @@ def kit(name):
 
 
 def guest_variables(jobs):
-    return {"CC": kit("dthreads-cc"), "CXX": kit("dthreads-c++"), "FLAGS": "-O2", "HOST": "--host=riscv32-unknown-elf", "JOBS": str(jobs)}
+    return {"CC": kit("dthreads-cc"), "CXX": kit("dthreads-c++"), "FLAGS": "-O2", "HOST": "--host=riscv32-unknown-elf", "JOBS": str(jobs),
+            "KIT": kit(""), "GUESTS": GUESTS}
 
 
 def native_variables(jobs):
-    return {"CC": "gcc", "CXX": "g++", "FLAGS": "-O1", "HOST": "", "JOBS": str(jobs)}
+    return {"CC": "gcc", "CXX": "g++", "FLAGS": "-O1", "HOST": "", "JOBS": str(jobs), "KIT": "", "GUESTS": GUESTS}
 
 
 def of_host(program, version):

@@ -4,5 +4,9 @@
 
 #include_next <sys/types.h>
 #include <dthreads/types.h>
+/* As on Linux: fd_set and struct timeval. */
+#if __MISC_VISIBLE
+#include <sys/select.h>
+#endif
 
 #endif

@@ -1,5 +1,6 @@
 /* Barriers. Who waits at one waits for one condition of the machine, so the last wakes all in one turn. They make the turns of
  * their waking in the next phase and go on in the one after it; so does the last, or its work would take a phase of its own. */
+#include "kept.h"
 #include "monitor.h"
 
 /* Set in every second round; `crowd` counts conditions otherwise. */
@@ -51,7 +52,7 @@ int pthread_barrier_wait(pthread_barrier_t *barrier)
 
 int pthread_barrierattr_init(pthread_barrierattr_t *attributes)
 {
-    (void)attributes;
+    attributes->unused = 0;
     return 0;
 }
 
@@ -63,13 +64,11 @@ int pthread_barrierattr_destroy(pthread_barrierattr_t *attributes)
 
 int pthread_barrierattr_setpshared(pthread_barrierattr_t *attributes, int shared)
 {
-    (void)attributes;
-    return shared == PTHREAD_PROCESS_PRIVATE ? 0 : shared == PTHREAD_PROCESS_SHARED ? ENOTSUP : EINVAL;
+    return keep_shared(&attributes->unused, shared);
 }
 
 int pthread_barrierattr_getpshared(const pthread_barrierattr_t *attributes, int *shared)
 {
-    (void)attributes;
-    *shared = PTHREAD_PROCESS_PRIVATE;
+    *shared = kept_shared(attributes->unused);
     return 0;
 }

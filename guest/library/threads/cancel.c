@@ -1,4 +1,5 @@
-/* Cancellation, at waits alone, and what is done at a thread's end. */
+/* Cancellation, at waits alone, and what is done at a thread's end. A thread of the asynchronous type is cancelled at once by itself, and by
+ * others where those of the deferred type are: nothing interrupts what a thread computes. */
 #include "monitor.h"
 
 void cancel_here(enum wake wake)
@@ -19,6 +20,13 @@ void cancel_point(void)
         pthread_exit(PTHREAD_CANCELED);
 }
 
+/* A thread of the asynchronous type goes no further once it was cancelled. */
+static void cancel_at_once(void)
+{
+    if (own.cancels_at_once && cancel_is_due())
+        pthread_exit(PTHREAD_CANCELED);
+}
+
 int pthread_cancel(pthread_t name)
 {
     monitor_enter();
@@ -30,6 +38,7 @@ int pthread_cancel(pthread_t name)
             monitor_wake(thread, CANCELLED);
     }
     monitor_leave();
+    cancel_at_once();
     return code;
 }
 
@@ -40,16 +49,19 @@ int pthread_setcancelstate(int state, int *old)
     if (old)
         *old = own.cancel_disabled ? PTHREAD_CANCEL_DISABLE : PTHREAD_CANCEL_ENABLE;
     own.cancel_disabled = state == PTHREAD_CANCEL_DISABLE;
+    cancel_at_once();
     return 0;
 }
 
 int pthread_setcanceltype(int type, int *old)
 {
+    if (type != PTHREAD_CANCEL_DEFERRED && type != PTHREAD_CANCEL_ASYNCHRONOUS)
+        return EINVAL;
     if (old)
-        *old = PTHREAD_CANCEL_DEFERRED;
-    if (type == PTHREAD_CANCEL_ASYNCHRONOUS)
-        return ENOTSUP;
-    return type == PTHREAD_CANCEL_DEFERRED ? 0 : EINVAL;
+        *old = own.cancels_at_once ? PTHREAD_CANCEL_ASYNCHRONOUS : PTHREAD_CANCEL_DEFERRED;
+    own.cancels_at_once = type == PTHREAD_CANCEL_ASYNCHRONOUS;
+    cancel_at_once();
+    return 0;
 }
 
 void pthread_testcancel(void)

@@ -1,4 +1,5 @@
 /* Condition variables. For hints, a signal is an object of the thread that it wakes: no other thread goes on after it. */
+#include "kept.h"
 #include "monitor.h"
 
 /* Takes the mutex again, however often it was held before. */
@@ -80,7 +81,7 @@ int pthread_cond_init(pthread_cond_t *condition, const pthread_condattr_t *attri
 {
     *condition = (pthread_cond_t)PTHREAD_COND_INITIALIZER;
     if (attributes)
-        condition->clock = attributes->clock;
+        condition->clock = attributes->clock & KIND;
     return 0;
 }
 
@@ -105,25 +106,25 @@ int pthread_condattr_setclock(pthread_condattr_t *attributes, clockid_t clock)
 {
     if (clock != CLOCK_REALTIME && clock != CLOCK_MONOTONIC)
         return EINVAL;
-    attributes->clock = clock;
+    attributes->clock = (attributes->clock & ~(clockid_t)KIND) | clock;
     return 0;
 }
 
 int pthread_condattr_getclock(const pthread_condattr_t *attributes, clockid_t *clock)
 {
-    *clock = attributes->clock;
+    *clock = attributes->clock & KIND;
     return 0;
 }
 
 int pthread_condattr_setpshared(pthread_condattr_t *attributes, int shared)
 {
-    (void)attributes;
-    return shared == PTHREAD_PROCESS_PRIVATE ? 0 : shared == PTHREAD_PROCESS_SHARED ? ENOTSUP : EINVAL;
+    int word = (int)attributes->clock, code = keep_shared(&word, shared);
+    attributes->clock = (clockid_t)word;
+    return code;
 }
 
 int pthread_condattr_getpshared(const pthread_condattr_t *attributes, int *shared)
 {
-    (void)attributes;
-    *shared = PTHREAD_PROCESS_PRIVATE;
+    *shared = kept_shared((int)attributes->clock);
     return 0;
 }

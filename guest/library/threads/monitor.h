@@ -118,6 +118,8 @@ struct own {
     bool locked;
     bool by_fence;
     bool cancel_disabled;
+    /* Of the asynchronous type. */
+    bool cancels_at_once;
     bool ending;
     struct dthreads_cleanup *cleanup;
 };

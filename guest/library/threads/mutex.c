@@ -1,4 +1,5 @@
 /* Mutexes and spin locks. Freed ones go to the first that waits. */
+#include "kept.h"
 #include "monitor.h"
 
 void mutex_acquire(pthread_mutex_t *mutex)
@@ -123,7 +124,7 @@ int pthread_mutex_init(pthread_mutex_t *mutex, const pthread_mutexattr_t *attrib
 {
     *mutex = (pthread_mutex_t)PTHREAD_MUTEX_INITIALIZER;
     if (attributes) {
-        mutex->kind = attributes->kind;
+        mutex->kind = attributes->kind & KIND;
         mutex->robust = attributes->robust;
     }
     return 0;
@@ -150,39 +151,38 @@ int pthread_mutexattr_settype(pthread_mutexattr_t *attributes, int kind)
 {
     if (kind != PTHREAD_MUTEX_NORMAL && kind != PTHREAD_MUTEX_RECURSIVE && kind != PTHREAD_MUTEX_ERRORCHECK)
         return EINVAL;
-    attributes->kind = kind;
+    attributes->kind = (attributes->kind & ~KIND) | kind;
     return 0;
 }
 
 int pthread_mutexattr_gettype(const pthread_mutexattr_t *attributes, int *kind)
 {
-    *kind = attributes->kind;
+    *kind = attributes->kind & KIND;
     return 0;
 }
 
 int pthread_mutexattr_setpshared(pthread_mutexattr_t *attributes, int shared)
 {
-    (void)attributes;
-    return shared == PTHREAD_PROCESS_PRIVATE ? 0 : shared == PTHREAD_PROCESS_SHARED ? ENOTSUP : EINVAL;
+    return keep_shared(&attributes->kind, shared);
 }
 
 int pthread_mutexattr_getpshared(const pthread_mutexattr_t *attributes, int *shared)
 {
-    (void)attributes;
-    *shared = PTHREAD_PROCESS_PRIVATE;
+    *shared = kept_shared(attributes->kind);
     return 0;
 }
 
 int pthread_mutexattr_setprotocol(pthread_mutexattr_t *attributes, int protocol)
 {
-    (void)attributes;
-    return protocol == PTHREAD_PRIO_NONE ? 0 : ENOTSUP;
+    if (protocol != PTHREAD_PRIO_NONE && protocol != PTHREAD_PRIO_INHERIT)
+        return ENOTSUP;
+    attributes->kind = (attributes->kind & ~KEPT_INHERITED) | (protocol == PTHREAD_PRIO_INHERIT ? KEPT_INHERITED : 0);
+    return 0;
 }
 
 int pthread_mutexattr_getprotocol(const pthread_mutexattr_t *attributes, int *protocol)
 {
-    (void)attributes;
-    *protocol = PTHREAD_PRIO_NONE;
+    *protocol = attributes->kind & KEPT_INHERITED ? PTHREAD_PRIO_INHERIT : PTHREAD_PRIO_NONE;
     return 0;
 }
 
@@ -190,8 +190,8 @@ int pthread_mutexattr_getprotocol(const pthread_mutexattr_t *attributes, int *pr
 
 int pthread_spin_init(pthread_spinlock_t *lock, int shared)
 {
-    if (shared != PTHREAD_PROCESS_PRIVATE)
-        return ENOTSUP;
+    if (shared != PTHREAD_PROCESS_PRIVATE && shared != PTHREAD_PROCESS_SHARED)
+        return EINVAL;
     *lock = (pthread_spinlock_t){0};
     return 0;
 }

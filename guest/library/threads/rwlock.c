@@ -3,6 +3,7 @@
  * readers, which no reader acquires. */
 #include <stdlib.h>
 #include <string.h>
+#include "kept.h"
 #include "monitor.h"
 
 /* How often this thread reads a lock. */
@@ -239,7 +240,7 @@ int pthread_rwlock_init(pthread_rwlock_t *lock, const pthread_rwlockattr_t *attr
 {
     *lock = (pthread_rwlock_t)PTHREAD_RWLOCK_INITIALIZER;
     if (attributes)
-        lock->kind = attributes->kind;
+        lock->kind = attributes->kind & KIND;
     return 0;
 }
 
@@ -259,13 +260,13 @@ int pthread_rwlockattr_setkind_np(pthread_rwlockattr_t *attributes, int kind)
     if (kind != PTHREAD_RWLOCK_PREFER_READER_NP && kind != PTHREAD_RWLOCK_PREFER_WRITER_NP
         && kind != PTHREAD_RWLOCK_PREFER_WRITER_NONRECURSIVE_NP)
         return EINVAL;
-    attributes->kind = kind;
+    attributes->kind = (attributes->kind & ~KIND) | kind;
     return 0;
 }
 
 int pthread_rwlockattr_getkind_np(const pthread_rwlockattr_t *attributes, int *kind)
 {
-    *kind = attributes->kind;
+    *kind = attributes->kind & KIND;
     return 0;
 }
 
@@ -277,13 +278,11 @@ int pthread_rwlockattr_destroy(pthread_rwlockattr_t *attributes)
 
 int pthread_rwlockattr_setpshared(pthread_rwlockattr_t *attributes, int shared)
 {
-    (void)attributes;
-    return shared == PTHREAD_PROCESS_PRIVATE ? 0 : shared == PTHREAD_PROCESS_SHARED ? ENOTSUP : EINVAL;
+    return keep_shared(&attributes->kind, shared);
 }
 
 int pthread_rwlockattr_getpshared(const pthread_rwlockattr_t *attributes, int *shared)
 {
-    (void)attributes;
-    *shared = PTHREAD_PROCESS_PRIVATE;
+    *shared = kept_shared(attributes->kind);
     return 0;
 }

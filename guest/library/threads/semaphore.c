@@ -8,10 +8,10 @@ static int refuse(int code)
     return -1;
 }
 
+/* All threads are of one process, whether it is to be shared or not. */
 int sem_init(sem_t *semaphore, int shared, unsigned value)
 {
-    if (shared)
-        return refuse(ENOSYS);
+    (void)shared;
     if (value > SEM_VALUE_MAX)
         return refuse(EINVAL);
     *semaphore = (sem_t){.value = value};

@@ -66,6 +66,16 @@ int main(void)
     return 5;
 }
 """
+WORDS = """#include <stdio.h>
+#include <stdlib.h>
+int main(int count, char **words)
+{
+    for (int at = 0; at < count; at++)
+        printf("%s ", words[at]);
+    printf("%s\\n", getenv("WORD"));
+    return 3;
+}
+"""
 LOCAL = "static __thread int local = 6;\nint main(void) { return ++local; }\n"
 
 
@@ -74,11 +84,16 @@ def call(words, room):
     return subprocess.run([f"{guest_runs.KIT}/dthreads-cc", *words], **how)
 
 
-def started(command, room, name, *words):
-    """Runs a program by a command of the kit."""
+def performed(command, *words):
+    """Performs a command of the kit."""
     how = {"stdin": subprocess.DEVNULL, "stdout": subprocess.PIPE, "stderr": subprocess.PIPE, "text": True, "check": False}
     environment = {**os.environ, "DTHREADS": guest_runs.program()}
-    return subprocess.run([f"{guest_runs.KIT}/{command}", f"{room}/{name}.elf", *words], env=environment, **how)
+    return subprocess.run([f"{guest_runs.KIT}/{command}", *words], env=environment, **how)
+
+
+def started(command, room, name, *words):
+    """Runs a program by a command of the kit."""
+    return performed(command, f"{room}/{name}.elf", *words)
 
 
 def executed(room, name, *words):
@@ -151,6 +166,15 @@ def quantum(room):
     return ([it.returncode for it in runs], is_soon, "--bound" in said and "--quantum" in said), ([0, 0, 120], True, True)
 
 
+def before(room):
+    """dthreads-exec may be put before a program and its words."""
+    write_file(f"{room}/words.c", WORDS)
+    call(["-rdynamic", "words.c", "-o", "words.elf", "-lutil"], room)
+    ran = performed("dthreads-exec", "--env", "WORD=two", "--workers=4", "--run", f"{room}/words.elf", "--", "one", "--run")
+    others = [performed("dthreads-exec", *it).returncode for it in (["--run"], ["--seed", "1", "--"], [f"{room}/words.elf", "word"])]
+    return (ran.returncode, ran.stdout, others), (3, "words -- one --run two\n", [2, 2, 2])
+
+
 def clock(room):
     """The clock of the day begins when the link, dthreads-exec or dthreads-gdb says."""
     write_file(f"{room}/day.c", DAY)
@@ -188,7 +212,7 @@ def full(room):
     return with_workers(room, "full"), {(5, "\0" * 60000 * 279, said)}
 
 
-CASES = [preprocessed, main_in_archive, warns_once, visible, models, quantum, clock, files, full]
+CASES = [preprocessed, main_in_archive, warns_once, visible, models, quantum, before, clock, files, full]
 
 
 def test(_):
