@@ -59,6 +59,7 @@
 #define monitor_hold dthreads_own_monitor_hold
 #define monitor_leave dthreads_own_monitor_leave
 #define monitor_one_less dthreads_own_monitor_one_less
+#define monitor_pick dthreads_own_monitor_pick
 #define monitor_rouse dthreads_own_monitor_rouse
 #define monitor_sleep dthreads_own_monitor_sleep
 #define monitor_sleep_in_crowd dthreads_own_monitor_sleep_in_crowd
@@ -126,6 +127,11 @@
 #define utf8_of dthreads_own_utf8_of
 #define utf8_put dthreads_own_utf8_put
 #define utf8_take dthreads_own_utf8_take
+#define variation dthreads_own_variation
+#define vary_begin dthreads_own_vary_begin
+#define vary_below dthreads_own_vary_below
+#define vary_chooses dthreads_own_vary_chooses
+#define vary_delay dthreads_own_vary_delay
 #define wide_down dthreads_own_wide_down
 #define wide_length dthreads_own_wide_length
 #define wide_text_get dthreads_own_wide_text_get

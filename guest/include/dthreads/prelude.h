@@ -104,6 +104,7 @@ void dthreads_atomic_load(__SIZE_TYPE__, const volatile void *, void *);
 void dthreads_atomic_store(__SIZE_TYPE__, volatile void *, const void *);
 void dthreads_atomic_exchange(__SIZE_TYPE__, volatile void *, const void *, void *);
 DTHREADS_BOOL dthreads_atomic_compare_exchange(__SIZE_TYPE__, volatile void *, void *, const void *);
+DTHREADS_BOOL dthreads_atomic_compare_exchange_weak(__SIZE_TYPE__, volatile void *, void *, const void *);
 DTHREADS_BOOL dthreads_atomic_test_and_set(volatile void *);
 void dthreads_atomic_fence(void);
 
@@ -138,8 +139,9 @@ template <typename T> struct dthreads_plain<const volatile T> { typedef T type; 
 #define __atomic_exchange(object, value, result, order) \
     ((void)(order), dthreads_atomic_exchange(sizeof *(object), (object), (const void *)(value), (void *)(result)))
 #define __atomic_compare_exchange(object, expected, desired, weak, success, failure) \
-    ((void)(weak), (void)(success), (void)(failure), \
-     dthreads_atomic_compare_exchange(sizeof *(object), (object), (void *)(expected), (const void *)(desired)))
+    ((void)(success), (void)(failure), \
+     ((weak) ? dthreads_atomic_compare_exchange_weak : dthreads_atomic_compare_exchange)( \
+         sizeof *(object), (object), (void *)(expected), (const void *)(desired)))
 
 #define __atomic_load_n(object, order) __extension__({ \
         DTHREADS_PLAIN(object) dthreads_result; \

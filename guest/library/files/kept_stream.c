@@ -121,7 +121,7 @@ __attribute__((noinline)) void stream_leave(struct stream *stream)
 {
     if (--stream->count == 0) {
         stream->owner = NULL;
-        monitor_wake_first(&stream->waiters);
+        monitor_wake_next(&stream->waiters);
     }
     if (own.depth == 1 && may_keep(stream))
         keep(stream);

@@ -51,6 +51,12 @@ static uint32_t part_from(uint32_t place, uint32_t length)
     return length < ROOM - place ? length : ROOM - place;
 }
 
+/* How many of so many bytes a call moves at once: by choice a part, if they need not stay in one piece. */
+static size_t piece_of(size_t length)
+{
+    return length > PIPE_BUF && vary_one_in(2) ? PIPE_BUF + vary_below((uint32_t)(length - PIPE_BUF)) : length;
+}
+
 static uint32_t take(struct pipe *pipe, char *bytes, size_t length)
 {
     uint32_t count = length < pipe->length ? (uint32_t)length : pipe->length;
@@ -86,7 +92,7 @@ ssize_t pipe_read(struct open_file *file, char *bytes, size_t length)
             return -ECANCELED;
     }
     dthreads_hint_acquire(pipe);
-    uint32_t count = take(pipe, bytes, length);
+    uint32_t count = take(pipe, bytes, piece_of(length));
     tell(&pipe->writing);
     return (ssize_t)count;
 }
@@ -113,8 +119,11 @@ ssize_t pipe_write(struct open_file *file, const char *bytes, size_t length)
         if (code < 0)
             return done && code == -EAGAIN ? (ssize_t)done : code;
         dthreads_hint_release(file->node->pipe);
-        done += put(file->node->pipe, bytes + done, length - done);
+        size_t left = length - done, piece = piece_of(left);
+        done += put(file->node->pipe, bytes + done, piece);
         tell(&file->node->pipe->reading);
+        if (piece < left)
+            monitor_breathe();
     }
     return (ssize_t)done;
 }

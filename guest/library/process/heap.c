@@ -20,7 +20,10 @@ enum {
     RELEASED_PAGES = 64,
     /* What a page belongs to, beside the small sizes 1 to SIZES. */
     LARGE = 255,
-    MAPPED = 254
+    MAPPED = 254,
+    /* What a block's bytes are, of a run with a number, when it is given and when it was freed. */
+    GIVEN = 0xA5,
+    FREED = 0xDB
 };
 
 static const uint16_t sizes[SIZES] = {
@@ -62,6 +65,17 @@ static void push(struct list *list, struct block *block)
         list->last = block;
     block->next = list->first;
     list->first = block;
+    list->count++;
+}
+
+static void append(struct list *list, struct block *block)
+{
+    block->next = NULL;
+    if (list->first)
+        list->last->next = block;
+    else
+        list->first = block;
+    list->last = block;
     list->count++;
 }
 
@@ -265,21 +279,31 @@ static void refill(uint32_t index)
     monitor_leave();
 }
 
-/* The block is fresh before its link is read, which its last owner may have stored. */
+/* The block is fresh before its link is read, which its last owner may have stored. With a number others come before those that were
+ * freed. */
 static void *small(size_t size)
 {
     uint32_t index = size_index(size);
-    if (!cache[index].first)
+    bool is_varied = varies();
+    if (!cache[index].first || (is_varied && cache[index].count < batch(index)))
         refill(index);
     if (cache[index].first)
         dthreads_hint_fresh(cache[index].first, sizes[index]);
-    return pop(&cache[index]);
+    void *block = pop(&cache[index]);
+    if (is_varied && block)
+        memset(block, GIVEN, sizes[index]);
+    return block;
 }
 
 static void small_free(void *address, uint32_t index)
 {
     struct list *list = &cache[index];
-    push(list, address);
+    if (varies()) {
+        memset(address, FREED, sizes[index]);
+        append(list, address);
+    } else {
+        push(list, address);
+    }
     if (list->count < 2 * batch(index))
         return;
     monitor_enter();
@@ -325,6 +349,8 @@ static void *large(size_t size, size_t align)
         dthreads_hint_fresh(address, pages * DTHREADS_PAGE);
     }
     monitor_leave();
+    if (address && varies())
+        memset(address, GIVEN, pages * DTHREADS_PAGE);
     return address;
 }
 
@@ -333,6 +359,8 @@ static void large_free(char *address)
     monitor_enter();
     uint32_t page = page_of(address);
     page_size[page] = 0;
+    if (varies())
+        memset(address, FREED, (size_t)large_pages[page] * DTHREADS_PAGE);
     pages_give(address, large_pages[page]);
     monitor_leave();
 }

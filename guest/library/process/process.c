@@ -44,9 +44,11 @@ __attribute__((noreturn)) static void run(char **arguments, char **environment)
     exit(main(count_arguments(arguments), arguments, environment));
 }
 
-__attribute__((noreturn)) void dthreads_first(void)
+/* With the registers in which the run may have a number and how many choices it may make, see vary.h. */
+__attribute__((noreturn)) void dthreads_first(uint32_t number, uint32_t choices)
 {
     static char *no_environment[] = {NULL};
+    vary_begin(number, choices);
     thread_begin();
     if (files_begin)
         files_begin();
@@ -54,9 +56,10 @@ __attribute__((noreturn)) void dthreads_first(void)
 }
 
 /* As above, if guest/dthreads-exec started the run: arguments and environment lie on the first thread's stack. */
-__attribute__((noreturn)) void dthreads_first_packed(void)
+__attribute__((noreturn)) void dthreads_first_packed(uint32_t number, uint32_t choices)
 {
     struct packed packed;
+    vary_begin(number, choices);
     thread_begin();
     if (files_begin)
         files_begin();

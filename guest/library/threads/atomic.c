@@ -3,6 +3,11 @@
 #include <string.h>
 #include "monitor.h"
 
+enum {
+    /* By choice, one in so many weak compare-exchanges fails. */
+    WEAK_FAILURES = 16
+};
+
 /* Between these an operation on an object is done. It goes on after those before it on the same object, and after plain accesses. */
 
 static void begin(const volatile void *object)
@@ -43,16 +48,27 @@ void dthreads_atomic_exchange(size_t size, volatile void *object, const void *va
     memcpy(result, old, size);
 }
 
-bool dthreads_atomic_compare_exchange(size_t size, volatile void *object, void *expected, const void *desired)
+/* A weak one may fail though the values are equal. */
+static inline bool compare_exchange(size_t size, volatile void *object, void *expected, const void *desired, bool is_weak)
 {
     begin(object);
-    bool is_equal = memcmp((void *)object, expected, size) == 0;
-    if (is_equal)
+    bool is_done = memcmp((void *)object, expected, size) == 0 && !(is_weak && vary_one_in(WEAK_FAILURES));
+    if (is_done)
         memcpy((void *)object, desired, size);
     else
         memcpy(expected, (void *)object, size);
     end(object);
-    return is_equal;
+    return is_done;
+}
+
+bool dthreads_atomic_compare_exchange(size_t size, volatile void *object, void *expected, const void *desired)
+{
+    return compare_exchange(size, object, expected, desired, false);
+}
+
+bool dthreads_atomic_compare_exchange_weak(size_t size, volatile void *object, void *expected, const void *desired)
+{
+    return compare_exchange(size, object, expected, desired, true);
 }
 
 enum operation {

@@ -5,7 +5,7 @@
 /* Takes the mutex again, however often it was held before. */
 static int mutex_retake(pthread_mutex_t *mutex, unsigned count)
 {
-    if (mutex->owner)
+    while (mutex_is_kept(mutex))
         monitor_sleep(&mutex->waiters, NEVER, false);
     if (mutex->robust == NOT_RECOVERABLE)
         return ENOTRECOVERABLE;
@@ -14,11 +14,20 @@ static int mutex_retake(pthread_mutex_t *mutex, unsigned count)
     return mutex_code(mutex);
 }
 
+/* A wait that ends without a signal: others have some turns. */
+static enum wake wait_for_nothing(void)
+{
+    for (uint32_t i = 1 + vary_below(SPURIOUS_TURNS); i > 0; i--)
+        monitor_breathe();
+    return INTERRUPTED;
+}
+
 static enum wake wait_here(pthread_cond_t *condition, pthread_mutex_t *mutex, uint64_t deadline, int *code)
 {
     unsigned count = mutex->count;
     mutex_release(mutex);
-    enum wake wake = monitor_sleep_lightly(&condition->waiters, deadline, true);
+    bool is_spurious = varies() && !cancel_is_due() && vary_one_in(SPURIOUS_WAITS);
+    enum wake wake = is_spurious ? wait_for_nothing() : monitor_sleep_lightly(&condition->waiters, deadline, true);
     if (wake == WOKEN)
         dthreads_hint_acquire(&self()->wake);
     *code = mutex_retake(mutex, count);
@@ -60,7 +69,7 @@ int pthread_cond_timedwait(pthread_cond_t *condition, pthread_mutex_t *mutex, co
 int pthread_cond_signal(pthread_cond_t *condition)
 {
     monitor_enter();
-    struct dthreads_thread *woken = monitor_wake_first(&condition->waiters);
+    struct dthreads_thread *woken = monitor_wake_next(&condition->waiters);
     if (woken)
         dthreads_hint_release(&woken->wake);
     monitor_finish();

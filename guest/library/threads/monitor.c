@@ -49,11 +49,32 @@ static void wake_due(void)
     monitor.earliest = earliest_deadline();
 }
 
+/* Whether a time may come early by choice: those further away than an hour stand for ever in many programs. */
+static bool is_near(uint64_t time)
+{
+    return time > monitor.clock && time - monitor.clock <= 3600 * SECOND;
+}
+
+/* By choice, the time of the first sleeper comes while others run. An alarm is left alone: many are watchdogs. */
+static __attribute__((noinline, cold)) void hasten(void)
+{
+    uint64_t earliest = NEVER;
+    for (uint32_t i = 0; i < monitor.made; i++)
+        if (threads[i].deadline < earliest)
+            earliest = threads[i].deadline;
+    if (is_near(earliest) && vary_one_in(2))
+        monitor.clock = earliest;
+    if (monitor.clock >= monitor.earliest)
+        wake_due();
+}
+
 static void move_clock(void)
 {
     monitor.moves++;
     monitor.clock += DTHREADS_OPERATION_TIME;
-    if (monitor.clock >= monitor.earliest)
+    if (varies())
+        hasten();
+    else if (monitor.clock >= monitor.earliest)
         wake_due();
 }
 
@@ -77,13 +98,31 @@ void monitor_enter(void)
     move_clock();
 }
 
+/* By choice, a thread leaves at each operation's end, also if it holds a mutex. */
+static __attribute__((noinline, cold)) void leave_with_mutex(void)
+{
+    if (own.locked && vary_one_in(1))
+        leave_machine();
+    hint_leave();
+}
+
+/* Ends an operation. */
+static inline void leave(void)
+{
+    if (own.held > 0 && varies()) {
+        leave_with_mutex();
+        return;
+    }
+    if (own.held == 0)
+        leave_machine();
+    hint_leave();
+}
+
 void monitor_leave(void)
 {
     if (--own.depth > 0)
         return;
-    if (own.held == 0)
-        leave_machine();
-    hint_leave();
+    leave();
 }
 
 void monitor_finish(void)
@@ -167,6 +206,23 @@ void monitor_wake(struct dthreads_thread *thread, enum wake wake)
         ring(thread->condition);
 }
 
+static uint32_t length_of(const struct dthreads_queue *queue)
+{
+    uint32_t length = 0;
+    for (const struct dthreads_thread *each = queue->first; each; each = each->next)
+        length++;
+    return length;
+}
+
+struct dthreads_thread *monitor_pick(const struct dthreads_queue *queue)
+{
+    struct dthreads_thread *thread = queue->first;
+    uint32_t place = thread->next && vary_one_in(2) ? vary_below(length_of(queue)) : 0;
+    while (place-- > 0)
+        thread = thread->next;
+    return thread;
+}
+
 void monitor_wake_all(struct dthreads_queue *queue)
 {
     uint64_t conditions = 0;
@@ -221,11 +277,9 @@ static void watch(struct dthreads_thread *thread, uint64_t *step)
         wake_due();
 }
 
-/* A watcher that is woken leaves its work to the next one, if there is one. */
-static void pass_on(const struct dthreads_thread *thread)
+/* Tells the sleeper with the first deadline, if there is one, that it is the watcher. */
+static void tell_next(void)
 {
-    if (monitor.watcher != thread)
-        return;
     monitor.watcher = NULL;
     monitor.earliest = earliest_deadline();
     for (uint32_t i = 0; i < monitor.made && monitor.earliest != NEVER; i++)
@@ -233,6 +287,25 @@ static void pass_on(const struct dthreads_thread *thread)
             ring(threads[i].condition);
             return;
         }
+}
+
+/* The time of a sleeper may come while others run: it lets some turns pass, and if nothing woke it in them, moves the clock to its
+ * deadline. */
+static __attribute__((noinline, cold)) void doze(struct dthreads_thread *thread)
+{
+    thread->asleep = true;
+    thread->woken = 0;
+    monitor.awake--;
+    for (uint32_t i = vary_below(1U << vary_below(DOZES)); i > 0 && !thread->woken; i--)
+        monitor_breathe();
+    if (!thread->woken) {
+        if (monitor.clock < thread->deadline)
+            monitor.clock = thread->deadline;
+        wake_due();
+    }
+    tell_next();
+    if (thread->asked)
+        streams_give();
 }
 
 static void sleep_here(struct dthreads_thread *thread)
@@ -251,7 +324,8 @@ static void sleep_here(struct dthreads_thread *thread)
             dthreads_wait(thread->condition, MONITOR_MUTEX);
         }
     }
-    pass_on(thread);
+    if (monitor.watcher == thread)
+        tell_next();
     if (thread->asked)
         streams_give();
 }
@@ -271,7 +345,10 @@ static enum wake sleep_in(struct dthreads_queue *queue, uint64_t deadline, bool 
     thread->deadline = deadline;
     if (deadline < monitor.earliest)
         monitor.earliest = deadline;
-    sleep_here(thread);
+    if (varies() && own.locked && is_near(deadline) && vary_one_in(2))
+        doze(thread);
+    else
+        sleep_here(thread);
     return thread->wake;
 }
 
@@ -319,9 +396,7 @@ void dthreads_fence(void)
         hint_enter();
         own.by_fence = false;
         fence_hints();
-        if (own.held == 0)
-            leave_machine();
-        hint_leave();
+        leave();
         return;
     }
     monitor_enter();

@@ -14,6 +14,7 @@
 #include <dthreads.h>
 #include "hints.h"
 #include "offsets.h"
+#include "vary.h"
 #include "../names.h"
 
 enum {
@@ -23,6 +24,11 @@ enum {
     CROWD_CONDITIONS = 8,
     /* Operations in the monitor after which a thread lets others have their turns. */
     LONGEST_STAY = 512,
+    /* A sleeper that lets turns pass in place of its time lets fewer than 2 to a power below this one pass. */
+    DOZES = 7,
+    /* By choice, one in so many waits for a condition ends without a signal, after so many turns at most. */
+    SPURIOUS_WAITS = 16,
+    SPURIOUS_TURNS = 4,
     /* Threads that begin together at most. */
     BATCH = 64,
     /* Bytes of a thread's name, with the zero at its end. */
@@ -80,6 +86,8 @@ struct dthreads_thread {
     bool cancelled;
     bool detached;
     bool is_writer;
+    /* Who woke it gave it what it waited for: else it tries again. */
+    bool handed;
     /* Another thread wants a stream that it keeps. */
     bool asked;
     struct dthreads_thread *joiner;
@@ -96,8 +104,9 @@ struct dthreads_thread {
     uint64_t awaited;
     /* The robust mutexes that it holds. */
     pthread_mutex_t *robust;
-    /* How many threads had been created with it. */
+    /* How many threads had been created with it, and what vary_delay said. */
     uint32_t created;
+    uint32_t delay;
     struct stack *stack;
     /* The stack as its attributes have it: its lowest address and its bytes. */
     char *stack_base;
@@ -191,6 +200,36 @@ static inline struct dthreads_thread *monitor_wake_first(struct dthreads_queue *
     return thread;
 }
 
+/* By choice another one of a queue than the first. The queue isn't empty, and the run has a number. */
+struct dthreads_thread *monitor_pick(const struct dthreads_queue *queue);
+/* Who of a queue that isn't empty comes next: the first or, by choice, any other one. */
+static inline struct dthreads_thread *monitor_next(const struct dthreads_queue *queue)
+{
+    return varies() ? monitor_pick(queue) : queue->first;
+}
+
+/* Wakes who comes next. Returns it, or NULL if nobody waits. */
+static inline struct dthreads_thread *monitor_wake_next(struct dthreads_queue *queue)
+{
+    struct dthreads_thread *thread = queue->first;
+    if (thread) {
+        thread = monitor_next(queue);
+        monitor_wake(thread, WOKEN);
+    }
+    return thread;
+}
+
+/* Wakes who comes next of those that wait for an object, and gives it the object. Returns who has it now: NULL if nobody waits or, by
+ * choice, if the one that was woken has to try again. */
+static inline struct dthreads_thread *monitor_hand(struct dthreads_queue *queue)
+{
+    struct dthreads_thread *thread = monitor_wake_next(queue);
+    if (!thread)
+        return NULL;
+    thread->handed = !vary_one_in(2);
+    return thread->handed ? thread : NULL;
+}
+
 void monitor_wake_all(struct dthreads_queue *queue);
 /* One thread sleeps or has ended: where nobody is awake, the clock jumps to the next deadline. */
 void monitor_one_less(void);
@@ -226,6 +265,12 @@ static inline void signal_point(void)
 
 void mutex_acquire(pthread_mutex_t *mutex);
 void mutex_release(pthread_mutex_t *mutex);
+/* Whether another thread has it, so that this one has to wait. */
+static inline bool mutex_is_kept(const pthread_mutex_t *mutex)
+{
+    return mutex->owner && mutex->owner != self() && mutex->robust != NOT_RECOVERABLE;
+}
+
 /* What the new owner of a mutex learns of the one before: 0, or EOWNERDEAD. */
 int mutex_code(const pthread_mutex_t *mutex);
 /* Frees the robust mutexes of a thread that ends. */

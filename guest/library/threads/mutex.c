@@ -1,4 +1,4 @@
-/* Mutexes and spin locks. Freed ones go to the first that waits. */
+/* Mutexes and spin locks. Freed ones go to the first that waits, or as the run's number has it. */
 #include "kept.h"
 #include "monitor.h"
 
@@ -18,7 +18,7 @@ static inline void release(pthread_mutex_t *mutex)
     dthreads_hint_release(mutex);
     if (mutex->robust)
         robust_drop(mutex);
-    mutex->owner = mutex->robust == NOT_RECOVERABLE ? NULL : monitor_wake_first(&mutex->waiters);
+    mutex->owner = mutex->robust == NOT_RECOVERABLE ? NULL : monitor_hand(&mutex->waiters);
 }
 
 void mutex_release(pthread_mutex_t *mutex)
@@ -37,14 +37,16 @@ static void mutex_free(pthread_mutex_t *mutex)
     if (mutex->owner && mutex->owner->life == LIVING)
         mutex->owner->own->held--;
     dthreads_hint_release(mutex);
-    mutex->owner = monitor_wake_first(&mutex->waiters);
+    mutex->owner = monitor_hand(&mutex->waiters);
 }
 
-/* Waits for a mutex that another thread owns; who frees it makes this thread its owner. */
+/* Waits for a mutex that another thread owns; who frees it may make this thread its owner. */
 static int mutex_wait(pthread_mutex_t *mutex, uint64_t deadline)
 {
-    if (monitor_sleep(&mutex->waiters, deadline, false) == TIMED_OUT)
-        return ETIMEDOUT;
+    do
+        if (monitor_sleep(&mutex->waiters, deadline, false) == TIMED_OUT)
+            return ETIMEDOUT;
+    while (mutex_is_kept(mutex));
     if (mutex->robust == NOT_RECOVERABLE)
         return ENOTRECOVERABLE;
     mutex_acquire(mutex);
@@ -223,7 +225,7 @@ int pthread_spin_lock(pthread_spinlock_t *lock)
     monitor_enter();
     int code = lock->owner == self() ? EDEADLK : 0;
     if (code == 0) {
-        if (lock->owner)
+        while (lock->owner && lock->owner != self())
             monitor_sleep(&lock->waiters, NEVER, false);
         spin_take(lock);
     }
@@ -238,7 +240,7 @@ int pthread_spin_unlock(pthread_spinlock_t *lock)
     if (code == 0) {
         own.held--;
         dthreads_hint_release(lock);
-        lock->owner = monitor_wake_first(&lock->waiters);
+        lock->owner = monitor_hand(&lock->waiters);
     }
     monitor_finish();
     return code;

@@ -28,7 +28,7 @@ void robust_leave(struct dthreads_thread *thread)
         dthreads_hint_release(mutex);
         mutex->robust = OWNER_DEAD;
         own.held--;
-        mutex->owner = monitor_wake_first(&mutex->waiters);
+        mutex->owner = monitor_hand(&mutex->waiters);
     }
 }
 

@@ -88,28 +88,59 @@ static bool may_write(const pthread_rwlock_t *lock)
     return !lock->writer && lock->readers == 0;
 }
 
-/* Gives a free lock to the first that waits: a writer, or all readers up to the next writer. */
+/* Takes the lock for this thread, if it may have it. */
+static bool take(pthread_rwlock_t *lock, bool is_writer)
+{
+    if (is_writer ? !may_write(lock) : !may_read(lock))
+        return false;
+    if (is_writer)
+        lock->writer = self();
+    else
+        lock->readers++;
+    return true;
+}
+
+static void hand_to(pthread_rwlock_t *lock, struct dthreads_thread *thread)
+{
+    if (thread->is_writer)
+        lock->writer = thread;
+    else
+        lock->readers++;
+    thread->handed = true;
+    monitor_wake(thread, WOKEN);
+}
+
+/* Gives a free lock to who comes next, a writer, or a reader and those up to the next writer. By choice all are woken to try again. */
 static void hand_over(pthread_rwlock_t *lock)
 {
     struct dthreads_thread *first = lock->waiters.first;
-    if (first && first->is_writer && lock->readers == 0) {
-        lock->writer = first;
-        monitor_wake(first, WOKEN);
+    if (!first || (first->is_writer && lock->readers > 0))
+        return;
+    if (vary_one_in(2)) {
+        monitor_wake_all(&lock->waiters);
+        return;
     }
-    while (!lock->writer && lock->waiters.first && !lock->waiters.first->is_writer) {
-        lock->readers++;
-        monitor_wake_first(&lock->waiters);
-    }
+    struct dthreads_thread *next = monitor_next(&lock->waiters);
+    if (!next->is_writer || lock->readers == 0)
+        hand_to(lock, next);
+    while (!lock->writer && lock->waiters.first && !lock->waiters.first->is_writer)
+        hand_to(lock, lock->waiters.first);
 }
 
+/* Waits until the lock is handed to this thread, or until it may have the lock after it was woken to try again. */
 static int wait_for_turn(pthread_rwlock_t *lock, bool is_writer, uint64_t deadline)
 {
-    self()->is_writer = is_writer;
-    if (monitor_sleep(&lock->waiters, deadline, false) != TIMED_OUT)
-        return 0;
-    if (!lock->writer)
-        hand_over(lock);
-    return ETIMEDOUT;
+    struct dthreads_thread *thread = self();
+    thread->is_writer = is_writer;
+    do {
+        thread->handed = false;
+        if (monitor_sleep(&lock->waiters, deadline, false) == TIMED_OUT) {
+            if (!lock->writer)
+                hand_over(lock);
+            return ETIMEDOUT;
+        }
+    } while (!thread->handed && !take(lock, is_writer));
+    return 0;
 }
 
 static int read_until(pthread_rwlock_t *lock, uint64_t deadline)
@@ -120,9 +151,7 @@ static int read_until(pthread_rwlock_t *lock, uint64_t deadline)
         code = EDEADLK;
     else if (!readings_grow())
         code = EAGAIN;
-    else if (may_read(lock))
-        lock->readers++;
-    else
+    else if (!take(lock, false))
         code = wait_for_turn(lock, false, deadline);
     if (code == 0) {
         reading_begin(lock);
@@ -138,9 +167,7 @@ static int write_until(pthread_rwlock_t *lock, uint64_t deadline)
     int code = 0;
     if (lock->writer == self())
         code = EDEADLK;
-    else if (may_write(lock))
-        lock->writer = self();
-    else
+    else if (!take(lock, true))
         code = wait_for_turn(lock, true, deadline);
     if (code == 0) {
         own.held++;

@@ -1,4 +1,4 @@
-/* Semaphores without a name. A post goes to the first that waits. */
+/* Semaphores without a name. A post goes to the first that waits, or as the run's number has it. */
 #include <semaphore.h>
 #include "monitor.h"
 
@@ -23,16 +23,22 @@ int sem_destroy(sem_t *semaphore)
     return semaphore->waiters.first ? refuse(EBUSY) : 0;
 }
 
+/* Waits for a post unless there is one. Who was woken without getting it tries again. */
+static enum wake take_here(sem_t *semaphore, uint64_t deadline)
+{
+    while (semaphore->value == 0) {
+        enum wake wake = monitor_sleep_lightly(&semaphore->waiters, deadline, true);
+        if (wake != WOKEN || self()->handed)
+            return wake;
+    }
+    semaphore->value--;
+    return WOKEN;
+}
+
 static enum wake take(sem_t *semaphore, uint64_t deadline)
 {
-    enum wake wake = WOKEN;
     monitor_enter();
-    if (cancel_is_due())
-        wake = CANCELLED;
-    else if (semaphore->value > 0)
-        semaphore->value--;
-    else
-        wake = monitor_sleep_lightly(&semaphore->waiters, deadline, true);
+    enum wake wake = cancel_is_due() ? CANCELLED : take_here(semaphore, deadline);
     if (wake == WOKEN)
         dthreads_hint_acquire(semaphore);
     monitor_leave();
@@ -84,7 +90,7 @@ int sem_post(sem_t *semaphore)
     monitor_enter();
     if (semaphore->value == SEM_VALUE_MAX)
         code = EOVERFLOW;
-    else if (!monitor_wake_first(&semaphore->waiters))
+    else if (!monitor_hand(&semaphore->waiters))
         semaphore->value++;
     if (code == 0)
         dthreads_hint_release(semaphore);

@@ -1,4 +1,5 @@
-# Where threads begin. The machine gives a new thread sp, a0 and a1 alone, so gp and tp are set here.
+# Where threads begin. The machine gives a new thread sp, a0 and a1 alone, so gp and tp are set here. The first one has in a0 the
+# run's number, and in a1 how many choices the library may make: both stay for the routine that is called.
 #include "offsets.h"
 
     .cfi_sections .debug_frame

@@ -76,6 +76,7 @@ static int thread_make(pthread_t *name, const pthread_attr_t *attributes, void *
     thread->detached = attributes->detach_state == PTHREAD_CREATE_DETACHED;
     *name = name_of(thread);
     thread->created = ++monitor.created;
+    thread->delay = vary_delay();
     dthreads_hint_release(&thread->start);
     monitor_hold();
     monitor.living++;
@@ -120,13 +121,26 @@ static void begin_together(const struct dthreads_thread *thread)
     } while (monitor.created != seen && !is_batch_full(thread));
 }
 
+/* Lets others have turns before this thread begins. Each of its own is an operation: the clock must not run for it. */
+static void let_others_go(const struct dthreads_thread *thread)
+{
+    if (thread->delay == TOGETHER) {
+        begin_together(thread);
+        return;
+    }
+    for (uint32_t i = thread->delay; i > 0; i--) {
+        monitor_enter();
+        monitor_leave();
+    }
+}
+
 /* What start.S and pthread_exit entered is left when the start routine begins. */
 void dthreads_thread_run(struct dthreads_thread *thread)
 {
     tls_fill(thread->block);
     own.thread = thread;
     thread->own = &own;
-    begin_together(thread);
+    let_others_go(thread);
     dthreads_hint_acquire(&thread->start);
     hint_leave();
     pthread_exit(thread->start(thread->argument));
