@@ -1,7 +1,7 @@
 """Tests of the commands that run guests with numbers: what they make of a number, and what they tell. No guest is run."""
 import unittest
 
-from dt_commands import guest_tests, numbered_runs, variation_tests
+from dt_commands import explore_tests, guest_tests, numbered_runs, variation_tests
 from dt_commands.texts import rows_of
 
 
@@ -16,6 +16,13 @@ class Numbers(unittest.TestCase):
 
 
 class Lists(unittest.TestCase):
+    def test_a_bug_tells_its_first_number_and_how_many_show_it(self):
+        bug = explore_tests.Bug("two_locks", "121", "locks", "in", "both", "orders")
+        bug.tried, bug.numbers = 100, [3, 9]
+        self.assertEqual(bug.row().split(), ["two_locks", "locks", "in", "both", "orders", "-", "3", "2", "of", "100"])
+        bug.plain, bug.numbers = True, []
+        self.assertEqual(bug.row().split()[-5:], ["yes", "-", "0", "of", "100"])
+
     def test_what_a_number_may_change_is_a_program_of_the_tests(self):
         names = {it[0] for it in rows_of(f"{guest_tests.FOLDER}/list")}
         others = rows_of(f"{variation_tests.FOLDER}/others")
