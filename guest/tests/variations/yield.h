@@ -8,4 +8,4 @@ static inline void yield(int times)
         sched_yield();
 }
 
-enum { AMPLE = 300 };
+enum { AMPLE = 150 };
