@@ -12,6 +12,8 @@ from dt_commands.progress import Progress
 from dt_commands.texts import rows_of
 
 FOLDER = f"{guest_tests.FOLDER}/explore"
+# For how many numbers it is told how many bugs are expected.
+RUNS = 100
 
 
 class Bug:
@@ -20,6 +22,10 @@ class Bug:
     def __init__(self, name, status, *kind):
         self.name, self.status, self.kind = name, int(status), " ".join(kind)
         self.plain, self.numbers, self.tried = False, [], 0
+
+    def chance(self, runs):
+        """Returns how likely so many numbers show the bug, by the share of those that did."""
+        return 1 - (1 - len(self.numbers) / self.tried) ** runs if self.tried else 0
 
     def row(self):
         """Returns the line that tells of it."""
@@ -82,6 +88,7 @@ def test(options):
     print("\n".join(it.row() for it in bugs))
     found, plain = sum(bool(it.numbers) for it in bugs), sum(it.plain for it in bugs)
     print(f"{found} of {len(bugs)} bugs found with {options.numbers} numbers, {plain} without one")
+    print(f"by these shares {sum(it.chance(RUNS) for it in bugs):.1f} are expected with {RUNS} numbers")
     if found < options.least:
         tally.fail(f"fewer than {options.least}")
     return tally.status("programs", f", and no right twin fails with {options.numbers} numbers")

@@ -20,6 +20,7 @@ class Lists(unittest.TestCase):
         bug = explore_tests.Bug("two_locks", "121", "locks", "in", "both", "orders")
         bug.tried, bug.numbers = 100, [3, 9]
         self.assertEqual(bug.row().split(), ["two_locks", "locks", "in", "both", "orders", "-", "3", "2", "of", "100"])
+        self.assertAlmostEqual(bug.chance(2), 1 - 0.98 ** 2)
         bug.plain, bug.numbers = True, []
         self.assertEqual(bug.row().split()[-5:], ["yes", "-", "0", "of", "100"])
 
