@@ -17,7 +17,7 @@ TIMES = 100
 OPERATIONS = {
     "spawn": "spawn and join", "fetch_add": "fetch_add, 32 bits", "fetch_add_64": "fetch_add, 64 bits", "mutex": "Mutex: lock and unlock",
     "read": "RwLock: read", "write": "RwLock: write", "condvar": "Condvar: both sides of an exchange", "once": "OnceLock: get",
-    "arc": "Arc: clone and drop", "mpsc": "mpsc: send and recv", "park": "park and unpark, both sides", "println": "println!",
+    "arc": "Arc: clone and drop", "mpsc": "mpsc: send and recv", "park": "park and unpark", "println": "println!",
 }
 HELLO = 'fn main() {\n    println!("hello");\n}\n'
 HELLO_CXX = "#include <iostream>\nint main() { std::cout << 1.5 << std::endl; }\n"

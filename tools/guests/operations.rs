@@ -36,7 +36,9 @@ fn sends(times: usize) {
     sum.join().unwrap();
 }
 
+/// Each side parks and unparks half as often.
 fn parks(times: usize) {
+    let times = times / 2;
     let first = thread::current();
     let second = thread::spawn(move || {
         for _ in 0..times {
