@@ -1,6 +1,9 @@
 //! The debugging of a file's program by gdb, which speaks on standard input and output.
-ghost use Rattle.std.specs.Prelude.{◌^◌, ◌<◌, IfOk, IfSome};
+ghost use Rattle.std.specs.Prelude.{◌≡◌, ◌⊎◌, ◌^◌, ◌<◌, IfErr, IfOk, IfSome, OnOk};
 ghost use Rattle.token.specs.RunInTurn.{point_of};
+ghost use Rattle.command_requests.specs.Reading.{AreRead, IsUnreadAt};
+ghost use Rattle.command_run.specs.Serves.{IsOpenedFrom};
+ghost use Rattle.command_debug.specs.Debugging.{AreDebugged, IsCutOff, IsDebugged, IsUndebugged, debugging_status};
 
 use crate::incoming::{Incoming, Piece, read_all};
 use crate::serving::{ServeFault, serve};
@@ -34,6 +37,7 @@ pub struct Debugging<'a> {
 
 /// Debugs the program of a file: answers gdb, which speaks on `stdin`, on `stdout`, until it ends the session or the input
 /// ends.
+#[tactic(auto, using(crate::proofs::Opened::is_debugged))]
 pub fn debug_file<'a, H: Threads + Wait + Sync, F: Files, R: Read + Send, W: Write>(
     rt: &H,
     alloc: Global,
@@ -42,7 +46,12 @@ pub fn debug_file<'a, H: Threads + Wait + Sync, F: Files, R: Read + Send, W: Wri
     files: &F,
     stdin: &mut R,
     stdout: &mut W,
-) -> Result<(), Failure<'a>> {
+) -> Result<(), Failure<'a>>
+    ensures accepted { OnOk result (IsDebugged (F.content files.now) debugging.now config.now) }
+    ensures failed { IfErr result (λ failure.
+        (IsUndebugged (F.content files.now) debugging.now config.now failure × (stdin.new ≡ stdin.old) × (stdout.new ≡ stdout.old))
+        ⊎ (IsCutOff failure × IsDebugged (F.content files.now) debugging.now config.now)) }
+{
     let start = open(alloc, debugging, config, files)?;
     let session = session_of(alloc, start, debugging.turn)?;
     let (sender, receiver) = bounded(alloc, PIECES)?;
@@ -86,7 +95,9 @@ fn open<'a, F: Files>(
     config: &Config,
     files: &F,
 ) -> Result<Start, Failure<'a>>
-    ensures { IfOk result (λ start. IfSome (point_of start).setup.quantum (λ q. 0 < q)) }
+    ensures quantum { IfOk result (λ start. IfSome (point_of start).setup.quantum (λ q. 0 < q)) }
+    ensures opened { IfOk result (λ start. AreDebugged (F.content files.now) debugging.now (IsOpenedFrom config.now start)) }
+    ensures failed { IfErr result (IsUndebugged (F.content files.now) debugging.now config.now) }
 {
     let elf = read(alloc, debugging.file, FILE_LIMIT, files)?;
     let input = match debugging.input {
@@ -104,6 +115,8 @@ fn read<'a, F: Files>(
     files: &F,
 ) -> Result<Vec<u8>, Failure<'a>>
     requires { limit < 2 ^ 32 }
+    ensures read { IfOk result (λ bytes. AreRead limit (F.content files.now path.now) bytes.items) }
+    ensures failed { IfErr result (IsUnreadAt path.now) }
 {
     match files.read(alloc, path, limit) {
         Ok(bytes) => Ok(bytes),
@@ -114,6 +127,7 @@ fn read<'a, F: Files>(
 /// A session over a run, at the start of a turn.
 fn session_of<'a>(alloc: Global, start: Start, turn: u64) -> Result<Session, Failure<'a>>
     requires { IfSome (point_of start).setup.quantum (λ q. 0 < q) }
+    ensures { IfErr result (λ failure. failure ≡ Failure.OutOfMemory) }
 {
     let timeline = Timeline::open(alloc, start, Spacing::USUAL)?;
     let mut session = Session::new(alloc, timeline)?;
@@ -122,7 +136,9 @@ fn session_of<'a>(alloc: Global, start: Start, turn: u64) -> Result<Session, Fai
 }
 
 /// Says why a debugging failed, if it did, and answers the status.
-pub fn conclude_debugging<E: Write>(answer: Result<(), Failure<'_>>, stderr: &mut E) -> u8 {
+pub fn conclude_debugging<E: Write>(answer: Result<(), Failure<'_>>, stderr: &mut E) -> u8
+    ensures { result ≡ debugging_status answer.entry }
+{
     match answer {
         Ok(()) => 0,
         Err(failure) => fail(failure, stderr),

@@ -41,8 +41,14 @@ pub(crate) enum Coming {
 }
 
 impl Incoming {
-    /// The bytes of these pieces.
-    pub fn new(alloc: Global, pieces: Receiver<Piece, Global>) -> Self {
+    ghost use Rattle.std.specs.Prelude.{◌≡◌, ◌+◌, None, Some, IfErr, IfNone, IfSome, IsSome, OnOk};
+    ghost use Rattle.command_debug.specs.Incoming.{byte_at_hand, Comes, IsPassed, Takes};
+
+    /// The bytes of these pieces, of which none is read yet.
+    pub fn new(alloc: Global, pieces: Receiver<Piece, Global>) -> Self
+        ensures none { byte_at_hand result ≡ None }
+        ensures whole { result.lost ≡ None }
+    {
         Incoming {
             pieces,
             piece: Vec::new(alloc),
@@ -52,18 +58,25 @@ impl Incoming {
     }
 
     /// What its end comes to: a read may have failed, or memory run out.
-    pub fn end(&self) -> Result<(), ReadFault> {
+    pub fn end(&self) -> Result<(), ReadFault>
+        ensures whole { OnOk result (self.now.lost ≡ None) }
+        ensures lost { IfErr result (λ fault. self.now.lost ≡ Some fault) }
+    {
         match self.lost {
             Some(fault) => Err(fault),
             None => Ok(()),
         }
     }
 
-    /// Takes the next byte, and waits for it. None at the end of the input.
-    pub fn next<H: Wait>(&mut self, rt: &H) -> Option<u8> {
+    /// Takes the next byte, and waits for it if none is at hand. None at the end of the input.
+    pub fn next<H: Wait>(&mut self, rt: &H) -> Option<u8>
+        ensures at_hand { IsSome (byte_at_hand self.old) → (result ≡ byte_at_hand self.old) × IsPassed self.old self.new }
+        ensures taken { IfSome result (Takes self.old self.new) }
+        ensures ended { IfNone result (byte_at_hand self.old ≡ None) }
+    {
         for _ in rt.forever() {
-            if let Some(byte) = self.piece.get(self.taken).copied() {
-                self.taken = self.taken.saturating_add(1);
+            if let Some(byte) = self.at_hand() {
+                self.skip();
                 return Some(byte);
             }
             match self.pieces.recv(rt) {
@@ -79,14 +92,17 @@ impl Incoming {
     }
 
     /// What comes next. Nothing is taken.
-    pub fn peek<H: Wait>(&mut self, rt: &H) -> Coming {
-        if let Some(byte) = self.piece.get(self.taken).copied() {
+    pub fn peek<H: Wait>(&mut self, rt: &H) -> Coming
+        ensures at_hand { IsSome (byte_at_hand self.old) → self.new ≡ self.old }
+        ensures comes { Comes self.old self.new result }
+    {
+        if let Some(byte) = self.at_hand() {
             return Coming::Byte(byte);
         }
         match self.pieces.try_recv(rt) {
             Ok(Piece::Bytes(piece)) => {
                 self.begin(piece);
-                match self.piece.first().copied() {
+                match self.at_hand() {
                     Some(byte) => Coming::Byte(byte),
                     None => Coming::Nothing,
                 }
@@ -100,13 +116,24 @@ impl Incoming {
         }
     }
 
-    /// Passes over the byte that comes next.
-    pub fn skip(&mut self) {
+    /// Passes over the byte that comes next, if it is at hand.
+    pub fn skip(&mut self)
+        ensures { IsSome (byte_at_hand self.old) → IsPassed self.old self.new }
+    {
         self.taken = self.taken.saturating_add(1);
     }
 
+    /// The byte that comes next, if it is at hand.
+    fn at_hand(&self) -> Option<u8>
+        ensures { result ≡ byte_at_hand self.now }
+    {
+        self.piece.get(self.taken).copied()
+    }
+
     /// Begins a piece.
-    fn begin(&mut self, piece: Vec<u8>) {
+    fn begin(&mut self, piece: Vec<u8>)
+        ensures { self.new ≡ record self.old { piece = piece; taken = 0 } }
+    {
         self.piece = piece;
         self.taken = 0;
     }

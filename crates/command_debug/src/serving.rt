@@ -1,4 +1,8 @@
 //! A session that is served: its bytes come in and go out, and the run goes on between.
+ghost use Rattle.std.specs.Prelude.{◌≡◌, [], IfErr, OnOk};
+ghost use Rattle.std.specs.Io.KnownBytes.{Appends};
+ghost use Rattle.gdb_packets.specs.Wire.{sent_of};
+
 use crate::incoming::{Coming, Incoming};
 use gdb_protocol::Session;
 use output_files::ReadFault;
@@ -90,8 +94,12 @@ fn run<H: Wait, W: Write>(
     unreachable!()
 }
 
-/// Writes the bytes that a session has for gdb.
-fn send<W: Write>(session: &mut Session, output: &mut W) -> Result<(), ServeFault> {
+/// Writes the bytes that a session has for gdb, and nothing else.
+fn send<W: Write>(session: &mut Session, output: &mut W) -> Result<(), ServeFault>
+    ensures sent { OnOk result (Appends (W.contents output.old) (W.contents output.new) (sent_of session.old.wire)) }
+    ensures taken { sent_of session.new.wire ≡ [] }
+    ensures failed { IfErr result (λ fault. fault ≡ ServeFault.WriteFailed) }
+{
     let bytes = session.take_output();
     if bytes.is_empty() {
         return Ok(());

@@ -1,0 +1,2 @@
+pub mod Debugging
+pub mod Incoming
