@@ -9,11 +9,13 @@
 int *__errno(void);
 
 static int *elsewhere;
+static uint32_t numbers[3];
 
 static void *asks(void *argument)
 {
-    elsewhere = __errno();
-    *elsewhere = 7;
+    if (argument == numbers)
+        elsewhere = __errno();
+    *__errno() = 7;
     *(uint32_t *)argument = arc4random();
     return NULL;
 }
@@ -29,7 +31,6 @@ static int differing_bytes(const unsigned char *bytes, int length)
 int main(void)
 {
     pthread_t threads[3];
-    uint32_t numbers[3];
     for (int i = 0; i < 3; i++)
         pthread_create(&threads[i], NULL, asks, &numbers[i]);
     for (int i = 0; i < 3; i++)
