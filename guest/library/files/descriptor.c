@@ -278,18 +278,37 @@ ssize_t file_write(struct open_file *file, const void *bytes, size_t length, uin
     }
 }
 
+/* Whether a call goes on that a signal interrupted: runs the handlers, outside of the monitor. */
+static bool goes_on(ssize_t code)
+{
+    if (code != -EINTR)
+        return false;
+    monitor_leave();
+    bool is_restarted = signals_deliver();
+    monitor_enter();
+    return is_restarted;
+}
+
 ssize_t files_read(int descriptor, void *bytes, size_t length)
 {
+    ssize_t code;
     monitor_enter();
-    struct open_file *file = file_of(descriptor);
-    return files_finish(file ? file_read(file, bytes, length, &file->place) : -EBADF);
+    do {
+        struct open_file *file = file_of(descriptor);
+        code = file ? file_read(file, bytes, length, &file->place) : -EBADF;
+    } while (goes_on(code));
+    return files_finish(code);
 }
 
 ssize_t files_write(int descriptor, const void *bytes, size_t length)
 {
+    ssize_t code;
     monitor_enter();
-    struct open_file *file = file_of(descriptor);
-    return files_finish(file ? file_write(file, bytes, length, &file->place) : -EBADF);
+    do {
+        struct open_file *file = file_of(descriptor);
+        code = file ? file_write(file, bytes, length, &file->place) : -EBADF;
+    } while (goes_on(code));
+    return files_finish(code);
 }
 
 /* Reading and writing elsewhere needs a file that has places. */

@@ -88,8 +88,9 @@ ssize_t pipe_read(struct open_file *file, char *bytes, size_t length)
         }
         if (file->flags & O_NONBLOCK)
             return -EAGAIN;
-        if (monitor_sleep(&pipe->reading, NEVER, true) == CANCELLED)
-            return -ECANCELED;
+        enum wake wake = monitor_sleep_lightly(&pipe->reading, NEVER, true);
+        if (wake != WOKEN)
+            return wake == CANCELLED ? -ECANCELED : -EINTR;
     }
     dthreads_hint_acquire(pipe);
     uint32_t count = take(pipe, bytes, piece_of(length));
@@ -105,8 +106,9 @@ static int wait_for_room(struct open_file *file, size_t length)
     while (pipe->readers > 0 && ROOM - pipe->length < wanted) {
         if (file->flags & O_NONBLOCK)
             return -EAGAIN;
-        if (monitor_sleep(&pipe->writing, NEVER, true) == CANCELLED)
-            return -ECANCELED;
+        enum wake wake = monitor_sleep_lightly(&pipe->writing, NEVER, true);
+        if (wake != WOKEN)
+            return wake == CANCELLED ? -ECANCELED : -EINTR;
     }
     return pipe->readers > 0 ? 0 : -EPIPE;
 }
@@ -117,7 +119,7 @@ ssize_t pipe_write(struct open_file *file, const char *bytes, size_t length)
     while (done < length) {
         int code = wait_for_room(file, done ? 1 : length);
         if (code < 0)
-            return done && code == -EAGAIN ? (ssize_t)done : code;
+            return done && (code == -EAGAIN || code == -EINTR) ? (ssize_t)done : code;
         dthreads_hint_release(file->node->pipe);
         size_t left = length - done, piece = piece_of(left);
         done += put(file->node->pipe, bytes + done, piece);
