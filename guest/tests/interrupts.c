@@ -1,4 +1,5 @@
 /* Signals and reads and writes of pipes: they are interrupted, or go on; and a thread is cancelled in a handler that reads. */
+#define _GNU_SOURCE
 #include <errno.h>
 #include <pthread.h>
 #include <signal.h>
@@ -58,6 +59,15 @@ static void handle(void (*handler)(int), int flags)
 int main(void)
 {
     char byte = 0;
+    sigset_t one, other, both;
+    sigemptyset(&one);
+    printf("%d", sigisemptyset(&one));
+    sigaddset(&one, SIGHUP);
+    sigfillset(&other);
+    sigandset(&both, &one, &other);
+    printf(" %d", both == one);
+    sigorset(&both, &one, &other);
+    printf(" %d\n", both == other);
     pipe(ends);
     pipe(others);
 

@@ -19,7 +19,7 @@ from dt_commands.repository import TOP
 from dt_commands.texts import contents
 
 FOLDERS = ["nptl", "sysdeps/pthread"]
-UNPACKED = ["*/nptl", "*/sysdeps/pthread", "*/support", "*/test-skeleton.c", "*/include/intprops.h", "*/include/array_length.h",
+UNPACKED = ["*/nptl", "*/sysdeps/pthread", "*/support", "*/posix/tst-vfork*.c", "*/elf/tst-unwind-main.c", "*/test-skeleton.c", "*/include/intprops.h", "*/include/array_length.h",
             "*/include/scratch_buffer.h", "*/include/libc-pointer-arith.h", "*/include/libc-diag.h"]
 WORKERS = (1, 4)
 BOUND, SECONDS = "4000000000", 1800
@@ -71,7 +71,7 @@ def with_included(file, folder):
     """Returns the text of a test, with those of the tests that it includes."""
     text = read(file)
     for name in re.findall(r'^ *# *include [<"]((?:\w+/)*tst-[\w-]+\.[ch])[>"]', text, re.M):
-        found = [it for it in (f"{os.path.dirname(file)}/{name}", *(f"{folder}/{at}/{os.path.basename(name)}" for at in FOLDERS)) if os.path.exists(it)]
+        found = [it for it in (f"{os.path.dirname(file)}/{name}", f"{folder}/{name}", *(f"{folder}/{at}/{os.path.basename(name)}" for at in FOLDERS)) if os.path.exists(it)]
         text += with_included(found[0], folder) if found else ""
     return text
 

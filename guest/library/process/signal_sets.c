@@ -29,6 +29,25 @@ int sigdelset(sigset_t *set, int signal)
     return 0;
 }
 
+/* Of GNU. */
+
+int sigisemptyset(const sigset_t *set)
+{
+    return *set == 0;
+}
+
+int sigandset(sigset_t *set, const sigset_t *one, const sigset_t *other)
+{
+    *set = *one & *other;
+    return 0;
+}
+
+int sigorset(sigset_t *set, const sigset_t *one, const sigset_t *other)
+{
+    *set = *one | *other;
+    return 0;
+}
+
 int sigismember(const sigset_t *set, int signal)
 {
     if (!is_signal(signal))

@@ -220,17 +220,17 @@ int pthread_spin_trylock(pthread_spinlock_t *lock)
     return code;
 }
 
+/* A lock that its holder takes again is never had: nobody else frees it. */
 int pthread_spin_lock(pthread_spinlock_t *lock)
 {
     monitor_enter();
-    int code = lock->owner == self() ? EDEADLK : 0;
-    if (code == 0) {
-        while (lock->owner && lock->owner != self())
+    if (lock->owner)
+        do
             monitor_sleep(&lock->waiters, NEVER, false);
-        spin_take(lock);
-    }
+        while (lock->owner && lock->owner != self());
+    spin_take(lock);
     monitor_finish();
-    return code;
+    return 0;
 }
 
 int pthread_spin_unlock(pthread_spinlock_t *lock)
