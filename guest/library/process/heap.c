@@ -295,12 +295,15 @@ static void *small(size_t size)
     return block;
 }
 
+/* The store to the block before, which another thread may have freed, is the library's own. */
 static void small_free(void *address, uint32_t index)
 {
     struct list *list = &cache[index];
     if (varies()) {
         memset(address, FREED, sizes[index]);
+        hint_enter();
         append(list, address);
+        hint_leave();
     } else {
         push(list, address);
     }
