@@ -25,8 +25,16 @@ EDITION = ["--edition", "2021"]
 RACY = {
     "races": ["store races.rs:15 load races.rs:15", "store races.rs:15 store races.rs:15", "store races.rs:20 store races.rs:20",
               "store races.rs:25 store races.rs:25"],
+    "channel_races": ["store channel_races.rs:18 store channel_races.rs:14"],
     "lost_update": ["store lost_update.rs:14 load lost_update.rs:14", "store lost_update.rs:14 store lost_update.rs:14"],
 }
+# What `dthreads-cargo debug` is asked for in the project, with words of gdb, and what it says.
+DEBUGGED = [
+    ("sums", ["-ex", "backtrace 1", "-ex", "break project::sum_of_squares", "-ex", "continue", "-ex", "print numbers.length"],
+     r"#0 +project::tests::sums .*src/lib\.rs:29.*project::sum_of_squares .*\$1 = 5"),
+    ("s", [], r"s: more than one test has this name or part:\n  project: tests::panics\n  project: tests::sums\n"),
+    ("other", [], r"other: no test has this name:\n  project: tests::panics\n"),
+]
 ACCESS = r"(load|store) \S+ \S+ pc=\S+ at=\S*?([^/\s]+:\d+)"
 RACE = re.compile(rf"race address=\S+ bytes=\d {ACCESS} {ACCESS}")
 
@@ -133,6 +141,19 @@ def without_times(text):
     return re.sub(r"finished in [\d.]+s", "finished in *", text)
 
 
+def test_debugger(tally, where):
+    """Debugs a test of the project: gdb stops at its beginning. A name that several tests have is refused with their names."""
+    if not shutil.which("gdb-multiarch") and not shutil.which("riscv64-unknown-elf-gdb"):
+        print("project: gdb isn't there, so dthreads-cargo debug isn't tried: apt-get install gdb-multiarch")
+        return
+    how = {"cwd": where, "stdin": subprocess.DEVNULL, "stdout": subprocess.PIPE, "stderr": subprocess.STDOUT, "errors": "replace"}
+    for name, words, wanted in DEBUGGED:
+        command = [f"{guest_runs.KIT}/dthreads-cargo", "debug", "--offline", name, "--", "-batch", *words]
+        ran = subprocess.run(command, env=environment(), **how)
+        if not re.search(wanted, ran.stdout, re.S):
+            tally.fail(f"project: debug {name}: {ran.stdout[-800:]}")
+
+
 def test_project(tally, room):
     """Builds, runs and tests a project of several crates by dthreads-cargo: it prints project.out, and its own files stay as they are."""
     where, said = f"{room}/project", ""
@@ -146,6 +167,7 @@ def test_project(tally, room):
             tally.fail(f"project: {ran.stderr[-600:]}")
     if said.encode() != contents(f"{FOLDER}/project.out"):
         tally.fail(f"project: {first_difference(said.encode(), contents(f'{FOLDER}/project.out'))}")
+    test_debugger(tally, where)
     after = sums_of(where)
     if after != before:
         tally.fail(f"project: files were changed: {sorted(it for it in {**before, **after} if before.get(it) != after.get(it))}")

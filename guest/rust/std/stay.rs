@@ -1,4 +1,5 @@
-//! Stays in the kit's monitor. Operations on atomic objects take no turns of their own there, and none of a program's own code runs.
+//! Stays in the kit's monitor. Operations on atomic objects take no turns of their own there, and none of a program's own code runs but
+//! what it hooks to the creation of threads.
 use crate::marker::PhantomData;
 
 unsafe extern "C" {
