@@ -102,6 +102,11 @@ int main(void)
     printf("own %s\n", pthread_rwlock_rdlock(&lock) == EDEADLK ? "EDEADLK" : "?");
     pthread_rwlock_unlock(&lock);
     printf("destroy %d\n", pthread_rwlock_destroy(&lock));
+    for (int i = 0; i < 2; i++) {
+        pthread_rwlock_init(&lock, NULL);
+        int code = i ? pthread_rwlock_wrlock(&lock) : pthread_rwlock_rdlock(&lock) | pthread_rwlock_rdlock(&lock);
+        printf("destroy a held one %d %d\n", code, pthread_rwlock_destroy(&lock));
+    }
 
     pthread_spin_init(&spin, PTHREAD_PROCESS_PRIVATE);
     for (int i = 0; i < 4; i++)

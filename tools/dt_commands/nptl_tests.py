@@ -29,7 +29,7 @@ LEFT_OUT = re.compile(r"tst-|links-dso|-container|resolv|dns|net|chroot|addr|xdl
 PATHS = "OBJDIR OBJDIR_ELF_LDSO SLIBDIR SRCDIR INSTDIR ROOTSBINDIR LIBDIR BINDIR SBINDIR SYSCONFDIR COMPLOCALEDIR".split()
 # Why a test doesn't apply: what its source names. The first that it has is told.
 REASONS = {
-    "processes": r"\b(x?fork|vfork|x?waitpid|exec[lv]\w*|posix_spawn\w*|popen|system|clone|support_capture\w*|support_isolate\w*)\b *\(",
+    "processes": r"\b(x?fork|vfork|x?waitpid|exec[lv]\w*|posix_spawn\w*|popen|system|clone|support_capture\w*|support_isolate\w*|call_system)\b *\(",
     "shared libraries": r"\bx?dl(open|sym|mopen)\b|dlfcn\.h|RTLD_|audit-threads",
     "glibc's own headers": r"internaltypes\.h|ldsodefs|lowlevellock|futex-internal|pthreadP?\.h\"|<(atomic|tls|libc-internal|kernel-features|"
                            r"nptl/\w+|libio/\w+|internal-signals|mcheck|execinfo|thread_state|malloc-internal|stackinfo|stap-probe|"

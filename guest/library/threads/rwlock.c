@@ -271,9 +271,13 @@ int pthread_rwlock_init(pthread_rwlock_t *lock, const pthread_rwlockattr_t *attr
     return 0;
 }
 
+/* Frees what the caller still holds, as on Linux; EBUSY if others hold it. */
 int pthread_rwlock_destroy(pthread_rwlock_t *lock)
 {
-    return lock->writer || lock->readers ? EBUSY : 0;
+    int code = 0;
+    while ((lock->writer || lock->readers) && code == 0)
+        code = pthread_rwlock_unlock(lock);
+    return code == 0 ? 0 : EBUSY;
 }
 
 int pthread_rwlockattr_init(pthread_rwlockattr_t *attributes)
