@@ -20,7 +20,12 @@ PACKAGES = ["crossbeam", "dashmap", "flume", "parking-lot", "rayon", "serde-json
 
 def missing():
     """Returns the packages that aren't there."""
-    return [f"librust-{it}-dev" for it in PACKAGES if not glob.glob(f"{REGISTRY}/{it.replace('-', '_')}-[0-9]*")]
+    return [f"librust-{it}-dev" for it in PACKAGES if not glob.glob(f"{REGISTRY}/{it.replace('-', '[-_]')}-[0-9]*")]
+
+
+def names():
+    """Returns the programs' names."""
+    return sorted(os.path.basename(it)[:-3] for it in glob.glob(f"{FOLDER}/src/bin/*.rs"))
 
 
 def test(options):
@@ -29,13 +34,12 @@ def test(options):
         print(f"Debian's crates: left out, {', '.join(missing())} are missing: apt-get install {' '.join(missing())}")
         return 1
     tally = guest_runs.Tally()
-    names = sorted(os.path.basename(it)[:-3] for it in glob.glob(f"{FOLDER}/src/bin/*.rs"))
-    names = [it for it in names if not options.names or it in options.names]
-    tally.tried = len(names)
-    with tempfile.TemporaryDirectory() as room, Progress("programs", len(names)) as progress:
+    chosen = [it for it in names() if not options.names or it in options.names]
+    tally.tried = len(chosen)
+    with tempfile.TemporaryDirectory() as room, Progress("programs", len(chosen)) as progress:
         where = f"{room}/crates"
         shutil.copytree(FOLDER, where)
-        for name in progress.each(names, str):
+        for name in progress.each(chosen, str):
             words = [f"{guest_runs.KIT}/dthreads-cargo", "build", "--offline", "--bin", name]
             ran = subprocess.run(words, cwd=where, stdout=subprocess.PIPE, stderr=subprocess.STDOUT, errors="replace")
             if ran.returncode:

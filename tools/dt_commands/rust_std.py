@@ -1,63 +1,80 @@
 """The tests that Rust's std brings with it, from the package rust-web-src, over crates that stand for those which they use of others."""
-import os
 import re
 import subprocess
 import tempfile
+from collections import namedtuple
 
 from dt_commands import guest_runs, rust_tests
 from dt_commands.progress import Progress
+from dt_commands.texts import contents
 
-FOLDER = "/usr/lib/rustlib/src/rust/library/std/tests"
-# The tests, a file or folder each, with the tests that are left out and why.
+FOLDER = "/usr/lib/rustlib/src/rust/library"
+# Some of the tests: their first file below FOLDER, the tests that are left out and why, and further words of rustc.
+Part = namedtuple("Part", "file left_out words", defaults=({}, ()))
+# (what is unstable in std, the file of `sync` doesn't say)
 TESTS = {
-    "sync": {"test_rwlock_max_readers": "it reads a lock 2^30 times"}, "thread": {}, "thread_local": {}, "num": {}, "panic": {},
-    "time": {"instant_monotonic_concurrent": "it reads the clock 40,000,000 times"},
-    "env": {"test_self_exe_path": "a program has no file of its own"},
+    "sync": Part("std/tests/sync/lib.rs", {"test_rwlock_max_readers": "it reads a lock 2^30 times"}, ["-Zcrate-attr=feature(sync_poison_mod)"]),
+    "thread": Part("std/tests/thread.rs"),
+    "thread_local": Part("std/tests/thread_local/lib.rs"),
+    "num": Part("std/tests/num.rs"),
+    "panic": Part("std/tests/panic.rs"),
+    "time": Part("std/tests/time.rs", {"instant_monotonic_concurrent": "it reads the clock 40,000,000 times"}),
+    "env": Part("std/tests/env.rs", {"test_self_exe_path": "a program has no file of its own"}),
 }
 # The crates that stand for those of others, with what each takes of them.
 CRATES = {"rand": [], "rand_xorshift": ["--extern=rand"]}
-# What is unstable in std, and a test's file doesn't say so.
-FEATURES = {"sync": ["-Zcrate-attr=feature(sync_poison_mod)"]}
 PASSED = re.compile(r"^test result: ok\. (\d+) passed; 0 failed; (\d+) ignored; 0 measured; (\d+) filtered out", re.M)
+# A part is run with each of these numbers of workers, and with as many tests at a time.
+WORKERS, AT_A_TIME = (4, 1), 4
 
 
-def source_of(name):
-    """Returns the first file of some of std's own tests."""
-    return next(it for it in (f"{FOLDER}/{name}.rs", f"{FOLDER}/{name}/lib.rs") if os.path.exists(it))
+def run(elf, part, workers, room):
+    """Runs some of the tests. Returns the status, what they said, and the digest of the run."""
+    skipped = [word for it in part.left_out for word in ("--skip", it)]
+    digest = f"{room}/digest"
+    command = [f"{guest_runs.KIT}/dthreads-exec", elf, "--bound", "1099511627776", "--workers", str(workers), "--digest", digest]
+    how = {"stdin": subprocess.DEVNULL, "stdout": subprocess.PIPE, "stderr": subprocess.STDOUT, "errors": "replace"}
+    ran = subprocess.run([*command, "--", "--test-threads", str(AT_A_TIME), *skipped], env=rust_tests.environment(), **how)
+    return ran.returncode, ran.stdout, contents(digest)
 
 
-def test_part(tally, room, name, left_out):
-    """Builds and runs some of std's own tests. Returns what came of them."""
+def test_part(tally, room, name, part):
+    """Builds and runs some of the tests, and says what came of them."""
     elf = f"{room}/{name}.elf"
     crates = [f"--extern={it}" for it in CRATES]
-    words = ["--test", "--edition", "2024", "-Awarnings", *FEATURES.get(name, []), f"-L{room}", *crates, source_of(name)]
+    words = ["--test", "--edition", "2024", "-Awarnings", *part.words, f"-L{room}", *crates, f"{FOLDER}/{part.file}"]
     said = rust_tests.compiled(words, elf, room)
     if said is not None:
-        tally.fail(f"{said}{name}: doesn't build")
+        tally.fail(f"{said[-2000:]}{name}: doesn't build")
         return
-    skipped = [word for it in left_out for word in ("--skip", it)]
-    command = [f"{guest_runs.KIT}/dthreads-exec", elf, "--bound", "1099511627776", "--", "--test-threads", "4", *skipped]
-    how = {"stdin": subprocess.DEVNULL, "stdout": subprocess.PIPE, "stderr": subprocess.STDOUT, "errors": "replace"}
-    ran = subprocess.run(command, env=rust_tests.environment(), **how)
-    passed = PASSED.search(ran.stdout)
-    if ran.returncode or not passed:
-        tally.fail(f"{name}: status {ran.returncode}: {ran.stdout[-1500:]}")
+    status, said, digest = run(elf, part, WORKERS[0], room)
+    passed = PASSED.search(said)
+    if status or not passed:
+        tally.fail(f"{name}: status {status}: {said[-1500:]}")
         return
+    for workers in WORKERS[1:]:
+        if run(elf, part, workers, room) != (status, said, digest):
+            tally.fail(f"{name}: another run with {workers} workers")
     print(f"{name}: {passed[1]} passed, {passed[2]} ignored by std, {passed[3]} left out"
-          + "".join(f"; {it}: {why}" for it, why in left_out.items()), flush=True)
+          + "".join(f"; {it}: {why}" for it, why in part.left_out.items()), flush=True)
+
+
+def build_crates(room):
+    """Builds the crates that stand for those of others."""
+    for name, others in CRATES.items():
+        words = ["--crate-type", "rlib", *rust_tests.EDITION, f"-L{room}", *others, f"{rust_tests.FOLDER}/rand/{name}.rs"]
+        said = rust_tests.compiled(words, f"{room}/lib{name}.rlib", room)
+        if said is not None:
+            raise SystemExit(said)
 
 
 def test(options):
-    """Runs std's own tests."""
-    chosen = {name: it for name, it in TESTS.items() if not options.names or name in options.names}
+    """Runs the tests of std, or those of the named parts."""
+    chosen = [it for it in TESTS.items() if not options.names or it[0] in options.names]
     tally = guest_runs.Tally()
     tally.tried = len(chosen)
     with tempfile.TemporaryDirectory() as room, Progress("parts of std's tests", len(chosen)) as progress:
-        for name, others in CRATES.items():
-            words = ["--crate-type", "rlib", *rust_tests.EDITION, f"-L{room}", *others, f"{rust_tests.FOLDER}/rand/{name}.rs"]
-            said = rust_tests.compiled(words, f"{room}/lib{name}.rlib", room)
-            if said is not None:
-                raise SystemExit(said)
-        for name, left_out in progress.each(list(chosen.items()), lambda it: it[0]):
-            test_part(tally, room, name, left_out)
-    return tally.status("parts of std's own tests", ": all of them passed")
+        build_crates(room)
+        for name, part in progress.each(chosen, lambda it: it[0]):
+            test_part(tally, room, name, part)
+    return tally.status("parts of std's own tests", ": all of them passed, alike with 1 and 4 workers")

@@ -1,9 +1,10 @@
-"""The tests of the kit for Rust: the programs of guest/tests/rust and samples/rust, a project that cargo builds, and std's own tests.
+"""The tests of the kit for Rust: programs, the tests that std brings with it, and programs over Debian's crates.
 
-They need guest/build-rust, and Debian's packages for it. A line of guest/tests/rust/list has a program, its status, and the words of
-dthreads-exec. A program marked `host` gave the output of the host's build; --host compares them anew. --std builds std's own tests from
-the package rust-web-src and runs them, --crates programs over crates of Debian's packages; each takes some minutes of a processor. DTHREADS
-names the program to run the others with, or else ./dthreads.
+They need guest/build-rust, and Debian's packages for it. --programs makes those of guest/tests/rust and samples/rust and a project that
+cargo builds, as the gate does. A line of guest/tests/rust/list has a program, its status, and the words of dthreads-exec. A program marked
+`host` gave the output of the host's build; --host compares them anew. --std makes std's own tests from the package rust-web-src, and
+--crates programs over crates of Debian's packages. All three take some ten minutes of a processor. Tests that are left out are named with
+the reason. DTHREADS names the program to run the others with, or else ./dthreads.
 """
 import hashlib
 import os
@@ -13,7 +14,6 @@ import subprocess
 import tempfile
 
 from dt_commands import c_page, guest_runs, rust_crates, rust_std
-from dt_commands.progress import Progress
 from dt_commands.repository import TOP
 from dt_commands.texts import contents, first_difference, rows_of
 
@@ -21,6 +21,8 @@ FOLDER = f"{guest_runs.KIT}/tests/rust"
 SAMPLES = f"{TOP}/samples/rust"
 PACKAGES = {"rustc-web": "/usr/bin/rustc", "cargo-web": "/usr/bin/cargo", "rust-web-src": "/usr/lib/rustlib/src/rust/library/vendor"}
 EDITION = ["--edition", "2021"]
+# What is made, each part by an option that leaves the others out.
+PARTS = {"programs": "the programs and the project alone", "std": "std's own tests alone", "crates": "programs over Debian's crates alone"}
 # The programs whose list of races isn't empty: of each access its kind and its line.
 RACY = {
     "races": ["store races.rs:15 load races.rs:15", "store races.rs:15 store races.rs:15", "store races.rs:20 store races.rs:20",
@@ -40,10 +42,10 @@ RACE = re.compile(rf"race address=\S+ bytes=\d {ACCESS} {ACCESS}")
 
 
 def arguments(parser):
-    parser.add_argument("names", nargs="*", metavar="NAME", help="the programs, `project` or `page` (default: all)")
-    parser.add_argument("--host", action="store_true", help="compare with the host's builds, too")
-    parser.add_argument("--std", action="store_true", help="std's own tests in place of the programs")
-    parser.add_argument("--crates", action="store_true", help="programs over Debian's crates in place of the programs")
+    parser.add_argument("names", nargs="*", metavar="NAME", help="programs, `project`, `page`, or parts of std's tests (default: all)")
+    parser.add_argument("--host", action="store_true", help="compare the programs with the host's builds, too")
+    for name, help_text in PARTS.items():
+        parser.add_argument(f"--{name}", action="store_true", help=help_text)
     guest_runs.with_share(parser)
 
 
@@ -180,24 +182,30 @@ def test_page(tally, room):
 
 
 def tasks(options):
-    """Returns what is tried: a name and a call each."""
+    """Returns what is tried of the programs: a name and a call each."""
     cases = [Case(where, *row) for where in (FOLDER, SAMPLES) if os.path.exists(f"{where}/list") for row in rows_of(f"{where}/list")]
     found = [(it.name, lambda tally, room, it=it: test_program(tally, room, it, options.host)) for it in cases]
     found += [("project", test_project), ("page", test_page)]
     return [it for it in found if not options.names or it[0] in options.names]
 
 
+def test_programs(options):
+    """Makes the programs and the project."""
+    return guest_runs.all_tried("programs in Rust", guest_runs.share(options.share, tasks(options)), lambda tally, room, it: it[1](tally, room),
+                                ", each with 1, 2, 4 and 64 workers: the wanted output and races, and one trace")
+
+
+def has_any(part, options):
+    """Returns whether a part has something of the wanted names."""
+    names = {"programs": [name for name, _ in tasks(options)], "std": rust_std.TESTS, "crates": rust_crates.names()}[part]
+    return not options.names or any(it in names for it in options.names)
+
+
 def test(options):
-    """Builds programs in Rust, and runs each with 1, 2, 4 and 64 workers: wanted output, status and races, and one trace."""
+    """Tests programs in Rust, std's own tests, and programs over Debian's crates, each with several numbers of workers."""
     if not has_rust():
         print(f"programs in Rust: left out, {why_not()}")
         return 1
-    if options.std or options.crates:
-        return (rust_std if options.std else rust_crates).test(options)
-    tally = guest_runs.Tally()
-    every = guest_runs.share(options.share, tasks(options))
-    tally.tried = len(every)
-    with tempfile.TemporaryDirectory() as room, Progress("programs", len(every)) as progress:
-        for _, does in progress.each(every, lambda it: it[0]):
-            does(tally, room)
-    return tally.status("programs in Rust", ", each with 1, 2, 4 and 64 workers: the wanted output and races, and one trace")
+    makes = {"programs": test_programs, "std": rust_std.test, "crates": rust_crates.test}
+    chosen = [it for it in PARTS if getattr(options, it)] or [it for it in PARTS if has_any(it, options)]
+    return max([makes[it](options) for it in chosen], default=1)

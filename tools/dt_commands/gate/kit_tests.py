@@ -40,7 +40,7 @@ PARTS = [
 ]
 # What is made if guest/build-rust was done.
 OF_RUST = [
-    Part("programs in Rust", ["test", "rust"], 4, ["guest/tests/rust", "docs/RUST.md"]),
+    Part("programs in Rust", ["test", "rust", "--programs"], 4, ["guest/tests/rust", "docs/RUST.md"]),
     Part("the crate libc", ["check", "rust-libc"], 1, []),
 ]
 # The commands that build and debug guests; and what the environment says of them.
