@@ -19,8 +19,9 @@ from dt_commands.repository import TOP
 from dt_commands.texts import contents
 
 FOLDERS = ["nptl", "sysdeps/pthread"]
-UNPACKED = ["*/nptl", "*/sysdeps/pthread", "*/support", "*/posix/tst-vfork*.c", "*/elf/tst-unwind-main.c", "*/test-skeleton.c", "*/include/intprops.h", "*/include/array_length.h",
-            "*/include/scratch_buffer.h", "*/include/libc-pointer-arith.h", "*/include/libc-diag.h"]
+UNPACKED = ["*/nptl", "*/sysdeps/pthread", "*/support", "*/posix/tst-vfork*.c", "*/elf/tst-unwind-main.c",
+            "*/test-skeleton.c", "*/include/intprops.h", "*/include/array_length.h", "*/include/scratch_buffer.h",
+            "*/include/libc-pointer-arith.h", "*/include/libc-diag.h"]
 WORKERS = (1, 4)
 BOUND, SECONDS = "4000000000", 1800
 # Files of glibc's support for tests that are for other tests.
@@ -31,7 +32,7 @@ PATHS = "OBJDIR OBJDIR_ELF_LDSO SLIBDIR SRCDIR INSTDIR ROOTSBINDIR LIBDIR BINDIR
 REASONS = {
     "processes": r"\b(x?fork|vfork|x?waitpid|exec[lv]\w*|posix_spawn\w*|popen|system|clone|support_capture\w*|support_isolate\w*|call_system)\b *\(",
     "shared libraries": r"\bx?dl(open|sym|mopen)\b|dlfcn\.h|RTLD_|audit-threads",
-    "glibc's own headers": r"internaltypes\.h|ldsodefs|lowlevellock|futex-internal|pthreadP?\.h\"|<(atomic|tls|libc-internal|kernel-features|"
+    "glibc's own headers": r"internaltypes\.h|tst-stack-align\.h|ldsodefs|lowlevellock|futex-internal|pthreadP?\.h\"|<(atomic|tls|libc-internal|kernel-features|"
                            r"nptl/\w+|libio/\w+|internal-signals|mcheck|execinfo|thread_state|malloc-internal|stackinfo|stap-probe|"
                            r"libc-symbols|shlib-compat|resolv|sys/prctl|sys/single_threaded|gnu/lib-names|elf/\w+|descr|not-cancel)\.h>",
     "files mapped, shared memory": r"MAP_SHARED|shm_open|\bmmap *\(",
@@ -42,14 +43,32 @@ REASONS = {
     "locales and other files of the host": r"/proc/|/usr/|newlocale|setlocale *\([^)]*\"\w\w_",
 }
 # The tests that fail, and why.
-ASYNCHRONOUS = "there is no asynchronous cancellation"
+STREAMS = "the functions of stdio.h are no cancellation points"
+COMPUTING = "nothing interrupts a thread that computes or waits for a mutex"
+TRAPS = "a trap can't be caught"
+SHARED = "it needs a shared library"
 FAILING = {
-    "tst-cancel-self": ASYNCHRONOUS,
-    "tst-cancel-self-cancelstate": ASYNCHRONOUS,
-    "tst-cancel-self-canceltype": ASYNCHRONOUS,
-    "tst-cancel1": ASYNCHRONOUS,
-    "tst-cancel10": ASYNCHRONOUS,
-    "tst-cancel19": ASYNCHRONOUS,
+    "tst-cancel-self": STREAMS,
+    "tst-cancel-self-cancelstate": STREAMS,
+    "tst-cancel1": COMPUTING,
+    "tst-cancel30": COMPUTING,
+    "tst-cancel6": STREAMS,
+    "tst-cancel9": STREAMS,
+    "tst-cancelx6": STREAMS,
+    "tst-cancelx9": STREAMS,
+    "tst-cleanup2": TRAPS,
+    "tst-cleanupx2": TRAPS,
+    "tst-eintr5": "it waits for a condition without its mutex, which is EPERM here",
+    "tst-execstack": SHARED,
+    "tst-fini1": SHARED,
+    "tst-initializers1": "it names fields of glibc's own mutex",
+    "tst-pt-sysconf": "the number of threads has a limit",
+    "tst-pt-tls1": "a stack of the program begins at a multiple of 16",
+    "tst-pt-tls2": "not explained: a deadlock",
+    "tst-pthread-attr-sigmask": "there is no pthread_attr_setsigmask_np",
+    "tst-signal3": COMPUTING,
+    "tst-umask1": "there are no named pipes",
+    "tst-unwind-thread": "functions in C have no tables of unwinding",
 }
 
 Test = namedtuple("Test", "name file text")
@@ -71,7 +90,8 @@ def with_included(file, folder):
     """Returns the text of a test, with those of the tests that it includes."""
     text = read(file)
     for name in re.findall(r'^ *# *include [<"]((?:\w+/)*tst-[\w-]+\.[ch])[>"]', text, re.M):
-        found = [it for it in (f"{os.path.dirname(file)}/{name}", f"{folder}/{name}", *(f"{folder}/{at}/{os.path.basename(name)}" for at in FOLDERS)) if os.path.exists(it)]
+        places = [f"{os.path.dirname(file)}/{name}", f"{folder}/{name}", *(f"{folder}/{at}/{os.path.basename(name)}" for at in FOLDERS)]
+        found = [it for it in places if os.path.exists(it)]
         text += with_included(found[0], folder) if found else ""
     return text
 

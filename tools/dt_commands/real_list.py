@@ -81,15 +81,6 @@ def numbers():
     return b"".join(b"%d\n" % (number * 7919 % 40009) for number in range(40009))
 
 
-def pictures():
-    """Pictures of 128 by 96 points in planes of brightness and colours: a pattern that moves."""
-    width, height, made = 128, 96, bytearray()
-    for number in range(24):
-        made += bytes((x * x // 32 + y * 3 + number * 5 + (x * 7919 ^ y * 104729) % 9) % 220 + 16 for y in range(height) for x in range(width))
-        made += bytes(128 + (x + number) % 32 - y % 16 for y in range(height // 2) for x in range(width // 2)) * 2
-    return bytes(made)
-
-
 class Run:
     """A run of a program: its arguments, what makes its input, the files that are there, by their names, and those that it makes."""
 
@@ -156,13 +147,6 @@ PROGRAMS = [
         "cp -r quickjs built && make -s -C built -j$JOBS $CROSS CC=\"$CC\" CONFIG_LTO= qjs && cp built/qjs $OUT"],
         [Run(["script.js"], nothing, {"script.js": SCRIPT_TEXT.encode, "worker.js": WORKER_TEXT.encode})],
         variables={"native": {"CROSS": ""}, "elf": {"CROSS": "CROSS_PREFIX=riscv64-unknown-elf-"}}),
-    Program("x264", ["x264"], [
-        # (its configuration knows some systems by their names; Linux is the nearest)
-        "mkdir built && cd built && CC=\"$CC\" ../x264/configure $SYSTEM --extra-cflags=\"$FLAGS\" --disable-asm --disable-opencl "
-        "--disable-avs --disable-swscale --disable-lavf --disable-ffms --disable-gpac --disable-lsmash --bit-depth=8 && make -s -j$JOBS x264",
-        "cp built/x264 $OUT"],
-        [Run(["--quiet", "--threads", "4", "--preset", "fast", "--qp", "26", "--demuxer", "raw", "--input-res", "128x96", "-o", "-", "-"], pictures)],
-        variables={"native": {"SYSTEM": ""}, "elf": {"SYSTEM": "--host=riscv32-linux-gnu --cross-prefix=riscv64-unknown-elf-"}}),
     Program("oneTBB", ["onetbb"], [
         # (the host's C++ library does the same algorithms one after the other)
         "if [ -n \"$KIT\" ]; then cmake -S onetbb -B built -DCMAKE_TOOLCHAIN_FILE=$KIT/cmake-toolchain.cmake -DCMAKE_BUILD_TYPE=Release "
