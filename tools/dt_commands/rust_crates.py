@@ -15,7 +15,8 @@ from dt_commands.texts import contents
 
 FOLDER = f"{guest_runs.KIT}/tests/rust/crates"
 REGISTRY = "/usr/share/cargo/registry"
-PACKAGES = ["crossbeam", "dashmap", "flume", "parking-lot", "rayon", "serde-json"]
+PACKAGES = ["arc-swap", "async-channel", "crossbeam", "dashmap", "flume", "futures", "parking-lot", "rayon", "serde-json", "sharded-slab",
+            "thread-local", "threadpool", "tokio"]
 
 
 def missing():
