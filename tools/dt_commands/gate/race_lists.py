@@ -42,6 +42,7 @@ CASES = {
 RACY = {
     "openmp_race": ["total: store main._omp_fn.0, load main._omp_fn.0", "total: store main._omp_fn.0, store main._omp_fn.0"],
     "race": ["counter: store add, load add", "counter: store add, store add"],
+    "interrupts": ["inside: load main, store reads", "inside: store reads, load main"],
     "spins": ["flag: load main, store sets"],
     "sleepers": ["slept: store sleeps, load deadlines", "stop: load computes, store main"],
 }
