@@ -67,27 +67,43 @@ value_or (Some value) = value
 abbrev pub signals : Actor → (passed : List ℕ) → List Event
 signals actor passed = map (event.LetGo actor.thread) passed
 
--- a call with code 0
-abbrev pub completed : Actor → (pc : ℕ) → (passed : List ℕ) → (value : ℕ) → Call → List Event
-completed actor pc passed value (call.Create entry argument stack_pointer) = event.Create actor.thread (byte_of value) ∷ []
-completed actor pc passed value (call.Join number) = event.Join actor.thread (byte_of number) ∷ []
-completed actor pc passed value (call.Lock mutex) = event.Lock actor.thread mutex ∷ []
-completed actor pc passed value (call.Unlock mutex) = event.Unlock actor.thread mutex ∷ []
-completed actor pc passed value (call.Signal condition) = signals actor passed
-completed actor pc passed value (call.Broadcast condition) = signals actor passed
-completed actor pc passed value (call.Write address length) = accesses (load_site actor pc) address length
-completed actor pc passed value (call.Read address length) = accesses (store_site actor pc) address value
-completed actor pc passed value _ = []
-
 -- a call with code 0; the last of a barrier's round completes the round
 abbrev pub AreCompleted : Actor → (pc : ℕ) → (passed : List ℕ) → (value : ℕ) → Call → List Event → Type 0
+AreCompleted actor pc passed value (call.Exit status) events = events ≡ []
+AreCompleted actor pc passed value (call.ThreadExit given) events = events ≡ []
+AreCompleted actor pc passed value (call.Create entry argument stack_pointer) events = events ≡ event.Create actor.thread (byte_of value) ∷ []
+AreCompleted actor pc passed value (call.Join number) events = events ≡ event.Join actor.thread (byte_of number) ∷ []
+AreCompleted actor pc passed value (call.Lock mutex) events = events ≡ event.Lock actor.thread mutex ∷ []
+AreCompleted actor pc passed value (call.Unlock mutex) events = events ≡ event.Unlock actor.thread mutex ∷ []
+AreCompleted actor pc passed value (call.Wait condition mutex) events = events ≡ []
+AreCompleted actor pc passed value (call.Signal condition) events = events ≡ signals actor passed
+AreCompleted actor pc passed value (call.Broadcast condition) events = events ≡ signals actor passed
 AreCompleted actor pc passed value (call.Barrier barrier count) events = IsRound actor passed events
-AreCompleted actor pc passed value asked events = events ≡ completed actor pc passed value asked
+AreCompleted actor pc passed value (call.Write address length) events = events ≡ accesses (load_site actor pc) address length
+AreCompleted actor pc passed value (call.Read address length) events = events ≡ accesses (store_site actor pc) address value
+AreCompleted actor pc passed value (call.Memory pages) events = events ≡ []
+AreCompleted actor pc passed value call.Sync events = events ≡ []
+AreCompleted actor pc passed value (call.Release address pages) events = events ≡ []
+AreCompleted actor pc passed value (call.Unknown number) events = events ≡ []
 
 -- a call whose caller waits
 abbrev pub waiting : Actor → Call → List Event
+waiting actor (call.Exit status) = []
+waiting actor (call.ThreadExit value) = []
+waiting actor (call.Create entry argument stack_pointer) = []
+waiting actor (call.Join number) = []
+waiting actor (call.Lock mutex) = []
+waiting actor (call.Unlock mutex) = []
 waiting actor (call.Wait condition mutex) = event.Unlock actor.thread mutex ∷ []
-waiting actor _ = []
+waiting actor (call.Signal condition) = []
+waiting actor (call.Broadcast condition) = []
+waiting actor (call.Barrier barrier count) = []
+waiting actor (call.Write address length) = []
+waiting actor (call.Read address length) = []
+waiting actor (call.Memory pages) = []
+waiting actor call.Sync = []
+waiting actor (call.Release address pages) = []
+waiting actor (call.Unknown number) = []
 
 -- the end of a thread: it has no mutex any longer, and the joins of it are completed
 abbrev pub unlocks : Actor → (held : List ℕ) → List Event
@@ -101,8 +117,22 @@ thread_end actor held passed = unlocks actor held ++ event.End actor.thread ∷ 
 
 -- a call that ends its caller or the run
 abbrev pub ending : Actor → (held passed : List ℕ) → Call → List Event
+ending actor held passed (call.Exit status) = []
 ending actor held passed (call.ThreadExit value) = thread_end actor held passed
-ending actor held passed _ = []
+ending actor held passed (call.Create entry argument stack_pointer) = []
+ending actor held passed (call.Join number) = []
+ending actor held passed (call.Lock mutex) = []
+ending actor held passed (call.Unlock mutex) = []
+ending actor held passed (call.Wait condition mutex) = []
+ending actor held passed (call.Signal condition) = []
+ending actor held passed (call.Broadcast condition) = []
+ending actor held passed (call.Barrier barrier count) = []
+ending actor held passed (call.Write address length) = []
+ending actor held passed (call.Read address length) = []
+ending actor held passed (call.Memory pages) = []
+ending actor held passed call.Sync = []
+ending actor held passed (call.Release address pages) = []
+ending actor held passed (call.Unknown number) = []
 
 -- a call with its reply; one that is refused orders nothing
 abbrev pub AreOfCall : Actor → (pc : ℕ) → (held passed : List ℕ) → Call → Reply → List Event → Type 0

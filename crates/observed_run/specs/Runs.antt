@@ -1,5 +1,5 @@
 -- The events of a run, turn by turn.
-use Rattle.std.specs.Prelude.{◌≡◌, ℕ, ◌+◌, ◌-◌, ◌%◌, ◌^◌, ◌<◌, ◌⊎◌, Option, Some, Result, Ok, Err, List, [], ◌++◌, IsSome}
+use Rattle.std.specs.Prelude.{◌≡◌, ℕ, ◌+◌, ◌-◌, ◌%◌, ◌^◌, ◌<◌, Option, Some, Result, Ok, Err, List, [], ◌++◌, IsSome}
 use Rattle.guest_memory.specs.Memory.{Memory}
 use Rattle.races.specs.Races.{AreRaces}
 use Rattle.races.specs.Recording.{Records}
@@ -7,15 +7,15 @@ use Rattle.races.specs.Steps.{steps_in}
 use Rattle.races.specs.declared.event.Event.{Event}
 use Rattle.races.specs.declared.race.Race.{Race}
 use Rattle.races.specs.declared.recorder.RaceRecorder.{RaceRecorder}
+use Rattle.runtime.specs.Executors.{thread_by}
 use Rattle.runtime.specs.Recorded.{Recording}
 use Rattle.runtime.specs.declared.interruption.Interruption.{Interruption}
 use Rattle.segment.specs.declared.segment.Segment.{Segment}
 use Rattle.segment.specs.declared.segment_end.SegmentEnd.{SegmentEnd}
 use Rattle.token.specs.Point.{Point, IsNeededAt, moved, need_at, step_at}
 use Rattle.token.specs.RunInTurn.{point_of}
-use Rattle.token.specs.Serial.{IsLonger, StandsAfter}
+use Rattle.token.specs.Serial.{StandsAfter}
 use Rattle.token.specs.Setup.{Setup}
-use Rattle.token.specs.History.{History}
 use Rattle.token.specs.Turns.{Step}
 use Rattle.token.specs.declared.need.Need.{Need}
 use Rattle.token.specs.declared.need.Need.TheVariants as need
@@ -25,13 +25,6 @@ use Rattle.observed_run.specs.Calls.{AreOfEnd, blocked_in, held_by, let_go}
 use Rattle.observed_run.specs.Events.{byte_of, events_upto, steps_before}
 use Rattle.observed_run.specs.Told.{IsTold}
 use Rattle.observed_run.specs.declared.actor.Actor.{Actor}
-
--- who has the next turn
-abbrev pub thread_by : Need → ℕ
-thread_by (need.Segment work) = work.thread
-thread_by (need.Keeper work) = work.thread
-thread_by (need.Wake thread) = thread
-thread_by (need.Ended outcome) = 0
 
 -- a thread in the turn after so many (no run has 2^64 of them)
 abbrev pub actor_of : (done thread : ℕ) → Actor
@@ -47,6 +40,10 @@ needed_events actor point (need.Segment work) (Some end) = segment_events actor 
 needed_events actor point (need.Keeper work) (Some end) = segment_events actor work.segment point.state.memory end
 needed_events actor point _ _ = []
 
+-- the events of the segment that the next turn needs, up to this end
+abbrev pub next_events : Point → Option SegmentEnd → List Event
+next_events point end = needed_events (actor_of point.done (thread_by (need_at point))) point (need_at point) end
+
 -- what follows them in the turn of a thread: what the call orders, or the wake
 abbrev pub AreLast : Actor → Point → (thread : ℕ) → Option SegmentEnd → Step → List Event → Type 0
 AreLast actor point thread end step events =
@@ -56,7 +53,7 @@ AreLast actor point thread end step events =
 pub record AreOfTurn (point : Point) (end : Option SegmentEnd) (events : List Event) : Type 0 where
   pub last : List Event
   pub is_last : AreLast (actor_of point.done (thread_by (need_at point))) point (thread_by (need_at point)) end (step_at point end) last
-  pub all : events ≡ needed_events (actor_of point.done (thread_by (need_at point))) point (need_at point) end ++ last
+  pub all : events ≡ next_events point end ++ last
 
 -- the events of the turns that lead from one point of a run to another
 pub data AreEvents (start : Point) : Point → List Event → Type 0 where
@@ -87,28 +84,15 @@ abbrev pub ended_in : {Found : Type 0} → Result (RunOutcome × Found) Interrup
 ended_in (Ok found) = Ok found.0
 ended_in (Err interruption) = Err interruption
 
--- a run stands after some legal history
-abbrev pub IsLegalPoint : Point → Type 0
-IsLegalPoint point = (history : History) × StandsAfter point history
+-- A recorder of races was told the events of all turns of a run that stands at this point.
+pub record KnowsEvents (races : RaceRecorder) (point : Point) : Type 0 where
+  pub start : Point
+  pub begins : StandsAfter start []
+  pub setup_is : start.setup ≡ point.setup
+  pub events : List Event
+  pub are_events : AreEvents start point events
+  pub recorded : Records races events
 
--- The run has moved from one point to another, and its recorder of races was told the events of the turns between.
-abbrev pub Leads : (run run' : RunInTurn) (races races' : RaceRecorder) → Type 0
-Leads run run' races races' =
-    (start : Point) (events : List Event) → AreEvents start (point_of run) events → Records races events
-    → (more : List Event) × AreEvents start (point_of run') more × Records races' more
-
--- Turns of a run were legal, and its recorder of races was told their events.
-pub record LeadsLegally (run run' : RunInTurn) (races races' : RaceRecorder) : Type 0 where
-  pub leads : Leads run run' races races'
-  pub legal : IsLegalPoint (point_of run)
-
--- the recorder of races was told what follows the segment of a turn
-abbrev pub TellsLast : RunInTurn → (races races' : RaceRecorder) → (thread : ℕ) → Option SegmentEnd → Type 0
-TellsLast run races races' thread end =
-    (last : List Event)
-    × AreLast (actor_of (point_of run).done thread) (point_of run) thread end (step_at (point_of run) end) last
-    × IsTold races races' last
-
--- a turn that failed may have been done
-abbrev pub MayMove : Point → Point → Type 0
-MayMove old new = (new ≡ old) ⊎ IsLonger old new
+-- and then those of the segment that the next turn needs, up to this end
+abbrev pub KnowsSegment : (races : RaceRecorder) → Point → SegmentEnd → Type 0
+KnowsSegment races point end = (before : RaceRecorder) × KnowsEvents before point × IsTold before races (next_events point (Some end))

@@ -65,7 +65,10 @@ pub(crate) fn end_events(
                 mutex,
             },
         ),
-        _ => Ok(Vec::new(alloc)),
+        (Some(_), TurnStop::Trap { .. } | TurnStop::Quantum { .. } | TurnStop::Wake { .. })
+        | (None, TurnStop::Call { .. } | TurnStop::Trap { .. } | TurnStop::Quantum { .. }) => {
+            Ok(Vec::new(alloc))
+        }
     }
 }
 
@@ -117,7 +120,13 @@ fn completed(
         Call::Barrier { .. } => round(alloc, ended),
         Call::Write { address, length } => accesses(alloc, ended.actor.load(pc), address, length),
         Call::Read { address, .. } => accesses(alloc, ended.actor.store(pc), address, value),
-        _ => Ok(Vec::new(alloc)),
+        Call::Exit { .. }
+        | Call::ThreadExit { .. }
+        | Call::Wait { .. }
+        | Call::Memory { .. }
+        | Call::Sync
+        | Call::Release { .. }
+        | Call::Unknown { .. } => Ok(Vec::new(alloc)),
     }
 }
 
@@ -133,7 +142,21 @@ fn waiting(alloc: Global, ended: &Ended<'_>, call: Call) -> Result<Vec<Event>, A
                 mutex,
             },
         ),
-        _ => Ok(Vec::new(alloc)),
+        Call::Exit { .. }
+        | Call::ThreadExit { .. }
+        | Call::Create { .. }
+        | Call::Join { .. }
+        | Call::Lock { .. }
+        | Call::Unlock { .. }
+        | Call::Signal { .. }
+        | Call::Broadcast { .. }
+        | Call::Barrier { .. }
+        | Call::Write { .. }
+        | Call::Read { .. }
+        | Call::Memory { .. }
+        | Call::Sync
+        | Call::Release { .. }
+        | Call::Unknown { .. } => Ok(Vec::new(alloc)),
     }
 }
 
@@ -143,7 +166,21 @@ fn ending(alloc: Global, ended: &Ended<'_>, call: Call) -> Result<Vec<Event>, Al
 {
     match call {
         Call::ThreadExit { .. } => thread_end(alloc, ended),
-        _ => Ok(Vec::new(alloc)),
+        Call::Exit { .. }
+        | Call::Create { .. }
+        | Call::Join { .. }
+        | Call::Lock { .. }
+        | Call::Unlock { .. }
+        | Call::Wait { .. }
+        | Call::Signal { .. }
+        | Call::Broadcast { .. }
+        | Call::Barrier { .. }
+        | Call::Write { .. }
+        | Call::Read { .. }
+        | Call::Memory { .. }
+        | Call::Sync
+        | Call::Release { .. }
+        | Call::Unknown { .. } => Ok(Vec::new(alloc)),
     }
 }
 

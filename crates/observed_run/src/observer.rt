@@ -1,13 +1,10 @@
-//! Does the turns of a run and tells a recorder of races their events.
-ghost use Rattle.std.specs.Prelude.{◌≡◌, ◌≢◌, ◌-◌, ◌^◌, ◌<◌, IfErr, IfOk, IsSome, None, OnErr, OnOk, Some, option_map};
-ghost use Rattle.token.specs.Point.{IsNeededAt, IsNeededBy, moved, step_at};
+//! Executes the segments of a run and does its turns, and tells a recorder of races their events.
+ghost use Rattle.std.specs.Prelude.{◌≡◌, IfOk};
+ghost use Rattle.paged_memory.specs.Snapshot.{cells_of};
+ghost use Rattle.segment.specs.Ends.{IsEndOf};
 ghost use Rattle.token.specs.RunInTurn.{point_of};
-ghost use Rattle.token.specs.Serial.{IsLonger};
-ghost use Rattle.token.specs.declared.outcome.RunOutcome.{RunOutcome};
-ghost use Rattle.token.specs.declared.turn_fault.TurnFault.TheVariants.{WriteFailed};
-ghost use Rattle.runtime.specs.Turns.{GoesOn, Moves};
 ghost use Rattle.observed_run.specs.Runs as spec;
-ghost use Rattle.observed_run.specs.Runs.{LeadsLegally, MayMove, TellsLast, actor_of, needed_events, thread_by};
+ghost use Rattle.observed_run.specs.Runs.{KnowsEvents, segment_events};
 ghost use Rattle.observed_run.specs.Told.{IsTold};
 
 use crate::actor::{Actor, byte_of};
@@ -15,13 +12,13 @@ use crate::before::Before;
 use crate::call_events::{Ended, end_events, let_go};
 use crate::observing::observe;
 use crate::telling::tell_all;
+use paged_memory::Snapshot;
 use races::RaceRecorder;
-use runtime::{Interruption, Sink, send};
+use runtime::Executor;
 use std::alloc::{AllocError, Global};
-use std::sync::Wait;
-use token::{Need, Recorder, RunOutcome, SegmentEnd, Serial, TurnFault};
+use token::{Recorder, SegmentEnd, Serial, TurnFault, Work};
 
-/// Does turns by the calling host thread alone, and tells a recorder of races their events.
+/// Executes segments and does turns by the calling host thread alone, and tells a recorder of races their events.
 #[derive(Drop)]
 pub(crate) struct Observer {
     pub(crate) alloc: Global,
@@ -30,101 +27,65 @@ pub(crate) struct Observer {
 }
 
 impl Observer {
-    /// Does all turns, sends the output of each to a sink before the next one, and answers how the run ended.
-    pub(crate) fn go_to_end<R: Wait, K: Recorder, S: Sink>(
-        &mut self,
-        rt: &R,
-        serial: &mut Serial<K>,
-        sink: &mut S,
-    ) -> Result<RunOutcome, Interruption>
-        requires { S.failed sink.old < 2 ^ 64 - 1 }
-        ensures goes { GoesOn K.writes S.taken S.failed Some result serial.old serial.new sink.old sink.new }
-        ensures leads { OnOk result (LeadsLegally serial.old serial.new self.old.races self.new.races) }
-        ensures ended { OnOk result (IsSome (point_of serial.new).ended) }
+    /// That of a run of which no turn is done.
+    pub(crate) fn new<K: Recorder>(alloc: Global, serial: &Serial<K>) -> Result<Self, AllocError>
+        requires { (point_of serial.now).done ≡ 0 }
+        ensures { IfOk result (λ observer. KnowsEvents observer.races (point_of serial.now)) }
     {
-        for _ in rt.forever() {
-            if let Some(outcome) = self.send_turn(serial, sink)? {
-                return Ok(outcome);
-            }
-        }
-        unreachable!()
+        // That the run stands after a legal history.
+        serial.recorder();
+        Ok(Observer {
+            alloc,
+            races: RaceRecorder::new(alloc)?,
+        })
     }
 
-    /// Does the next turn and sends what it wrote, or answers how the run ended.
-    fn send_turn<K: Recorder, S: Sink>(
+    /// Executes the segment of the next turn on a memory, and tells its events.
+    fn observe<K: Recorder>(
         &mut self,
-        serial: &mut Serial<K>,
-        sink: &mut S,
-    ) -> Result<Option<RunOutcome>, Interruption>
-        requires { S.failed sink.old < 2 ^ 64 - 1 }
-        ensures goes { GoesOn K.writes S.taken S.failed (λ ends. ends) result serial.old serial.new sink.old sink.new }
-        ensures leads { OnOk result (LeadsLegally serial.old serial.new self.old.races self.new.races) }
+        serial: &Serial<K>,
+        work: &Work,
+        memory: &Snapshot,
+    ) -> Result<SegmentEnd, AllocError>
+        ensures end { IfOk result (IsEndOf (cells_of memory.now) work.now.segment) }
+        ensures told { IfOk result (λ end. IsTold self.old.races self.new.races
+            (segment_events (spec.actor_of (point_of serial.now).done work.now.thread) work.now.segment (cells_of memory.now) end)) }
     {
-        if let Some(outcome) = self.take_turn(serial)? {
-            return Ok(Some(outcome));
-        }
-        match send(serial.fresh(), sink) {
-            Ok(()) => Ok(None),
-            Err(_) => Err(Interruption::WriteFailed),
-        }
+        let actor = actor_in(serial, work.thread);
+        observe(&mut self.races, actor, work.segment, memory)
     }
+}
 
-    /// Does the next turn, or answers how the run ended.
-    fn take_turn<K: Recorder>(
-        &mut self,
-        serial: &mut Serial<K>,
-    ) -> Result<Option<RunOutcome>, TurnFault>
-        ensures leads { OnOk result (LeadsLegally serial.old serial.new self.old.races self.new.races) }
-        ensures moved { IfOk result (λ ends. Moves ends (point_of serial.old) (point_of serial.new)) }
-        ensures may { OnErr result (MayMove (point_of serial.old) (point_of serial.new)) }
-        ensures failed { IfErr result (λ fault. fault ≡ WriteFailed → K.writes × ((point_of serial.new).ended ≡ None)) }
-    {
-        let need = serial.need();
-        if let Need::Ended(outcome) = need {
-            return Ok(Some(outcome));
-        }
-        let end = self.execute(serial, &need)?;
-        self.turn(serial, thread_by(&need), end.as_ref())?;
-        Ok(None)
-    }
+impl Executor for Observer {
+    ghost use Rattle.observed_run.specs.Runs.{KnowsEvents, KnowsSegment};
 
-    /// Executes the segment that a turn needs, and tells its events. A wake needs none.
+    ghost knows = { λ observer point. KnowsEvents observer.races point };
+
+    ghost has_executed = { λ observer point end. KnowsSegment observer.races point end };
+
     fn execute<K: Recorder>(
         &mut self,
         serial: &Serial<K>,
-        need: &Need,
-    ) -> Result<Option<SegmentEnd>, AllocError>
-        requires { (outcome : RunOutcome) → need.now ≢ Need.Ended outcome }
-        ensures needed { IfOk result (IsNeededBy (point_of serial.now) need.now) }
-        ensures told { IfOk result (λ end.
-            IsTold self.old.races self.new.races
-            (needed_events (actor_of (point_of serial.now).done (thread_by need.now)) (point_of serial.now) need.now end)) }
-    {
-        let (work, memory) = match *need {
-            Need::Segment(work) => (work, serial.base()),
-            Need::Keeper(work) => (work, serial.now()),
-            Need::Wake { .. } | Need::Ended(_) => return Ok(None),
-        };
-        let actor = actor_in(serial, work.thread);
-        let end = observe(&mut self.races, actor, work.segment, memory)?;
+        work: &Work,
+    ) -> Result<Option<SegmentEnd>, AllocError> {
+        let end = self.observe(serial, work, serial.base())?;
         Ok(Some(end))
     }
 
-    /// Does the next turn, which is a thread's, and tells what its call or its wake orders.
+    fn execute_keeper<K: Recorder>(
+        &mut self,
+        serial: &Serial<K>,
+        work: &Work,
+    ) -> Result<SegmentEnd, AllocError> {
+        self.observe(serial, work, serial.now())
+    }
+
     fn turn<K: Recorder>(
         &mut self,
         serial: &mut Serial<K>,
         thread: u32,
         end: Option<&SegmentEnd>,
-    ) -> Result<(), TurnFault>
-        requires { IsNeededAt (point_of serial.old) (option_map (λ end. end.now) end) }
-        ensures moved { OnOk result
-            (point_of serial.new ≡ moved (point_of serial.old) (step_at (point_of serial.old) (option_map (λ end. end.now) end.entry))) }
-        ensures longer { OnOk result (IsLonger (point_of serial.old) (point_of serial.new)) }
-        ensures may { OnErr result (MayMove (point_of serial.old) (point_of serial.new)) }
-        ensures failed { IfErr result (λ fault. fault ≡ WriteFailed → K.writes × (point_of serial.new ≡ point_of serial.old)) }
-        ensures told { OnOk result (TellsLast serial.old self.old.races self.new.races thread (option_map (λ end. end.now) end.entry)) }
-    {
+    ) -> Result<(), TurnFault> {
         let alloc = self.alloc;
         let actor = actor_in(serial, thread);
         let before = Before::of(alloc, serial, thread)?;
@@ -137,17 +98,6 @@ impl Observer {
         };
         let events = end_events(alloc, &ended, end, turn.stop)?;
         Ok(tell_all(&mut self.races, &events)?)
-    }
-}
-
-/// Who has the turn that needs this, if it is one.
-fn thread_by(need: &Need) -> u32
-    ensures { result ≡ spec.thread_by need.now }
-{
-    match *need {
-        Need::Segment(work) | Need::Keeper(work) => work.thread,
-        Need::Wake { thread } => thread,
-        Need::Ended(_) => 0,
     }
 }
 

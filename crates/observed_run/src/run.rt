@@ -7,8 +7,8 @@ ghost use Rattle.observed_run.specs.Runs.{AreRacesOf, MayBegin, ended_in};
 
 use crate::observed_run::ObservedRun;
 use crate::observer::Observer;
-use races::{Race, RaceRecorder};
-use runtime::{Interruption, RecordedRun, Sink, conclude};
+use races::Race;
+use runtime::{Interruption, RecordedRun, Sink, conclude, take_turns_alone};
 use std::alloc::Global;
 use std::sync::Wait;
 use token::{Recorder, RunOutcome, Serial, Start};
@@ -74,15 +74,13 @@ fn observe_turns<R: Wait, S: Sink, K: Recorder>(
     serial: &mut Serial<K>,
     sink: &mut S,
 ) -> Result<(RunOutcome, Vec<Race>), Interruption>
-    requires { S.failed sink.old < 2 ^ 64 - 1 }
+    requires failures { S.failed sink.old < 2 ^ 64 - 1 }
+    requires done { (point_of serial.old).done ≡ 0 }
     ensures goes { GoesOn K.writes S.taken S.failed (λ found. Some found.0) result serial.old serial.new sink.old sink.new }
-    ensures races { IfOk result (λ found. (point_of serial.old).done ≡ 0 → AreRacesOf (point_of serial.old).setup found.1.items) }
+    ensures races { IfOk result (λ found. AreRacesOf (point_of serial.old).setup found.1.items) }
 {
-    let mut observer = Observer {
-        alloc,
-        races: RaceRecorder::new(alloc)?,
-    };
-    let outcome = observer.go_to_end(rt, serial, sink)?;
+    let mut observer = Observer::new(alloc, serial)?;
+    let outcome = take_turns_alone(rt, alloc, &mut observer, serial, sink)?;
     let races = observer.races.races()?;
     Ok((outcome, races))
 }

@@ -1,13 +1,14 @@
 -- What the need of the next turn says of where the run stands.
-use Rattle.std.proofs.Common.{◌≡◌, ◌∙◌, Option, Some, None, Result, Ok, Err, OnErr, ap, refl, sym}
+use Rattle.std.proofs.Common.{◌≡◌, ◌∙◌, Option, Some, None, Result, Ok, Err, IfErr, ap, refl, sym}
+use Rattle.std.specs.Result.{IsErrAnd}
 use Rattle.token.specs.Point.{Point, due_at, need_at, need_by, need_of}
-use Rattle.token.specs.Serial.{IsLonger}
 use Rattle.token.specs.declared.due.Due.{Due}
 use Rattle.token.specs.declared.due.Due.TheVariants as due
 use Rattle.token.specs.declared.need.Need.{Need}
 use Rattle.token.specs.declared.need.Need.TheVariants as need
 use Rattle.token.specs.declared.outcome.RunOutcome.{RunOutcome}
-use Rattle.runtime.specs.Turns.{Moves}
+use Rattle.token.specs.declared.turn_fault.TurnFault.{TurnFault}
+use Rattle.token.specs.declared.turn_fault.TurnFault.TheVariants.{WriteFailed}
 
 -- how a run has ended that needs this, if it has
 abbrev pub end_in : Need → Option RunOutcome
@@ -29,12 +30,8 @@ pub end_at : (point : Point) (asked : Need) → asked ≡ need_at point → poin
 unfolding need_at
 end_at point asked is = end_by point.ended (need_of point (due_at point)) (end_of_due point (due_at point)) ∙ sym (ap end_in is)
 
--- a look for the next turn that found no end made a turn
-pub goes_on : (ends : Option RunOutcome) (old new : Point) → ((outcome : RunOutcome) → ends ≡ Some outcome → ⊥) → Moves ends old new → IsLonger old new
-goes_on (Some outcome) old new none moves = absurd (none outcome refl)
-goes_on None old new none moves = moves
-
--- what is right anyway is right after an error
-pub on_err : {T E : Type 0} → (answer : Result T E) (Is : Type 0) → Is → OnErr answer Is
-on_err (Ok given) Is is = tt
-on_err (Err fault) Is is = is
+-- a turn that failed before it was done was one of a run that goes on
+pub unended : {T : Type 0} (answer : Result T TurnFault) (fault : TurnFault) (writes : Type 0) (old new : Point) → IsErrAnd answer (λ given. given ≡ fault) → old.ended ≡ None
+    → (fault ≡ WriteFailed → writes × (new ≡ old)) → IfErr answer (λ given. given ≡ WriteFailed → writes × (new.ended ≡ None))
+unended (Ok given) fault writes old new is goes failed = absurd is
+unended (Err given) fault writes old new is goes failed = λ told. let cut = failed (sym is ∙ told) in (cut.0, ap (λ (p : Point). p.ended) cut.1 ∙ goes)

@@ -1,5 +1,6 @@
 pub mod Answer
 pub mod Config
+pub mod Executors
 pub mod Faults
 pub mod Recorded
 pub mod Reports

@@ -18,7 +18,7 @@ abbrev pub Moves : Option RunOutcome → Point → Point → Type 0
 Moves (Some ends) old new = (old.ended ≡ Some ends) × (new ≡ old)
 Moves None old new = IsLonger old new
 
--- what comes of it beside workers: the same, or the run is as it was
+-- the same, or the run is as it was
 abbrev pub MovesBeside : Look → Point → Point → Type 0
 MovesBeside (look.Ended ends) old new = Moves (Some ends) old new
 MovesBeside look.Turned old new = Moves None old new

@@ -2,11 +2,15 @@
 #![tactic(auto)]
 
 mod all_taken;
+mod alone;
 mod config;
+mod executor;
+mod hiring;
 mod interruption;
 mod look;
 mod open_fault;
 mod opening;
+mod pooled;
 mod recorded_run;
 mod recording;
 mod refusal;
@@ -20,7 +24,9 @@ mod sink;
 mod turns;
 mod write_sink;
 
+pub use alone::take_turns_alone;
 pub use config::Config;
+pub use executor::Executor;
 pub use interruption::Interruption;
 pub use open_fault::OpenFault;
 pub use phase_jobs::{Gate, OpenGate};
@@ -32,7 +38,6 @@ pub use run_end::RunEnd;
 pub use run_fault::RunFault;
 pub use run_limits::{MAX_BOUND, MAX_INPUT, MAX_WORKERS};
 pub use running::{run, run_into};
-pub use sending::send;
 pub use sink::{Sink, SinkFault};
-pub use token::{Both, Kept, NoRecord, Recorder, RunOutcome, Start};
+pub use token::{Kept, NoRecord, Recorder, RunOutcome, Start};
 pub use write_sink::WriteSink;

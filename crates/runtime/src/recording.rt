@@ -8,6 +8,7 @@ ghost use Rattle.runtime.specs.Run.{OpensRun, setup_from};
 ghost use Rattle.runtime.specs.Sending.{CountsFailures, SendsEnd};
 
 use crate::config::Config;
+use crate::hiring::take_turns;
 use crate::interruption::Interruption;
 use crate::open_fault::OpenFault;
 use crate::opening::open;
@@ -16,7 +17,6 @@ use crate::reporting::end_of;
 use crate::run_end::RunEnd;
 use crate::run_fault::RunFault;
 use crate::sink::Sink;
-use crate::turns::take_turns;
 use phase_jobs::Gate;
 use run_limits::MAX_WORKERS;
 use std::alloc::Global;

@@ -30,7 +30,7 @@ pub enum RunFault {
 
 impl RunFault {
     ghost use Rattle.std.specs.Prelude.{◌≡◌};
-    ghost use Rattle.runtime.specs.Faults.{number_of, refusal_of};
+    ghost use Rattle.runtime.specs.Faults.{number_of};
 
     /// Its number, 1 to 6.
     pub fn number(self) -> u8
@@ -43,18 +43,6 @@ impl RunFault {
             RunFault::OutOfMemory => 4,
             RunFault::WriteFailed => 5,
             RunFault::RecordFailed => 6,
-        }
-    }
-
-    /// The refusal that it is, or none where it stops a run that began.
-    pub fn refusal(self) -> Option<Refusal>
-        ensures { result ≡ refusal_of self }
-    {
-        match self {
-            RunFault::Elf(fault) => Some(Refusal::Elf(fault)),
-            RunFault::BadConfig => Some(Refusal::BadConfig),
-            RunFault::InputTooLarge => Some(Refusal::InputTooLarge),
-            RunFault::OutOfMemory | RunFault::WriteFailed | RunFault::RecordFailed => None,
         }
     }
 }

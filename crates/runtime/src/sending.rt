@@ -10,7 +10,7 @@ use crate::sink::{Sink, SinkFault};
 /// # Errors
 ///
 /// The sink failed. Then it took a prefix of the bytes.
-pub fn send<S: Sink>(bytes: &[u8], sink: &mut S) -> Result<(), SinkFault>
+pub(crate) fn send<S: Sink>(bytes: &[u8], sink: &mut S) -> Result<(), SinkFault>
     requires { S.failed sink.old < 2 ^ 64 - 1 }
     ensures sent { OnOk result (Appends (S.taken sink.old) (S.taken sink.new) bytes.now) }
     ensures steady { OnOk result (S.failed sink.new ≡ S.failed sink.old) }

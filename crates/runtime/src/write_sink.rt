@@ -1,7 +1,7 @@
 //! A sink over any writer. Flushes each piece, and counts its failures.
 ghost use Rattle.std.specs.Prelude.{◌≡◌, ◌<◌, false, length, IfOk, OnOk};
 ghost use Rattle.std.specs.Io.{WritesAtMost};
-ghost use Rattle.std.specs.Io.KnownBytes.{Appends, Keeps, WriteAppends};
+ghost use Rattle.std.specs.Io.KnownBytes.{Keeps, WriteAppends};
 
 use crate::sink::{Sink, SinkFault};
 use std::io::Write;
@@ -30,18 +30,6 @@ impl<W: Write> WriteSink<W> {
             writer,
             failures: 0,
             is_lost: false,
-        }
-    }
-
-    /// Writes all of these bytes and flushes them. It fails if this or an earlier flush did.
-    pub fn print(&mut self, bytes: &[u8]) -> Result<(), SinkFault>
-        ensures bytes { OnOk result (Appends (W.contents self.old.writer) (W.contents self.new.writer) bytes.now) }
-        ensures whole { OnOk result (self.old.is_lost ≡ false) }
-        ensures others { (self.new.failures ≡ self.old.failures) × (self.new.is_lost ≡ self.old.is_lost) }
-    {
-        match self.writer.write_all(bytes) {
-            Ok(()) => self.finish(),
-            Err(_) => Err(SinkFault),
         }
     }
 

@@ -34,10 +34,12 @@ pub returns-clause-races : goal.returns-clause-races
 returns-clause-races g c =
     let found = c.observe_turns-found.result in
     let setup = (point_of c.args.start).setup in
-    let done = subst (λ (run : RunInTurn). (point_of run).done ≡ 0) (sym c.recorded_by-serial.ensures) c.requires.done in
     let are =
     IfOk-weaker found _ (λ (found : RunOutcome × Vec Race Global). AreRacesOf setup found.1.items)
-    (λ given are. subst (λ (run : RunInTurn). AreRacesOf (point_of run).setup given.1.items) c.recorded_by-serial.ensures (are done)) c.observe_turns-found.ensures.races in
+    (λ given are. subst (λ (run : RunInTurn). AreRacesOf (point_of run).setup given.1.items) c.recorded_by-serial.ensures are) c.observe_turns-found.ensures.races in
     let concluded = subst (λ (ended : Result RunOutcome Interruption). IsConcluded ended c.conclude.result.result) c.apart-ended.ensures.ended c.conclude.ensures.concluded in
     rw c.with_races.ensures.run
     (races_found (λ (races : Vec Race Global). AreRacesOf setup races.items) found c.conclude.result.result c.apart-ended.result.1 c.with_races.result.races concluded are c.apart-ended.ensures.races c.with_races.ensures.races)
+
+pub observe_turns-requires-clause-done : goal.observe_turns-requires-clause-done
+observe_turns-requires-clause-done g c = subst (λ (run : RunInTurn). (point_of run).done ≡ 0) (sym c.recorded_by-serial.ensures) c.requires.done

@@ -9,4 +9,5 @@ invariant-loop g l = record {
   sent : (start : Option (List ℕ)) → Appends start (g.S.Sink.taken l.fn.sink) (point_of l.fn.serial).state.output → Appends start (g.S.Sink.taken l.sink) (point_of l.serial).state.output;
   pool : l.pool ≡ l.fn.pool;
   steady : g.S.Sink.failed l.sink ≡ g.S.Sink.failed l.fn.sink;
+  known : g.E.Executor.knows l.executor (point_of l.serial);
 }

@@ -1,5 +1,5 @@
 use Rattle.std.proofs.Common.{◌+◌, ◌*◌, ◌-◌}
-use Rattle.runtime.proofs.turns.+hiring.Given as goal
+use Rattle.runtime.proofs.hiring.+hiring.Given as goal
 
 abbrev pub decreases-join_mut+arg3 : goal.decreases-join_mut+arg3
 decreases-join_mut+arg3 g l = 2 * (l.pool.now.most - l.pool.now.hands) + 1
