@@ -64,9 +64,9 @@ class Debugger:
                 return b""
         return None
 
-    def read(self):
-        """Returns what gdb prints up to its next prompt or its end."""
-        text, prompt, end = b"", PROMPT.encode(), time.time() + self.limit
+    def read(self, least=0):
+        """Returns what gdb prints up to its next prompt or its end, for which it has at least so many seconds."""
+        text, prompt, end = b"", PROMPT.encode(), time.time() + max(self.limit, least)
         while not (text.endswith(b"\n" + prompt) or text == prompt):
             piece = self.piece(end)
             if not piece:
@@ -118,7 +118,7 @@ def transcript(session, room):
     if said is not None:
         return f"{said}its program doesn't build"
     debugger = Debugger(session, program, room)
-    said = debugger.read()
+    said = debugger.read(LIMIT)
     if not os.path.exists(f"{room}/pid"):
         debugger.end()
         return f"{said}gdb didn't start the program that debugs"
