@@ -1,4 +1,5 @@
 pub mod Answers
 pub mod Hearing
 pub mod Moves
+pub mod Pursuing
 pub mod Replies

@@ -1,8 +1,9 @@
 -- Where the run of a session stands.
 use Rattle.std.specs.Prelude.{◌≡◌, ℕ, []}
 use Rattle.gdb_shown.specs.Stops.{stop_shown}
+use Rattle.timeline.specs.Line.{SameRun}
 use Rattle.timeline.specs.Moment.{Moment}
-use Rattle.timeline.specs.Present.{moment_of}
+use Rattle.timeline.specs.Present.{moment_of, step_of}
 use Rattle.timeline.specs.Told.{thread_at}
 use Rattle.gdb_protocol.specs.declared.session.Session.{Session}
 
@@ -21,3 +22,15 @@ Tells session = session.stop.items ≡ stop_shown (moment_in session) 5 [] (thre
 -- the run stands where it stood
 abbrev pub Stands : Session → Session → Type 0
 Stands old new = new.timeline ≡ old.timeline
+
+-- The run stands at the position at which it stood.
+pub record StandsAt (old new : Session) : Type 0 where
+  pub step : step_of new.timeline.present ≡ step_of old.timeline.present
+  pub moment : moment_in new ≡ moment_in old
+
+-- The run is the same one. The points that are set, whether the program is there, and the step that was chosen are as they were.
+pub record Keeps (old new : Session) : Type 0 where
+  pub run : SameRun old.timeline new.timeline
+  pub points : new.points ≡ old.points
+  pub life : new.life ≡ old.life
+  pub chosen : new.chosen ≡ old.chosen

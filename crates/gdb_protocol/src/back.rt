@@ -1,11 +1,20 @@
 //! Goes back: to the last stop before here, or to the last instruction of a thread.
-use crate::forward::SLICE;
+ghost use Rattle.std.specs.Prelude.{◌≡◌};
+ghost use Rattle.gdb_orders.specs.Orders.{only_if};
+
+use crate::moving::anywhere;
 use crate::pursuit::Pursuit;
 use crate::session::Session;
 use std::alloc::AllocError;
-use timeline::{Arrival, Halt, Stops};
+use timeline::Halt;
 
 impl Session {
+    ghost use Rattle.std.specs.Prelude.{◌-◌, None, OnOk};
+    ghost use Rattle.timeline.specs.Present.{step_of};
+    ghost use Rattle.gdb_protocol.specs.Moves.{Keeps, StandsAt, moment_in};
+    ghost use Rattle.gdb_protocol.specs.Pursuing as spec;
+    ghost use Rattle.gdb_protocol.specs.Pursuing.{GoesBefore, Returns, met_back, more_than, slice, wanted_with};
+
     /// Goes back to the last stop before here.
     pub(crate) fn continue_back(&mut self) -> Result<(), AllocError> {
         let pursuit = Pursuit::Back {
@@ -45,66 +54,91 @@ impl Session {
     }
 
     /// Goes on back to the last stop before here.
-    pub(crate) fn pursue_back(&mut self, alone: Option<u32>) -> Result<(), AllocError> {
-        let stops = Stops {
-            breakpoints: self.points.addresses(),
-            watches: self.points.watches(),
-            arrival: None,
-            alone,
-            known_threads: None,
-        };
-        let halt = self.timeline.back(&stops)?;
+    pub(crate) fn pursue_back(&mut self, alone: Option<u32>) -> Result<(), AllocError>
+        ensures back { OnOk result
+            (Returns self.old (wanted_with self.old.points None alone None) (met_back self.old.pursuit) self.new) }
+        ensures keeps { Keeps self.old self.new }
+    {
+        let halt = self.go_back_to(None, alone)?;
         self.meet_back(halt, alone)
     }
 
     /// Goes on back to a thread's last instruction. A thread that is created by then has none before: it goes to where it
     /// is created.
-    pub(crate) fn pursue_back_step(
+    pub(crate) fn pursue_back_step(&mut self, thread: u32, is_alone: bool) -> Result<(), AllocError>
+        ensures back { OnOk result
+            (Returns self.old (wanted_with self.old.points (spec.anywhere thread) (only_if is_alone thread) None)
+            (spec.after_back_step thread self.old.pursuit (moment_in self.new)) self.new) }
+        ensures keeps { Keeps self.old self.new }
+    {
+        let alone = only_if(is_alone, thread);
+        let halt = self.go_back_to(anywhere(thread), alone)?;
+        self.meet_back_step(halt, thread, alone)
+    }
+
+    /// Tells a halt on the way back to a thread's last instruction, or goes to where the thread is created.
+    fn meet_back_step(
         &mut self,
+        halt: Halt,
         thread: u32,
-        is_alone: bool,
-    ) -> Result<(), AllocError> {
-        let alone = if is_alone { Some(thread) } else { None };
-        let stops = Stops {
-            breakpoints: self.points.addresses(),
-            watches: self.points.watches(),
-            arrival: Some(Arrival {
-                thread,
-                start: 0,
-                end: 0,
-            }),
-            alone,
-            known_threads: None,
-        };
-        let halt = self.timeline.back(&stops)?;
-        if halt != Halt::OtherThread && self.timeline.thread_count() <= thread {
+        alone: Option<u32>,
+    ) -> Result<(), AllocError>
+        ensures stands { OnOk result (StandsAt self.old self.new) }
+        ensures next { OnOk result (self.new.pursuit ≡ spec.after_back_step thread self.old.pursuit (moment_in self.old) halt) }
+        ensures keeps { Keeps self.old self.new }
+    {
+        match halt {
+            Halt::OtherThread => self.meet_back(halt, alone),
+            _ => self.meet_found(halt, thread, alone),
+        }
+    }
+
+    /// Tells a halt on the way back over steps of a thread alone, or goes to where the thread is created.
+    fn meet_found(&mut self, halt: Halt, thread: u32, alone: Option<u32>) -> Result<(), AllocError>
+        ensures stands { OnOk result (StandsAt self.old self.new) }
+        ensures next { OnOk result (self.new.pursuit ≡ spec.found_back thread self.old.pursuit (moment_in self.old) halt) }
+        ensures keeps { Keeps self.old self.new }
+    {
+        if self.timeline.thread_count() <= thread {
             self.pursuit = Some(Pursuit::Creation(thread));
             return Ok(());
         }
         match halt {
             Halt::Arrived => self.tell_step(thread),
-            Halt::Breakpoint if self.timeline.thread() == thread => self.tell_step(thread),
+            Halt::Breakpoint if self.is_turn_of(thread) => self.tell_step(thread),
             _ => self.meet_back(halt, alone),
         }
     }
 
     /// Goes on to before the call that creates a thread.
-    pub(crate) fn pursue_creation(&mut self, thread: u32) -> Result<(), AllocError> {
-        let stops = Stops {
-            known_threads: Some(thread),
-            ..Stops::none()
-        };
-        match self.timeline.forward(&stops, SLICE)? {
+    pub(crate) fn pursue_creation(&mut self, thread: u32) -> Result<(), AllocError>
+        ensures goes { OnOk result
+            (GoesBefore self.old (more_than thread) slice (met_back self.old.pursuit) self.new) }
+        ensures keeps { Keeps self.old self.new }
+    {
+        let halt = self.go_beyond(thread)?;
+        match halt {
             Halt::GoesOn => Ok(()),
-            _ => {
-                self.seek_before()?;
-                self.tell_start()
-            }
+            _ => self.stop_before(),
         }
     }
 
+    /// Goes one step back, and stops as at the run's start.
+    fn stop_before(&mut self) -> Result<(), AllocError>
+        ensures before { OnOk result (step_of self.new.timeline.present ≡ step_of self.old.timeline.present - 1) }
+        ensures stopped { OnOk result (self.new.pursuit ≡ None) }
+        ensures keeps { Keeps self.old self.new }
+    {
+        self.seek_before()?;
+        self.tell_start()
+    }
+
     /// Tells a halt on the way back that is no arrival.
-    fn meet_back(&mut self, halt: Halt, alone: Option<u32>) -> Result<(), AllocError> {
+    fn meet_back(&mut self, halt: Halt, alone: Option<u32>) -> Result<(), AllocError>
+        ensures stands { OnOk result (StandsAt self.old self.new) }
+        ensures next { OnOk result (self.new.pursuit ≡ met_back self.old.pursuit halt) }
+        ensures keeps { Keeps self.old self.new }
+    {
         match halt {
             Halt::GoesOn => Ok(()),
             Halt::Breakpoint => self.tell_breakpoint(),
@@ -121,18 +155,32 @@ impl Session {
     }
 
     /// Goes one step back.
-    fn seek_before(&mut self) -> Result<(), AllocError> {
-        let before = self.timeline.step_number().saturating_sub(1);
+    fn seek_before(&mut self) -> Result<(), AllocError>
+        ensures before { OnOk result (step_of self.new.timeline.present ≡ step_of self.old.timeline.present - 1) }
+        ensures keeps { Keeps self.old self.new }
+    {
+        let here = self.timeline.step_number();
+        let before = here.saturating_sub(1);
         self.timeline.seek(before, 1)?;
         Ok(())
     }
 
     /// The thread that made the step before here.
-    fn thread_before(&mut self) -> Result<u32, AllocError> {
+    fn thread_before(&mut self) -> Result<u32, AllocError>
+        ensures stands { OnOk result (StandsAt self.old self.new) }
+        ensures keeps { Keeps self.old self.new }
+    {
         let here = self.timeline.step_number();
         self.seek_before()?;
         let thread = self.timeline.thread();
         self.timeline.seek(here, 1)?;
         Ok(thread)
     }
+}
+
+/// A thread, if it moves alone.
+fn only_if(is_alone: bool, thread: u32) -> Option<u32>
+    ensures { result ≡ only_if is_alone thread }
+{
+    if is_alone { Some(thread) } else { None }
 }

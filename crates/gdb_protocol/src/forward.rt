@@ -1,19 +1,21 @@
 //! Goes on with what a session pursues, forward.
+use crate::moving::SLICE;
 use crate::pursuit::Pursuit;
 use crate::session::Session;
 use gdb_shown::{NONE, TRAP};
 use std::alloc::AllocError;
-use timeline::{Halt, Stops};
-
-/// How many steps are made between two looks at the input.
-pub(crate) const SLICE: u64 = 0x10_0000;
+use timeline::Halt;
 
 impl Session {
-    ghost use Rattle.std.specs.Prelude.{◌≡◌, None};
+    ghost use Rattle.std.specs.Prelude.{◌≡◌, None, OnOk};
+    ghost use Rattle.gdb_protocol.specs.Moves.{Keeps, Stands};
+    ghost use Rattle.gdb_protocol.specs.Pursuing.{Advances, Goes, GoesToChosen, known_unless, met, slice, wanted_with};
 
     /// Goes on with the run for a while, if it goes on. It comes to a stop and answers, or goes on at the next call.
     pub fn advance(&mut self) -> Result<(), AllocError>
-        ensures { self.old.pursuit ≡ None → self.new ≡ self.old }
+        ensures idle { self.old.pursuit ≡ None → self.new ≡ self.old }
+        ensures advances { OnOk result (Advances self.old self.new) }
+        ensures keeps { Keeps self.old self.new }
     {
         match self.pursuit {
             None => Ok(()),
@@ -30,35 +32,46 @@ impl Session {
     }
 
     /// Goes to the position that was chosen, by its step.
-    fn pursue_chosen(&mut self, step: u64) -> Result<(), AllocError> {
-        if self.timeline.seek(step, SLICE)? {
-            self.selection.hear_of(self.timeline.thread_count());
-            self.printed = self.timeline.serial().output().len();
-            self.watching.forget_told();
-            return self.tell_here(NONE, "");
+    fn pursue_chosen(&mut self, step: u64) -> Result<(), AllocError>
+        ensures chosen { OnOk result (GoesToChosen self.old step self.new) }
+        ensures keeps { Keeps self.old self.new }
+    {
+        let is_there = self.timeline.seek(step, SLICE)?;
+        if is_there {
+            return self.tell_chosen();
         }
         Ok(())
     }
 
+    /// Stops at the position that was chosen, of which gdb is told nothing but that it stands there.
+    fn tell_chosen(&mut self) -> Result<(), AllocError>
+        ensures stands { Stands self.old self.new }
+        ensures stopped { self.new.pursuit ≡ None }
+        ensures keeps { Keeps self.old self.new }
+    {
+        self.selection.hear_of(self.timeline.thread_count());
+        self.printed = self.timeline.serial().output().len();
+        self.watching.forget_told();
+        self.tell_here(NONE, "")
+    }
+
     /// Goes on to the next stop.
-    fn pursue_stop(&mut self, alone: Option<u32>) -> Result<(), AllocError> {
-        let stops = Stops {
-            breakpoints: self.points.addresses(),
-            watches: self.points.watches(),
-            arrival: None,
-            alone,
-            known_threads: if alone.is_none() {
-                Some(self.selection.known)
-            } else {
-                None
-            },
-        };
-        let halt = self.timeline.forward(&stops, SLICE)?;
+    fn pursue_stop(&mut self, alone: Option<u32>) -> Result<(), AllocError>
+        ensures goes { OnOk result
+            (Goes self.old (wanted_with self.old.points None alone (known_unless self.old alone)) slice (met self.old.pursuit) self.new) }
+        ensures keeps { Keeps self.old self.new }
+    {
+        let known_threads = self.known_unless(alone);
+        let halt = self.go_to(None, alone, known_threads)?;
         self.meet(halt, alone)
     }
 
     /// Tells a halt on the way forward that is no arrival.
-    pub(crate) fn meet(&mut self, halt: Halt, alone: Option<u32>) -> Result<(), AllocError> {
+    pub(crate) fn meet(&mut self, halt: Halt, alone: Option<u32>) -> Result<(), AllocError>
+        ensures stands { Stands self.old self.new }
+        ensures next { OnOk result (self.new.pursuit ≡ met self.old.pursuit halt) }
+        ensures keeps { Keeps self.old self.new }
+    {
         match halt {
             Halt::GoesOn | Halt::Start => self.send_output(),
             Halt::Breakpoint => self.tell_breakpoint(),

@@ -8,6 +8,7 @@ mod back;
 mod forward;
 mod handling;
 mod life;
+mod moving;
 mod pursuit;
 mod resuming;
 mod selecting;

@@ -10,7 +10,7 @@ use token::RunOutcome;
 impl Session {
     ghost use Rattle.std.specs.Prelude.{◌≡◌, [], None, OnOk};
     ghost use Rattle.gdb_shown.specs.Stops.{stop_shown};
-    ghost use Rattle.gdb_protocol.specs.Moves.{Stands, moment_in, thread_in};
+    ghost use Rattle.gdb_protocol.specs.Moves.{Keeps, Stands, moment_in, thread_in};
 
     /// Keeps the text of the first stop, which gdb asks for.
     pub(crate) fn begin(&mut self) -> Result<(), AllocError>
@@ -29,6 +29,7 @@ impl Session {
     pub(crate) fn tell(&mut self, signal: u8, reason: &str, thread: u32) -> Result<(), AllocError>
         ensures stands { Stands self.old self.new }
         ensures stopped { self.new.pursuit ≡ None }
+        ensures keeps { Keeps self.old self.new }
     {
         self.pursuit = None;
         self.send_output()?;
@@ -48,13 +49,18 @@ impl Session {
     pub(crate) fn tell_here(&mut self, signal: u8, reason: &str) -> Result<(), AllocError>
         ensures stands { Stands self.old self.new }
         ensures stopped { self.new.pursuit ≡ None }
+        ensures keeps { Keeps self.old self.new }
     {
         let thread = self.timeline.thread();
         self.tell(signal, reason, thread)
     }
 
     /// Stops at a breakpoint at the pc of the position's thread.
-    pub(crate) fn tell_breakpoint(&mut self) -> Result<(), AllocError> {
+    pub(crate) fn tell_breakpoint(&mut self) -> Result<(), AllocError>
+        ensures stands { Stands self.old self.new }
+        ensures stopped { self.new.pursuit ≡ None }
+        ensures keeps { Keeps self.old self.new }
+    {
         let pc = register(&self.timeline, self.timeline.thread(), PC);
         let reason = if self.points.has_software(pc) {
             if self.knows_swbreak { "swbreak:;" } else { "" }
@@ -67,12 +73,20 @@ impl Session {
     }
 
     /// Stops, since the step of a thread is done.
-    pub(crate) fn tell_step(&mut self, thread: u32) -> Result<(), AllocError> {
+    pub(crate) fn tell_step(&mut self, thread: u32) -> Result<(), AllocError>
+        ensures stands { Stands self.old self.new }
+        ensures stopped { self.new.pursuit ≡ None }
+        ensures keeps { Keeps self.old self.new }
+    {
         self.tell(TRAP, "", thread)
     }
 
     /// Stops at the run's start.
-    pub(crate) fn tell_start(&mut self) -> Result<(), AllocError> {
+    pub(crate) fn tell_start(&mut self) -> Result<(), AllocError>
+        ensures stands { Stands self.old self.new }
+        ensures stopped { self.new.pursuit ≡ None }
+        ensures keeps { Keeps self.old self.new }
+    {
         self.tell_here(TRAP, "replaylog:begin;")
     }
 
@@ -81,6 +95,7 @@ impl Session {
         ensures idle { self.old.pursuit ≡ None → self.new ≡ self.old }
         ensures stands { Stands self.old self.new }
         ensures stopped { self.new.pursuit ≡ None }
+        ensures keeps { Keeps self.old self.new }
     {
         if self.pursuit.is_none() {
             return Ok(());
@@ -89,13 +104,21 @@ impl Session {
     }
 
     /// Tells gdb of the first thread that it hasn't heard of.
-    pub(crate) fn tell_creation(&mut self) -> Result<(), AllocError> {
+    pub(crate) fn tell_creation(&mut self) -> Result<(), AllocError>
+        ensures stands { Stands self.old self.new }
+        ensures stopped { self.new.pursuit ≡ None }
+        ensures keeps { Keeps self.old self.new }
+    {
         let thread = self.selection.known;
         self.tell(TRAP, "create:;", thread)
     }
 
     /// Stops if another thread would have to move. If nothing moved, gdb is first led to let all threads go on.
-    pub(crate) fn tell_stuck(&mut self, thread: u32) -> Result<(), AllocError> {
+    pub(crate) fn tell_stuck(&mut self, thread: u32) -> Result<(), AllocError>
+        ensures stands { Stands self.old self.new }
+        ensures stopped { OnOk result (self.new.pursuit ≡ None) }
+        ensures keeps { Keeps self.old self.new }
+    {
         let here = self.timeline.step_number();
         if self.from == here && self.stuck != Some(here) {
             self.stuck = Some(here);
@@ -107,7 +130,11 @@ impl Session {
     }
 
     /// Stops at the run's end or at a trap.
-    pub(crate) fn tell_end(&mut self) -> Result<(), AllocError> {
+    pub(crate) fn tell_end(&mut self) -> Result<(), AllocError>
+        ensures stands { Stands self.old self.new }
+        ensures stopped { OnOk result (self.new.pursuit ≡ None) }
+        ensures keeps { Keeps self.old self.new }
+    {
         self.send_output()?;
         let here = self.timeline.step_number();
         let is_told = self.told_end == Some(here) && self.from == here;

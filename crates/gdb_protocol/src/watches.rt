@@ -1,10 +1,14 @@
 //! Tells watch events, and steps over those that were told.
+use crate::moving::anywhere;
 use crate::session::Session;
 use gdb_shown::{TRAP, Told};
 use std::alloc::AllocError;
-use timeline::{Arrival, Halt, Stops, WatchKind};
+use timeline::{Halt, Stops, WatchKind};
 
 impl Session {
+    ghost use Rattle.std.specs.Prelude.{◌≡◌, None, OnOk};
+    ghost use Rattle.gdb_protocol.specs.Moves.{Keeps, Stands};
+
     /// Notes what gdb sees of the watched ranges where it resumes.
     pub(crate) fn arm(&mut self) -> Result<(), AllocError> {
         self.watching.arm(
@@ -15,7 +19,11 @@ impl Session {
     }
 
     /// Tells an event of the watch at this place of the list, of a step of this thread.
-    pub(crate) fn tell_watch(&mut self, place: usize, thread: u32) -> Result<(), AllocError> {
+    pub(crate) fn tell_watch(&mut self, place: usize, thread: u32) -> Result<(), AllocError>
+        ensures stands { Stands self.old self.new }
+        ensures stopped { OnOk result (self.new.pursuit ≡ None) }
+        ensures keeps { Keeps self.old self.new }
+    {
         let Some(watch) = self.points.watches().get(place).copied() else {
             return self.tell_here(TRAP, "");
         };
@@ -29,7 +37,11 @@ impl Session {
     }
 
     /// Tells a range.
-    fn tell_range(&mut self, kind: &str, address: u32, thread: u32) -> Result<(), AllocError> {
+    fn tell_range(&mut self, kind: &str, address: u32, thread: u32) -> Result<(), AllocError>
+        ensures stands { Stands self.old self.new }
+        ensures stopped { OnOk result (self.new.pursuit ≡ None) }
+        ensures keeps { Keeps self.old self.new }
+    {
         let reason = format!(in self.alloc; "{kind}:{address:x};")?;
         self.tell(TRAP, reason.as_str(), thread)
     }
@@ -67,11 +79,7 @@ impl Session {
         }
         let before = self.watching.look(&self.timeline, told.thread)?;
         let stops = Stops {
-            arrival: Some(Arrival {
-                thread: told.thread,
-                start: 0,
-                end: 0,
-            }),
+            arrival: anywhere(told.thread),
             ..Stops::none()
         };
         if self.timeline.back(&stops)? != Halt::Arrived {

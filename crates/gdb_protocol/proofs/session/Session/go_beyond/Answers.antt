@@ -1,0 +1,9 @@
+use Rattle.timeline.specs.Halts.{wanted_by}
+use Rattle.gdb_protocol.specs.Pursuing.{slice}
+use Rattle.gdb_protocol.proofs.Pursuits.{forward_goes}
+use Rattle.gdb_protocol.proofs.session.Session.go_beyond.Goals as goal
+
+pub returns-clause-goes : goal.returns-clause-goes
+returns-clause-goes c =
+    forward_goes c.forward.result (wanted_by c.creations_beyond-stops.result) _ slice c.args.self.now.timeline c.forward.new.self c.creations_beyond-stops.ensures c.forward.ensures.passed
+    c.forward.ensures.halts
