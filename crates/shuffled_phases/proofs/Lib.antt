@@ -1,0 +1,5 @@
+pub mod Kept
+pub mod Lists
+pub mod Placing
+pub mod Quanta
+pub mod Times

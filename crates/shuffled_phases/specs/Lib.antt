@@ -1,0 +1,4 @@
+pub mod Draws
+pub mod Lists
+pub mod Lengths
+pub mod Phases
