@@ -21,12 +21,12 @@ pub record State : Type 0 where
 abbrev pub hart_at : ℕ → ℕ → ℕ → ℕ → HartState
 hart_at entry stack_pointer argument number = record { registers = started_registers stack_pointer argument number; pc = entry }
 
--- the state where thread 0 is about to begin at an entry, with this memory and this input
-abbrev pub started_state : ℕ → Memory → List ℕ → State
-started_state entry memory input =
+-- the state where thread 0 is about to begin at an entry, with these values in x10 and x11, this memory and this input
+abbrev pub started_state : (entry x10 x11 : ℕ) → Memory → List ℕ → State
+started_state entry x10 x11 memory input =
     record {
       memory = memory;
-      threads = started (hart_at entry layout.stack_pointer 0 0) ∷ [];
+      threads = started (hart_at entry layout.stack_pointer x10 x11) ∷ [];
       objects = all_free;
       heap_pages = 0;
       rest = input;

@@ -34,14 +34,21 @@ impl SharedState {
     ghost use Rattle.call_table.specs.Called.{commit_then_call};
     ghost use Rattle.call_table.specs.Shared.{state_of, input_of};
 
-    /// The state where thread 0 is about to begin at an entry, with this memory and this input.
-    pub fn new(alloc: Global, memory: Snapshot, entry: u32, input: Vec<u8>) -> Self
+    /// The state where thread 0 is about to begin at an entry, with these values in x10 and x11, this memory and this input.
+    pub fn new(
+        alloc: Global,
+        memory: Snapshot,
+        entry: u32,
+        x10: u32,
+        x11: u32,
+        input: Vec<u8>,
+    ) -> Self
         requires { entry % 4 ≡ 0 }
-        ensures state { state_of result ≡ started_state entry (cells_of memory) input.items }
+        ensures state { state_of result ≡ started_state entry x10 x11 (cells_of memory) input.items }
         ensures input { input_of result ≡ input.items }
     {
         let mut threads = Threads::new();
-        let _number = threads.create(Hart::new(entry, STACK_POINTER, 0, 0));
+        let _number = threads.create(Hart::new(entry, STACK_POINTER, x10, x11));
         SharedState {
             inner: StateInCall {
                 memory,

@@ -2,14 +2,16 @@
 use Rattle.std.proofs.Common.{◌≡◌, ℕ, suc, Bool, true, false, not, Option, Some, None, is_some, if◌then◌else◌, [], ◌∷◌, ◌++◌, length, refl, ap, sym, ◌∙◌, inl, inr, arith, subst, length-append}
 use Rattle.std.proofs.lemmas.Bool.{cases_lt, and_parts, not-true}
 use Rattle.thread_table.specs.Threads.{serial_list}
-use Rattle.token.specs.Setup.{Setup}
+use Rattle.token.specs.Setup.{Setup, list_in}
 use Rattle.token.specs.History.{History, IsNextOfList, present, phase_of, list_of, heads, keeps, last_outcome, is_quiet, outcome, same_threads, IsPrefix}
 use Rattle.token.specs.Legal.{Follows, IsLegal}
 use Rattle.token.specs.Outcome.{quiet_outcome}
 use Rattle.token.specs.Turns.{Step}
 use Rattle.token.specs.declared.outcome.RunOutcome.{RunOutcome}
 use Rattle.token.proofs.Dues.{IsTurnOf, turn_of_step}
+use Rattle.shuffled_phases.proofs.Lists.{none-part}
 use Rattle.token.proofs.SameThreads.{same_threads-true}
+use Rattle.token.proofs.SerialList.{listed_part}
 use Rattle.token.proofs.OneStep.{used_up}
 use Rattle.token.proofs.OneHistory.{shorter}
 use Rattle.token.proofs.Versions.{list_of_next}
@@ -43,8 +45,8 @@ no_next setup history phase thread legal quiet next =
   where
     no_list : (setup : Setup) (history : History) (phase thread : ℕ) → IsLegal setup history → Quiet setup history → IsNextOfList setup history phase thread → phase ≡ suc (phase_of history) → ⊥
     no_list setup history phase thread legal quiet next later =
-        let list : list_of setup history phase ≡ serial_list (present setup history).threads = list_of_next setup history phase legal (omega arith) in
-        let none : length (list_of setup history phase) ≡ 0 = ap length list ∙ ap length quiet.empty in
+        let nobody : list_in setup phase (present setup history).threads ≡ [] = none-part _ _ (listed_part setup phase (present setup history).threads) quiet.empty in
+        let none : length (list_of setup history phase) ≡ 0 = ap length (list_of_next setup history phase legal (omega arith) ∙ nobody) in
         let some = ap length next.next ∙ length-append (heads history phase) (thread ∷ next.rest) in
         omega arith
 

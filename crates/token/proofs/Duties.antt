@@ -1,10 +1,9 @@
 -- Who is due where a run stands.
-use Rattle.std.proofs.Common.{◌≡◌, ℕ, zero, suc, ◌<◌, Bool, true, false, Option, Some, None, List, [], ◌∷◌, ◌++◌, length, take, drop, refl, ap, sym, ◌∙◌, subst, inl, inr, arith}
-use Rattle.std.specs.Prelude.{slice_index}
+use Rattle.std.proofs.Common.{◌≡◌, ℕ, zero, suc, ◌<◌, Bool, true, false, Option, Some, None, List, [], ◌∷◌, ◌++◌, length, get_or, take, drop, refl, ap, sym, ◌∙◌, subst, inl, inr, arith}
+use Rattle.std.specs.Prelude.{All, slice_index}
 use Rattle.call_table.specs.State.{State, row_of}
-use Rattle.thread_table.proofs.Lists.{AreNumbersOf-numbers_where}
+use Rattle.shuffled_phases.proofs.Times.{times-at}
 use Rattle.thread_table.specs.Status.{has_turn}
-use Rattle.thread_table.specs.Threads.{serial_list}
 use Rattle.thread_table.specs.declared.status.Status.{Status}
 use Rattle.thread_table.specs.declared.status.Status.TheVariants.{Ready, Woken, Blocked, Done}
 use Rattle.thread_table.specs.declared.thread.Thread.{Thread}
@@ -14,16 +13,21 @@ use Rattle.token.specs.Legal.{IsDue}
 use Rattle.token.specs.Point.{Point, base_at, due_at, due_by, due_next}
 use Rattle.token.specs.RunInTurn.{HasDue}
 use Rattle.token.specs.Serial.{Invariants, StandsAfter}
-use Rattle.token.specs.Setup.{Setup}
+use Rattle.token.specs.Setup.{Setup, list_in}
 use Rattle.token.specs.declared.due.Due.{Due}
 use Rattle.token.proofs.Dues.{keeper_is}
+use Rattle.token.proofs.SerialList.{listed_each}
 use Rattle.token.proofs.Standing.{list_is}
 use Rattle.token.proofs.TurnThere.{due_present, next_has_turn}
 
 -- the threads of a list are there
 
-serial_below : (threads : List Thread) (place : ℕ) → place < length (serial_list threads) → slice_index (serial_list threads) place < length threads
-serial_below threads place below = (AreNumbersOf-numbers_where (λ thread. has_turn thread.status) threads).made place 0 below
+all_below : (setup : Setup) (phase : ℕ) (threads : List Thread) → All (λ n. n < length threads) (list_in setup phase threads)
+all_below setup phase threads place d below =
+    ((listed_each setup phase threads).holds (get_or (list_in setup phase threads) place d) (times-at (list_in setup phase threads) place d below)).0
+
+pub all_listed : (point : Point) (history : History) → StandsAfter point history → All (λ n. n < length point.base_threads) point.list
+all_listed point history stands = subst (All (λ n. n < length point.base_threads)) stands.list (all_below point.setup point.phase point.base_threads)
 
 -- the next of the list
 
@@ -83,8 +87,7 @@ next_there point history stands below =
 
 listed_there : (point : Point) (history : History) → StandsAfter point history → point.given < length point.list → slice_index point.list point.given < length point.base_threads
 listed_there point history stands below =
-    subst (λ list. slice_index list point.given < length point.base_threads) stands.list
-    (serial_below point.base_threads point.given (subst (λ list. point.given < length list) (sym stands.list) below))
+    all_listed point history stands point.given 0 below
 
 base_there : (point : Point) (history : History) → StandsAfter point history → (keeper : Option ℕ) → (keeper ≡ None → point.given < length point.list)
     → let who : Due = due_by keeper point.state (slice_index point.list point.given) in thread_due who < length point.state.threads → thread_due who < length (base_at point who).threads

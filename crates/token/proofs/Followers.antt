@@ -15,7 +15,7 @@ step_from setup history phase who ran =
     step_of (present setup history) (version setup history number) phase number who ran
 
 pub follower : (setup : Setup) (history : History) (phase : ℕ) (who : Due) (ran : PrivateRun who) → IsDue setup history phase who
-    → RunsPrivately setup (version setup history (base_of history phase who)) who ran → last_outcome history ≡ None → Follows setup history (step_from setup history phase who ran)
+    → RunsPrivately setup (version setup history (base_of history phase who)) phase who ran → last_outcome history ≡ None → Follows setup history (step_from setup history phase who ran)
 unfolding run_step wake_step
 follower setup history phase (due.Fresh thread) ran is runs cut =
     record { who = due.Fresh thread; ran = ran; order = is; base = refl; private_memory = runs; commit_then_call = refl; cut = cut }

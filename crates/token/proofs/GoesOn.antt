@@ -1,11 +1,12 @@
 -- A step follows a legal history that has no outcome.
 use Rattle.std.proofs.Common.{◌≡◌, ℕ, suc, ◌-◌, Bool, true, false, not, if◌then◌else◌, Option, Some, None, is_some, List, [], ◌∷◌, ◌++◌, refl, ap, sym, ◌∙◌, inl, inr, arith, append-nil, subst}
 use Rattle.std.proofs.lemmas.Bool.{and_from, not_from_false}
+use Rattle.shuffled_phases.proofs.Times.{Each, each-first}
 use Rattle.thread_table.specs.Status.{has_turn}
 use Rattle.thread_table.specs.Threads.{serial_list}
 use Rattle.thread_table.specs.declared.status.Status.{Status}
 use Rattle.thread_table.specs.declared.status.Status.TheVariants.{Ready, Woken, Blocked, Done}
-use Rattle.token.specs.Setup.{Setup}
+use Rattle.token.specs.Setup.{Setup, list_in, quantum_in}
 use Rattle.call_table.specs.State.{State, row_of}
 use Rattle.token.specs.Turns.{Step}
 use Rattle.token.specs.History.{History, IsNextOfList, heads, is_quiet, keeps, last_outcome, list_of, outcome, phase_of, present, same_threads, thread_of, version}
@@ -16,10 +17,10 @@ use Rattle.token.specs.declared.due.Due.TheVariants as due
 use Rattle.token.specs.declared.outcome.RunOutcome.{RunOutcome}
 use Rattle.token.proofs.Dues.{keeper_from, none_from}
 use Rattle.token.proofs.Followers.{follower}
-use Rattle.token.proofs.InOrder.{in_order, low_of}
+use Rattle.token.proofs.InOrder.{in_order}
 use Rattle.token.proofs.SameThreads.{same_threads-from}
 use Rattle.token.proofs.SegmentEnds.{some_end}
-use Rattle.token.proofs.SerialList.{Rises, serial_list_rises}
+use Rattle.token.proofs.SerialList.{listed_each, listed_part}
 use Rattle.token.proofs.Statuses.{HasTurnIn}
 use Rattle.token.proofs.Versions.{heads_none, list_of_next}
 
@@ -32,7 +33,7 @@ Follower setup history = (step : Step) × Follows setup history step
 runs : (setup : Setup) (history : History) (phase : ℕ) (who : Due) → IsDue setup history phase who → last_outcome history ≡ None → Follower setup history
 runs setup history phase (due.Fresh thread) is cut =
     let base : State = version setup history (base_of history phase (due.Fresh thread)) in
-    let end = some_end (row_of base thread).hart base.memory (setup.bound - (row_of base thread).executed) setup.quantum in
+    let end = some_end (row_of base thread).hart base.memory (setup.bound - (row_of base thread).executed) (quantum_in setup phase thread base.threads) in
     (_, follower setup history phase (due.Fresh thread) end.0 is end.1 cut)
 runs setup history phase (due.Keeper thread) is cut =
     let base : State = version setup history (base_of history phase (due.Keeper thread)) in
@@ -49,27 +50,27 @@ takes_turn setup history phase thread (Done value) is has free next cut = cc
 
 -- the next of the last phase, or of the one after it, where nobody keeps the token
 goes_on_in : (setup : Setup) (history : History) → keeps history ≡ false → last_outcome history ≡ None → (rest : List ℕ)
-    → list_of setup history (phase_of history) ≡ heads history (phase_of history) ++ rest → Rises (HasTurnIn setup history) (low_of history) rest
+    → list_of setup history (phase_of history) ≡ heads history (phase_of history) ++ rest → Each (HasTurnIn setup history) rest
     → (rest ≡ [] → Follower setup history) → Follower setup history
 goes_on_in setup history next cut [] listed turns otherwise = otherwise refl
 goes_on_in setup history next cut (thread ∷ rest) listed turns otherwise =
-    takes_turn setup history (phase_of history) thread _ refl turns.1.1 next (record { rest = rest; next = listed; current = inl refl }) cut
+    takes_turn setup history (phase_of history) thread _ refl (each-first (HasTurnIn setup history) thread rest turns).1 next (record { rest = rest; next = listed; current = inl refl }) cut
 
 opens_phase : (setup : Setup) (history : History) → IsLegal setup history → keeps history ≡ false → last_outcome history ≡ None → is_quiet setup history ≡ false
-    → list_of setup history (phase_of history) ≡ heads history (phase_of history) → (list : List ℕ) → serial_list (present setup history).threads ≡ list → Follower setup history
+    → list_of setup history (phase_of history) ≡ heads history (phase_of history) → (list : List ℕ) → list_in setup (suc (phase_of history)) (present setup history).threads ≡ list → Follower setup history
 unfolding is_quiet
 opens_phase setup history legal next cut lively used [] empty =
     let phase : ℕ = phase_of history in
     let quiet = and_from (not (keeps history)) _ (not_from_false (keeps history) next)
     (and_from (same_threads (list_of setup history phase) (heads history phase)) (same_threads (serial_list (present setup history).threads) [])
-    (same_threads-from _ _ used) (same_threads-from _ _ empty)) in
+    (same_threads-from _ _ used) (same_threads-from _ _ ((listed_part setup (suc phase) (present setup history).threads).some empty))) in
     cc
 opens_phase setup history legal next cut lively used (thread ∷ rest) begins =
     let phase : ℕ = suc (phase_of history) in
     let listed : list_of setup history phase ≡ thread ∷ rest = list_of_next setup history phase legal (omega arith) ∙ begins in
     let none : heads history phase ≡ [] = heads_none setup history phase legal (omega arith) in
-    let turns : Rises (HasTurnIn setup history) 0 (thread ∷ rest) = subst (Rises (HasTurnIn setup history) 0) begins (serial_list_rises (present setup history).threads) in
-    takes_turn setup history phase thread _ refl turns.1.1 next
+    let turns : Each (HasTurnIn setup history) (thread ∷ rest) = subst (Each (HasTurnIn setup history)) begins (listed_each setup phase (present setup history).threads) in
+    takes_turn setup history phase thread _ refl (each-first (HasTurnIn setup history) thread rest turns).1 next
     (record { rest = rest; next = listed ∙ ap (λ prefix. prefix ++ thread ∷ rest) (sym none); current = inr (refl, used) }) cut
 
 -- a history without an outcome wasn't ended by its last turn, and isn't quiet
@@ -89,7 +90,7 @@ goes_on_by setup history false is legal cut lively =
     (λ none.
     let used : list_of setup history (phase_of history) ≡ heads history (phase_of history) =
     order.list ∙ ap (λ rest. heads history (phase_of history) ++ rest) none ∙ append-nil (heads history (phase_of history)) in
-    opens_phase setup history legal is cut lively used (serial_list (present setup history).threads) refl)
+    opens_phase setup history legal is cut lively used (list_in setup (suc (phase_of history)) (present setup history).threads) refl)
 
 pub some_follows : (setup : Setup) (history : History) → IsLegal setup history → outcome setup history ≡ None → (step : Step) × Follows setup history step
 unfolding outcome

@@ -1,11 +1,11 @@
 -- What a turn adds to a run.
 use Rattle.std.proofs.Common.{◌≡◌, ℕ, ◌+◌, Bool, true, false, ◌||◌, ◌==◌, nat_lt, if◌then◌else◌, Option, Some, is_some, List, [], ◌∷◌, ◌++◌, length, drop, refl, ap, sym, ◌∙◌, subst}
-use Rattle.thread_table.specs.Threads.{serial_list}
 use Rattle.token.specs.History.{History}
 use Rattle.token.specs.Legal.{Follows}
 use Rattle.token.specs.Outcome.{quiet_outcome}
 use Rattle.token.specs.Point.{Point, after_step, counted, moved, next_phase, passed_on, step_at}
 use Rattle.token.specs.RunInTurn.{point_of}
+use Rattle.token.specs.Setup.{list_in}
 use Rattle.token.specs.Serial.{IsAskedFor, IsLawful, IsLonger, IsNeeded, StandsAfter}
 use Rattle.call_table.specs.State.{State}
 use Rattle.token.specs.Turns.{Step}
@@ -27,12 +27,12 @@ as_it_was point = record { setup = refl; state = refl; done = refl; fresh_from =
 passed_leaves : (point : Point) → Leaves point (passed_on point)
 unfolding passed_on next_phase
 passed_leaves point =
-    by_test (is_some point.ended || is_some point.keeper || nat_lt point.given (length point.list)) (length (serial_list point.state.threads) == 0)
+    by_test (is_some point.ended || is_some point.keeper || nat_lt point.given (length point.list)) (length (list_in point.setup (point.phase + 1) point.state.threads) == 0)
   where
     by_test : (goes empty : Bool) → Leaves point
         (if goes then point
         else (if empty then record point { ended = Some (quiet_outcome point.state) }
-        else record point { phase = point.phase + 1; first = point.done; base = point.state.memory; base_threads = point.state.threads; list = serial_list point.state.threads; given = 0 }))
+        else record point { phase = point.phase + 1; first = point.done; base = point.state.memory; base_threads = point.state.threads; list = list_in point.setup (point.phase + 1) point.state.threads; given = 0 }))
     by_test true empty = as_it_was point
     by_test false true = record { setup = refl; state = refl; done = refl; fresh_from = refl }
     by_test false false = record { setup = refl; state = refl; done = refl; fresh_from = refl }

@@ -21,15 +21,15 @@ wake_needed point thread is = subst (λ asked. IsNeededBy point asked None) (sym
 
 -- the needed segment is its thread's in the phase
 segment_by : (point : Point) (work : Work) (ended : Option RunOutcome) (who : Due) → need_by ended (need_of point who) ≡ need.Segment work
-    → work ≡ record { thread = work.thread; segment = segment_in point.setup point.base_threads work.thread }
+    → work ≡ record { thread = work.thread; segment = segment_in point.setup point.phase point.base_threads work.thread }
 segment_by point work (Some ends) who is = cc
 segment_by point work None (due.Fresh thread) is =
-    let same : record { thread = thread; segment = segment_in point.setup point.base_threads thread } ≡ work = cc is in
-    subst (λ (w : Work). w ≡ record { thread = w.thread; segment = segment_in point.setup point.base_threads w.thread }) same refl
+    let same : record { thread = thread; segment = segment_in point.setup point.phase point.base_threads thread } ≡ work = cc is in
+    subst (λ (w : Work). w ≡ record { thread = w.thread; segment = segment_in point.setup point.phase point.base_threads w.thread }) same refl
 segment_by point work None (due.Keeper thread) is = cc
 segment_by point work None (due.Woken thread mutex) is = cc
 
-pub segment_is : (point : Point) (work : Work) → need_at point ≡ need.Segment work → work ≡ record { thread = work.thread; segment = segment_in point.setup point.base_threads work.thread }
+pub segment_is : (point : Point) (work : Work) → need_at point ≡ need.Segment work → work ≡ record { thread = work.thread; segment = segment_in point.setup point.phase point.base_threads work.thread }
 unfolding need_at
 segment_is point work is = segment_by point work point.ended (due_at point) is
 

@@ -17,11 +17,11 @@ use Rattle.thread_table.specs.declared.status.Status.TheVariants.{Ready, Woken}
 use Rattle.thread_table.specs.declared.thread.Thread.{Thread}
 use Rattle.token.specs.Due.{mutex_due, thread_due}
 use Rattle.token.specs.History.{History, is_quiet, last_outcome, outcome, present, version}
-use Rattle.token.specs.Legal.{Follows, IsDue, IsSegmentFrom, base_of}
+use Rattle.token.specs.Legal.{Follows, IsDue, IsSegmentFrom, RunsPrivately, base_of}
 use Rattle.token.specs.Point.{Point, IsNeededAt, IsNeededBy, base_at, base_number_at, due_at, moved, need_at, need_by, need_of, ran_step, step_at, woken_step}
 use Rattle.token.specs.RunInTurn.{HasDue, MayTurn}
 use Rattle.token.specs.Serial.{Invariants, StandsAfter}
-use Rattle.token.specs.Setup.{Setup}
+use Rattle.token.specs.Setup.{Setup, quantum_in}
 use Rattle.token.specs.Turns.{Ran, Step, Stopped, after_stop, committed, run_step, wake_step}
 use Rattle.token.specs.declared.due.Due.{Due}
 use Rattle.token.specs.declared.due.Due.TheVariants as due
@@ -138,9 +138,11 @@ ran_follows : (point : Point) (history : History) → StandsAfter point history 
 ran_follows point history stands (due.Fresh thread) end is cut ended =
     let base = base_is point history stands (due.Fresh thread) in
     let ran : Ran = ran_of end ended.memory in
-    let segment = segment_from point.setup (version point.setup history (base_of history point.phase (due.Fresh thread))) (base_at point (due.Fresh thread)) thread point.setup.quantum ran base.memory base.threads ended.segment_is in
+    let segment = segment_from point.setup (version point.setup history (base_of history point.phase (due.Fresh thread))) (base_at point (due.Fresh thread)) thread (quantum_in point.setup point.phase thread point.base_threads) ran base.memory base.threads ended.segment_is in
+    let private : RunsPrivately point.setup (version point.setup history (base_of history point.phase (due.Fresh thread))) point.phase (due.Fresh thread) ran =
+    subst (λ (threads : List Thread). IsSegmentFrom point.setup (version point.setup history (base_of history point.phase (due.Fresh thread))) thread (quantum_in point.setup point.phase thread threads) ran) (sym base.threads) segment in
     subst (Follows point.setup history) (same_step point history stands (due.Fresh thread) end ended.memory ended.patch)
-    (follower point.setup history point.phase (due.Fresh thread) ran is segment cut)
+    (follower point.setup history point.phase (due.Fresh thread) ran is private cut)
 ran_follows point history stands (due.Keeper thread) end is cut ended =
     let base = base_is point history stands (due.Keeper thread) in
     let ran : Ran = ran_of end ended.memory in

@@ -86,22 +86,22 @@ same_due setup before phase other_phase (due.Woken thread mutex) (due.Keeper n) 
 same_due setup before phase other_phase (due.Keeper thread) (due.Woken n mutex) one two = let mixed = sym one.0 ∙ two.0 in cc
 
 -- what it does on its copy
-same_ran : (setup : Setup) (base : State) (who : Due) (one other : PrivateRun who) → RunsPrivately setup base who one → RunsPrivately setup base who other → one ≡ other
-same_ran setup base (due.Fresh thread) one other first second = one_end _ _ _ _ one other first second
-same_ran setup base (due.Keeper thread) one other first second = one_end _ _ _ _ one other first second
-same_ran setup base (due.Woken thread mutex) one other first second = refl
+same_ran : (setup : Setup) (base : State) (phase : ℕ) (who : Due) (one other : PrivateRun who) → RunsPrivately setup base phase who one → RunsPrivately setup base phase who other → one ≡ other
+same_ran setup base phase (due.Fresh thread) one other first second = one_end _ _ _ _ one other first second
+same_ran setup base phase (due.Keeper thread) one other first second = one_end _ _ _ _ one other first second
+same_ran setup base phase (due.Woken thread mutex) one other first second = refl
 
 -- what a step is, by its phase and who is due
 record Made (setup : Setup) (before : History) (step : Step) (phase : ℕ) (who : Due) : Type 0 where
   ran : PrivateRun who
-  private : RunsPrivately setup (version setup before (base_of before phase who)) who ran
+  private : RunsPrivately setup (version setup before (base_of before phase who)) phase who ran
   is : step ≡ step_of (present setup before) (version setup before (base_of before phase who)) phase (base_of before phase who) who ran
 
 made_so : (setup : Setup) (before : History) (step : Step) → (follows : Follows setup before step) → Made setup before step step.turn.phase follows.who
 made_so setup before step follows =
     record {
       ran = follows.ran;
-      private = subst (λ (number : ℕ). RunsPrivately setup (version setup before number) follows.who follows.ran) follows.base follows.private_memory;
+      private = subst (λ (number : ℕ). RunsPrivately setup (version setup before number) step.turn.phase follows.who follows.ran) follows.base follows.private_memory;
       is = follows.commit_then_call
           ∙ ap (λ (number : ℕ). step_of (present setup before) (version setup before number) step.turn.phase number follows.who follows.ran) follows.base;
     }
@@ -109,7 +109,7 @@ made_so setup before step follows =
 same_made : (setup : Setup) (before : History) (one other : Step) (phase : ℕ) (who : Due) → Made setup before one phase who → Made setup before other phase who → one ≡ other
 same_made setup before one other phase who first second =
     let number : ℕ = base_of before phase who in
-    let same = same_ran setup (version setup before number) who first.ran second.ran first.private second.private in
+    let same = same_ran setup (version setup before number) phase who first.ran second.ran first.private second.private in
     first.is ∙ ap (λ (ran : PrivateRun who). step_of (present setup before) (version setup before number) phase number who ran) same ∙ sym second.is
 
 pub one_step : (setup : Setup) (before : History) (one other : Step) → Follows setup before one → Follows setup before other → one ≡ other

@@ -13,7 +13,7 @@ use Rattle.token.specs.Legal.{Follows, IsLegal}
 use Rattle.token.specs.Outcome.{outcome_of_stop, quiet_outcome}
 use Rattle.token.specs.Point.{Point, after_step, counted, due_at, due_by, due_next, keeper_after, moved, next_phase, passed_on}
 use Rattle.token.specs.Serial.{Invariants, StandsAfter}
-use Rattle.token.specs.Setup.{Setup}
+use Rattle.token.specs.Setup.{Setup, list_in}
 use Rattle.call_table.specs.State.{State, row_of}
 use Rattle.token.specs.Due.{thread_due}
 use Rattle.token.specs.Turns.{Step}
@@ -21,6 +21,8 @@ use Rattle.token.specs.declared.outcome.RunOutcome.{RunOutcome}
 use Rattle.token.proofs.Dues.{keeper_is, no_keeper}
 use Rattle.token.proofs.KeeperHolds.{held_by_keeper}
 use Rattle.token.proofs.Outputs.{output_grows}
+use Rattle.shuffled_phases.proofs.Lists.{length-part}
+use Rattle.token.proofs.SerialList.{listed_part}
 use Rattle.token.proofs.SameThreads.{same_threads-false, same_threads-from, same_threads-none}
 use Rattle.token.proofs.Versions.{first_version_kept, first_version_next, first_version_within, heads_keeper, heads_next, heads_none, version_last, version_older}
 
@@ -32,7 +34,7 @@ pub record StandsIn (point : Point) (history : History) : Type 0 where
   pub first : first_version history point.phase ≡ point.first
   pub base : (version point.setup history point.first).memory ≡ point.base
   pub base_threads : (version point.setup history point.first).threads ≡ point.base_threads
-  pub list : serial_list point.base_threads ≡ point.list
+  pub list : list_in point.setup point.phase point.base_threads ≡ point.list
   pub heads : heads history point.phase ≡ take point.given point.list
   pub keeper : keeper_of history ≡ point.keeper
   pub ended : last_outcome history ≡ point.ended
@@ -49,10 +51,10 @@ Stands point history = StandsAfter point history × Invariants point
 -- the list
 
 pub list_is : (setup : Setup) (history : History) (phase first : ℕ) (threads : List Thread) (list : List ℕ) → first_version history phase ≡ first
-    → (version setup history first).threads ≡ threads → serial_list threads ≡ list → list_of setup history phase ≡ list
+    → (version setup history first).threads ≡ threads → list_in setup phase threads ≡ list → list_of setup history phase ≡ list
 unfolding list_of
 list_is setup history phase first threads list begins has lists =
-    ap (λ number. serial_list (version setup history number).threads) begins ∙ ap serial_list has ∙ lists
+    ap (λ number. list_in setup phase (version setup history number).threads) begins ∙ ap (λ threads. list_in setup phase threads) has ∙ lists
 
 -- one step
 
@@ -190,14 +192,15 @@ take_all zero (m ∷ list) within = absurd (omega arith)
 take_all (suc n) (m ∷ list) within = ap (λ rest. m ∷ rest) (take_all n list (omega arith))
 
 quiet_if : (point : Point) (history : History) → StandsIn point history → keeps history ≡ false → length point.list ≤ point.given → (empty : Bool)
-    → (length (serial_list point.state.threads) == 0) ≡ empty → is_quiet point.setup history ≡ empty
+    → (length (list_in point.setup (point.phase + 1) point.state.threads) == 0) ≡ empty → is_quiet point.setup history ≡ empty
 unfolding is_quiet
 quiet_if point history stands free used empty is =
     let all : take point.given point.list ≡ point.list = take_all point.given point.list used in
     let same : same_threads (list_of point.setup history (phase_of history)) (heads history (phase_of history)) ≡ true =
     same_threads-from _ _ (last_list point history stands ∙ sym all ∙ subst (λ phase. take point.given point.list ≡ heads history phase) stands.phase (sym stands.heads)) in
     let there : same_threads (serial_list (present point.setup history).threads) [] ≡ empty =
-    same_threads-none (serial_list (present point.setup history).threads) ∙ ap (λ state. length (serial_list state.threads) == 0) stands.state ∙ is in
+    same_threads-none (serial_list (present point.setup history).threads) ∙ ap (λ state. length (serial_list state.threads) == 0) stands.state
+    ∙ sym (length-part _ _ (listed_part point.setup (point.phase + 1) point.state.threads)) ∙ is in
     rw (free, same) there
 
 -- the run ends
@@ -231,9 +234,9 @@ ends point history stands running quiet =
 
 -- the next phase begins
 begins : (point : Point) (history : History) → StandsIn point history → point.ended ≡ None → point.keeper ≡ None → length point.list ≤ point.given
-    → is_quiet point.setup history ≡ false → (length (serial_list point.state.threads) == 0) ≡ false
+    → is_quiet point.setup history ≡ false → (length (list_in point.setup (point.phase + 1) point.state.threads) == 0) ≡ false
     → Stands
-    (record point { phase = point.phase + 1; first = point.done; base = point.state.memory; base_threads = point.state.threads; list = serial_list point.state.threads; given = 0 })
+    (record point { phase = point.phase + 1; first = point.done; base = point.state.memory; base_threads = point.state.threads; list = list_in point.setup (point.phase + 1) point.state.threads; given = 0 })
     history
 unfolding outcome
 begins point history stands running free used lively filled =
@@ -242,7 +245,7 @@ begins point history stands running free used lively filled =
     let last : last_outcome history ≡ None = stands.ended ∙ running in
     let there : version point.setup history point.done ≡ point.state =
     ap (version point.setup history) (sym stands.done) ∙ version_last point.setup history ∙ stands.state in
-    let some : length (serial_list point.state.threads) ≡ 0 → ⊥ = eqb-false _ _ filled in
+    let some : length (list_in point.setup (point.phase + 1) point.state.threads) ≡ 0 → ⊥ = eqb-false _ _ filled in
     let all : take point.given point.list ≡ point.list = take_all point.given point.list used in
     let ended : outcome point.setup history ≡ point.ended = rw (last, lively) (sym running) in (
       record {
@@ -272,17 +275,17 @@ begins point history stands running free used lively filled =
       },
     )
 
-next_stands : (point : Point) (history : History) → StandsIn point history → goes_on point ≡ false → Stands (next_phase point (serial_list point.state.threads)) history
+next_stands : (point : Point) (history : History) → StandsIn point history → goes_on point ≡ false → Stands (next_phase point (list_in point.setup (point.phase + 1) point.state.threads)) history
 unfolding next_phase
 next_stands point history stands over =
     let parts = used_up point.ended point.keeper (nat_lt point.given (length point.list)) over in
-    by_list point history stands parts.0 parts.1 (ltb-false _ _ parts.2) (length (serial_list point.state.threads) == 0) refl
+    by_list point history stands parts.0 parts.1 (ltb-false _ _ parts.2) (length (list_in point.setup (point.phase + 1) point.state.threads) == 0) refl
   where
     by_list : (point : Point) (history : History) → StandsIn point history → point.ended ≡ None → point.keeper ≡ None → length point.list ≤ point.given → (empty : Bool)
-        → (length (serial_list point.state.threads) == 0) ≡ empty
+        → (length (list_in point.setup (point.phase + 1) point.state.threads) == 0) ≡ empty
         → Stands
         (if empty then record point { ended = Some (quiet_outcome point.state) }
-        else record point { phase = point.phase + 1; first = point.done; base = point.state.memory; base_threads = point.state.threads; list = serial_list point.state.threads; given = 0 })
+        else record point { phase = point.phase + 1; first = point.done; base = point.state.memory; base_threads = point.state.threads; list = list_in point.setup (point.phase + 1) point.state.threads; given = 0 })
         history
     by_list point history stands running free used true is =
         ends point history stands running (quiet_if point history stands (no_keeper history (stands.keeper ∙ free)) used true is)
@@ -294,7 +297,7 @@ pub passes_on : (point : Point) (history : History) → StandsIn point history �
 unfolding passed_on
 passes_on point history stands = by_test (goes_on point) refl
   where
-    by_test : (on : Bool) → goes_on point ≡ on → Stands (if on then point else next_phase point (serial_list point.state.threads)) history
+    by_test : (on : Bool) → goes_on point ≡ on → Stands (if on then point else next_phase point (list_in point.setup (point.phase + 1) point.state.threads)) history
     by_test true is = goes point history stands is
     by_test false is = next_stands point history stands is
 

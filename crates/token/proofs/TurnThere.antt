@@ -1,37 +1,20 @@
 -- The thread of a turn is one of the threads.
-use Rattle.std.proofs.Common.{◌≡◌, ℕ, suc, ◌<◌, Bool, true, false, [], ◌∷◌, ◌++◌, length, refl, sym, ◌∙◌, subst, inl, inr, arith}
-use Rattle.std.proofs.lemmas.List.{append_cancel_left}
+use Rattle.std.proofs.Common.{◌≡◌, ℕ, ◌<◌, Bool, true, false, [], ◌∷◌, length, refl, arith}
+use Rattle.shuffled_phases.proofs.Times.{each-first}
 use Rattle.token.specs.Due.{thread_due}
-use Rattle.token.specs.History.{History, IsNextOfList, heads, keeps, list_of, phase_of, present, thread_of}
+use Rattle.token.specs.History.{History, IsNextOfList, keeps, present, thread_of}
 use Rattle.token.specs.Legal.{IsDue, IsLegal}
 use Rattle.token.specs.Setup.{Setup}
 use Rattle.token.specs.declared.due.Due.{Due}
 use Rattle.token.proofs.Dues.{IsTurnOf, turn_of_due, turn_of_step}
-use Rattle.token.proofs.InOrder.{in_order, low_of}
-use Rattle.token.proofs.SerialList.{Rises, Rises-after, serial_list_rises}
+use Rattle.token.proofs.InOrder.{in_order, turns_from}
 use Rattle.token.proofs.Statuses.{HasTurnIn, threads_grow}
-use Rattle.token.proofs.Versions.{list_of_next}
 
 -- who is next has a turn
 
 pub next_has_turn : (setup : Setup) (history : History) (phase thread : ℕ) → IsLegal setup history → IsNextOfList setup history phase thread → HasTurnIn setup history thread
 next_has_turn setup history phase thread legal next =
-    elim next.current [ inl here ↦ in_last setup history phase thread legal next here | inr there ↦ in_new setup history phase thread legal next there.0 ]
-  where
-    in_last : (setup : Setup) (history : History) (phase thread : ℕ) → IsLegal setup history → (next : IsNextOfList setup history phase thread) → phase ≡ phase_of history → HasTurnIn setup history thread
-    in_last setup history phase thread legal next here =
-        let order = in_order setup history legal in
-        let listed : list_of setup history phase ≡ heads history phase ++ order.rest =
-        subst (λ p. list_of setup history p ≡ heads history p ++ order.rest) (sym here) order.list in
-        let rest : order.rest ≡ thread ∷ next.rest = append_cancel_left (heads history phase) order.rest (thread ∷ next.rest) (sym listed ∙ next.next) in
-        let turns : Rises (HasTurnIn setup history) (low_of history) (thread ∷ next.rest) = subst (Rises (HasTurnIn setup history) (low_of history)) rest order.turns in
-        turns.1
-
-    in_new : (setup : Setup) (history : History) (phase thread : ℕ) → IsLegal setup history → (next : IsNextOfList setup history phase thread) → phase ≡ suc (phase_of history) → HasTurnIn setup history thread
-    in_new setup history phase thread legal next there =
-        let listed = sym (list_of_next setup history phase legal (omega arith)) ∙ next.next in
-        let turns = subst (Rises (HasTurnIn setup history) 0) listed (serial_list_rises (present setup history).threads) in
-        (Rises-after (HasTurnIn setup history) 0 (heads history phase) thread next.rest turns).0
+    each-first (HasTurnIn setup history) thread next.rest (turns_from setup history phase thread legal (in_order setup history legal) next)
 
 due_there : (setup : Setup) (before : History) (phase thread : ℕ) → IsLegal setup before → (keeper : Bool) → keeps before ≡ keeper → IsTurnOf keeper setup before phase thread
     → (keeps before ≡ true → thread_of before < length (present setup before).threads) → thread < length (present setup before).threads

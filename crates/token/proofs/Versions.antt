@@ -1,8 +1,7 @@
 -- The versions of a history, and what a further step leaves of them.
 use Rattle.std.proofs.Common.{◌≡◌, ◌⊎◌, ℕ, suc, ◌<◌, ◌≤◌, Bool, true, false, not, ◌==◌, nat_lt, if◌then◌else◌, [], ◌∷◌, ◌++◌, length, refl, ap, ◌∙◌, inl, inr, arith}
 use Rattle.std.proofs.lemmas.Bool.{lt-ltb, le-ltb, eq-eqb, ne_eqb, and_from, and_left, and_right, not_from_true, not_from_false}
-use Rattle.thread_table.specs.Threads.{serial_list}
-use Rattle.token.specs.Setup.{Setup}
+use Rattle.token.specs.Setup.{Setup, list_in}
 use Rattle.token.specs.Turns.{Step}
 use Rattle.token.specs.Legal.{Follows, IsLegal}
 use Rattle.token.proofs.Dues.{IsTurnOf, turn_of_step}
@@ -68,14 +67,14 @@ phase_state_kept setup before step phase within =
 -- and has the list that it had
 pub list_of_kept : (setup : Setup) (before : History) (step : Step) (phase : ℕ) → phase ≤ step.turn.phase → list_of setup (step ∷ before) phase ≡ list_of setup before phase
 unfolding list_of
-list_of_kept setup before step phase within = ap (λ state. serial_list state.threads) (phase_state_kept setup before step phase within)
+list_of_kept setup before step phase within = ap (λ state. list_in setup phase state.threads) (phase_state_kept setup before step phase within)
 
 -- a phase after the last one has the list of the last version
-pub list_of_next : (setup : Setup) (history : History) (phase : ℕ) → IsLegal setup history → phase_of history < phase → list_of setup history phase ≡ serial_list (present setup history).threads
+pub list_of_next : (setup : Setup) (history : History) (phase : ℕ) → IsLegal setup history → phase_of history < phase → list_of setup history phase ≡ list_in setup phase (present setup history).threads
 unfolding list_of
 list_of_next setup history phase legal later =
-    ap (λ number. serial_list (version setup history number).threads) (first_version_next setup history phase legal later)
-    ∙ ap (λ state. serial_list state.threads) (version_last setup history)
+    ap (λ number. list_in setup phase (version setup history number).threads) (first_version_next setup history phase legal later)
+    ∙ ap (λ state. list_in setup phase state.threads) (version_last setup history)
 
 -- a keeper's turn adds no head
 pub heads_keeper : (before : History) (step : Step) (phase : ℕ) → keeps before ≡ true → heads (step ∷ before) phase ≡ heads before phase

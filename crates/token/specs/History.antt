@@ -7,7 +7,7 @@ use Rattle.condvar_barrier.specs.Objects.{ObjectState, holds, holds_mutex}
 use Rattle.call_table.specs.State.{State, row_of}
 use Rattle.token.specs.Change.{Change}
 use Rattle.token.specs.Outcome.{outcome_of_stop, quiet_outcome}
-use Rattle.token.specs.Setup.{Setup, first_state}
+use Rattle.token.specs.Setup.{Setup, first_state, list_in}
 use Rattle.token.specs.Turns.{Step}
 use Rattle.token.specs.declared.outcome.RunOutcome.{RunOutcome}
 use Rattle.token.specs.declared.turn.Turn.{Turn}
@@ -78,9 +78,9 @@ unfoldable pub first_version : History → ℕ → ℕ
 first_version [] phase = 0
 first_version (step ∷ before) phase = if nat_lt step.turn.phase phase then suc (first_version before phase) else first_version before phase
 
--- the serial list of a phase: the threads that are ready or woken in its first version, ascending
+-- the list of a phase, of the threads that are ready or woken in its first version: all of them, ascending, if no number shuffles the phase
 unfoldable pub list_of : Setup → History → ℕ → List ℕ
-list_of setup history phase = serial_list (version setup history (first_version history phase)).threads
+list_of setup history phase = list_in setup phase (version setup history (first_version history phase)).threads
 
 -- the threads that were given the token so far in a phase, in order
 unfoldable pub heads : History → ℕ → List ℕ

@@ -5,7 +5,7 @@ use Rattle.thread_table.specs.declared.status.Status.TheVariants.{Ready, Woken}
 use Rattle.call_table.specs.State.{State, row_of}
 use Rattle.token.specs.Due.{PrivateRun}
 use Rattle.token.specs.History.{History, IsNextOfList, first_version, keeper_of, last_outcome, phase_of, present, version}
-use Rattle.token.specs.Setup.{Setup}
+use Rattle.token.specs.Setup.{Setup, quantum_in}
 use Rattle.token.specs.Turns.{Ran, Step, run_step, wake_step}
 use Rattle.token.specs.declared.due.Due.{Due}
 use Rattle.token.specs.declared.due.Due.TheVariants as due
@@ -27,11 +27,11 @@ abbrev pub IsSegmentFrom : Setup → State → ℕ → Option ℕ → Ran → Ty
 IsSegmentFrom setup base thread quantum ran =
     Segment (row_of base thread).hart base.memory (setup.bound - (row_of base thread).executed) quantum ran.stop ran.count ran.hart ran.memory
 
--- A fresh segment has the quantum, and a keeper's has none. A woken thread runs nothing.
-abbrev pub RunsPrivately : Setup → State → (who : Due) → PrivateRun who → Type 0
-RunsPrivately setup base (due.Fresh thread) ran = IsSegmentFrom setup base thread setup.quantum ran
-RunsPrivately setup base (due.Keeper thread) ran = IsSegmentFrom setup base thread None ran
-RunsPrivately setup base (due.Woken thread mutex) ran = Unit {0}
+-- A fresh segment has the quantum of its thread in the phase, and a keeper's has none. A woken thread runs nothing.
+abbrev pub RunsPrivately : Setup → State → (phase : ℕ) → (who : Due) → PrivateRun who → Type 0
+RunsPrivately setup base phase (due.Fresh thread) ran = IsSegmentFrom setup base thread (quantum_in setup phase thread base.threads) ran
+RunsPrivately setup base phase (due.Keeper thread) ran = IsSegmentFrom setup base thread None ran
+RunsPrivately setup base phase (due.Woken thread mutex) ran = Unit {0}
 
 -- The bytes that differ from the copy are written back, and the call's effect follows. A woken thread takes its mutex.
 abbrev pub step_of : State → State → ℕ → ℕ → (who : Due) → PrivateRun who → Step
@@ -48,7 +48,7 @@ pub record Follows (setup : Setup) (before : History) (step : Step) : Type 0 whe
   -- base
   pub base : step.turn.base ≡ base_of before step.turn.phase who
   -- private memory
-  pub private_memory : RunsPrivately setup (version setup before step.turn.base) who ran
+  pub private_memory : RunsPrivately setup (version setup before step.turn.base) step.turn.phase who ran
   -- commit, then call
   pub commit_then_call : step ≡ step_of (present setup before) (version setup before step.turn.base) step.turn.phase step.turn.base who ran
   -- cut: nothing follows a trap or an exit

@@ -5,7 +5,6 @@ use Rattle.commit.specs.ByteMap.{ByteMap}
 use Rattle.commit.specs.Changed.{addresses_of}
 use Rattle.condvar_barrier.specs.Objects.{holds}
 use Rattle.thread_table.specs.Status.{is_ready}
-use Rattle.thread_table.specs.Threads.{serial_list}
 use Rattle.thread_table.specs.declared.status.Status.{Status}
 use Rattle.thread_table.specs.declared.status.Status.TheVariants.{Woken}
 use Rattle.thread_table.specs.declared.thread.Thread.{Thread}
@@ -14,7 +13,7 @@ use Rattle.call_table.specs.State.{State, row_of}
 use Rattle.token.specs.Due.{thread_due, mutex_due}
 use Rattle.token.specs.Outcome.{outcome_of_stop, quiet_outcome}
 use Rattle.token.specs.Segments.{segment_of}
-use Rattle.token.specs.Setup.{Setup}
+use Rattle.token.specs.Setup.{Setup, list_in, quantum_in}
 use Rattle.token.specs.Turns.{Step, Stopped, after_stop, wake_step}
 use Rattle.token.specs.declared.due.Due.{Due}
 use Rattle.token.specs.declared.due.Due.TheVariants as due
@@ -74,7 +73,8 @@ work_from setup base thread quantum =
 
 -- what the turn of who is due needs
 abbrev pub need_of : Point → Due → Need
-need_of point (due.Fresh thread) = need.Segment (work_from point.setup (base_at point (due.Fresh thread)) thread point.setup.quantum)
+need_of point (due.Fresh thread) =
+    need.Segment (work_from point.setup (base_at point (due.Fresh thread)) thread (quantum_in point.setup point.phase thread point.base_threads))
 need_of point (due.Keeper thread) = need.Keeper (work_from point.setup (base_at point (due.Keeper thread)) thread None)
 need_of point (due.Woken thread mutex) = need.Wake thread
 
@@ -158,7 +158,8 @@ next_phase point list =
 -- the next phase begins where the list is used up
 unfoldable pub passed_on : Point → Point
 passed_on point =
-    if is_some point.ended || is_some point.keeper || nat_lt point.given (length point.list) then point else next_phase point (serial_list point.state.threads)
+    if is_some point.ended || is_some point.keeper || nat_lt point.given (length point.list) then point
+    else next_phase point (list_in point.setup (point.phase + 1) point.state.threads)
 
 -- where a run stands after a step
 abbrev pub moved : Point → Step → Point

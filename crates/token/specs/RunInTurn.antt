@@ -25,7 +25,7 @@ base_or (Some snapshot) memory = cells_of snapshot
 unfoldable pub point_of : RunInTurn → Point
 point_of run =
     record {
-      setup = record { entry = run.entry; memory = cells_of run.first; input = input_of run.shared; bound = run.bound; quantum = run.quantum };
+      setup = record { entry = run.entry; memory = cells_of run.first; input = input_of run.shared; bound = run.bound; quantum = run.quantum; shuffle = run.shuffle };
       phase = run.phase.number;
       first = run.phase.first;
       base = base_or run.phase.base (state_of run.shared).memory;

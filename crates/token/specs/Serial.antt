@@ -1,12 +1,12 @@
 -- What holds of a serial state: its turns are a legal history.
 use Rattle.std.specs.Prelude.{◌≡◌, ℕ, ◌+◌, ◌<◌, ◌≤◌, Option, None, List, [], ◌++◌, length, drop, take}
 use Rattle.abi.specs.Limits as limit
-use Rattle.thread_table.specs.Threads.{serial_list}
 use Rattle.token.specs.Change.{Change}
 use Rattle.token.specs.History.{History, IsHeldByKeeper, IsNextPhase, turns_of, changes_of, present, version, first_version, heads, keeper_of, outcome}
 use Rattle.token.specs.Legal.{IsLegal, Follows}
 use Rattle.token.specs.Point.{Point, IsNeededAt, step_at}
 use Rattle.token.specs.RunInTurn.{point_of}
+use Rattle.token.specs.Setup.{list_in}
 use Rattle.token.specs.declared.run_in_turn.RunInTurn.{RunInTurn}
 use Rattle.segment.specs.declared.segment_end.SegmentEnd.{SegmentEnd}
 use Rattle.token.specs.declared.turn.Turn.{Turn}
@@ -20,7 +20,7 @@ pub record StandsAfter (point : Point) (history : History) : Type 0 where
   pub first : first_version history point.phase ≡ point.first
   pub base : (version point.setup history point.first).memory ≡ point.base
   pub base_threads : (version point.setup history point.first).threads ≡ point.base_threads
-  pub list : serial_list point.base_threads ≡ point.list
+  pub list : list_in point.setup point.phase point.base_threads ≡ point.list
   pub heads : heads history point.phase ≡ take point.given point.list
   pub keeper : keeper_of history ≡ point.keeper
   pub ended : outcome point.setup history ≡ point.ended

@@ -1,5 +1,5 @@
 //! The present phase: its first memory and threads, and who is left in its list.
-ghost use Rattle.std.specs.Prelude.{◌≡◌, ◌+◌, ◌^◌, ◌<◌, None};
+ghost use Rattle.std.specs.Prelude.{◌≡◌, ◌+◌, ◌^◌, ◌<◌, None, All, length};
 
 use paged_memory::Snapshot;
 use std::alloc::AllocError;
@@ -16,7 +16,7 @@ pub(crate) struct Phase {
     pub(crate) base: Option<Snapshot>,
     /// The threads that it began with.
     pub(crate) threads: Threads,
-    /// The threads that have a turn in it, ascending.
+    /// The threads that have a turn in it, in the order of their turns.
     pub(crate) list: ThreadNumbers,
     /// How many of the list were given the token.
     pub(crate) given: usize,
@@ -25,6 +25,8 @@ pub(crate) struct Phase {
 impl Phase {
     ghost use Rattle.std.specs.Prelude.{IfOk, option_map};
     ghost use Rattle.paged_memory.specs.Snapshot.{cells_of};
+    ghost use Rattle.thread_table.specs.Status.{is_ready};
+    ghost use Rattle.token.specs.Segments.{jobs_of, row_in};
 
     /// The same phase. The memory's pages are shared, all else is copied.
     pub(crate) fn try_clone(&self) -> Result<Self, AllocError>
@@ -52,6 +54,28 @@ impl Phase {
             list,
             given: self.given,
         })
+    }
+
+    /// The threads of its list that are ready where it begins, in the order of their turns.
+    pub(crate) fn jobs(&self) -> ThreadNumbers
+        requires { All (λ n. n < length self.now.threads) self.now.list.items }
+        ensures { result.items ≡ jobs_of self.now.threads self.now.list.items }
+    {
+        let mut jobs = ThreadNumbers::new();
+        for thread in self.list.as_slice() {
+            if self.is_ready(*thread) {
+                jobs.push(*thread);
+            }
+        }
+        jobs
+    }
+
+    /// Whether a thread is ready where it begins.
+    fn is_ready(&self, thread: u32) -> bool
+        requires { thread < length self.now.threads }
+        ensures { result ≡ is_ready (row_in self.now.threads thread).status }
+    {
+        self.threads.get(thread).status.is_ready()
     }
 
     /// The next phase begins, with these threads and this list, after so many turns.

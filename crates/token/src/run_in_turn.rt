@@ -16,7 +16,8 @@ use crate::verdict::{keeper_after, outcome_of_stop, quiet_outcome};
 use call_table::SharedState;
 use commit::changed;
 use paged_memory::Snapshot;
-use segment::SegmentEnd;
+use segment::{Segment, SegmentEnd};
+use shuffled_phases::{Shuffle, list_of, quantum_of};
 use std::alloc::AllocError;
 use thread_table::{Status, Thread};
 
@@ -33,6 +34,7 @@ pub struct RunInTurn {
     pub(crate) first: Snapshot,
     pub(crate) bound: u64,
     pub(crate) quantum: Option<u64>,
+    pub(crate) shuffle: Option<Shuffle>,
     pub(crate) phase: Phase,
     pub(crate) shared: SharedState,
     /// The thread that keeps the token.
@@ -51,6 +53,8 @@ impl RunInTurn {
     ghost use Rattle.call_table.specs.State.{row_of};
     ghost use Rattle.token.specs.Due.{thread_due};
     ghost use Rattle.token.specs.RunInTurn.{point_of, HasDue, IsAmid, IsDue, MayTurn, TakesTurn};
+    ghost use Rattle.token.specs.Segments.{segment_in};
+    ghost use Rattle.token.specs.Setup.{quantum_in};
 
     /// The same run. The pages of its memories are shared, all else is copied.
     pub(crate) fn try_clone(&self) -> Result<Self, AllocError>
@@ -61,6 +65,7 @@ impl RunInTurn {
             first: self.first.try_clone()?,
             bound: self.bound,
             quantum: self.quantum,
+            shuffle: self.shuffle,
             phase: self.phase.try_clone()?,
             shared: self.shared.try_clone()?,
             keeper: self.keeper,
@@ -129,10 +134,32 @@ impl RunInTurn {
         }
         let due = self.due();
         match due {
-            Due::Fresh { .. } => Need::Segment(self.work(due, self.quantum)),
+            Due::Fresh { thread } => Need::Segment(self.work(due, self.quantum_of(thread))),
             Due::Keeper { .. } => Need::Keeper(self.work(due, None)),
             Due::Woken { thread, .. } => Need::Wake { thread },
         }
+    }
+
+    /// The quantum of a thread's fresh segment in the present phase.
+    fn quantum_of(&self, thread: u32) -> Option<u64>
+        ensures { result ≡ quantum_in (point_of self.now).setup (point_of self.now).phase thread (point_of self.now).base_threads }
+    {
+        quantum_of(
+            self.shuffle,
+            self.quantum,
+            self.phase.number,
+            thread,
+            &self.phase.threads,
+        )
+    }
+
+    /// The segment of a thread in the present phase, if it is fresh there.
+    pub(crate) fn segment_of(&self, thread: u32) -> Segment
+        requires { thread < length (point_of self.now).base_threads }
+        ensures { result ≡ segment_in (point_of self.now).setup (point_of self.now).phase (point_of self.now).base_threads thread }
+    {
+        let row = self.phase.threads.get(thread);
+        segment_of(row, self.bound, self.quantum_of(thread))
     }
 
     /// The segment of who is due, with this quantum.
@@ -252,7 +279,7 @@ impl RunInTurn {
         {
             return;
         }
-        let list = self.shared.threads().serial_list();
+        let list = list_of(self.shuffle, self.phase.number + 1, self.shared.threads());
         if list.is_empty() {
             self.outcome = Some(quiet_outcome(&self.shared));
             return;

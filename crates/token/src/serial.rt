@@ -1,7 +1,7 @@
 //! The serial state: a run whose turns are a legal history. Memory is taken before anything changes.
 #![tactic(auto, unfolding(crate::specs::RunInTurn::point_of))]
 
-ghost use Rattle.std.specs.Prelude.{◌≡◌, ◌^◌, ◌<◌, ◌≤◌, ◌↔◌, [], None, Some, IsTrue, OnOk, OnErr, IfOk, IfErr, option_map};
+ghost use Rattle.std.specs.Prelude.{◌≡◌, ◌^◌, ◌<◌, ◌≤◌, ◌↔◌, [], None, Some, All, IsTrue, OnOk, OnErr, IfOk, IfErr, drop, length, option_map};
 ghost use Rattle.token.specs.Point as point;
 
 use crate::kept::Kept;
@@ -15,10 +15,11 @@ use crate::turn_fault::TurnFault;
 use commit::Patch;
 use condvar_barrier::Objects;
 use paged_memory::Snapshot;
-use segment::SegmentEnd;
+use segment::{Segment, SegmentEnd};
+use shuffled_phases::Shuffle;
 use std::alloc::AllocError;
 use std::marker::Model;
-use thread_table::Threads;
+use thread_table::{ThreadNumbers, Threads};
 
 /// The patch of a segment's end, and none at a wake.
 fn patch_of(end: Option<&SegmentEnd>) -> Option<&Patch>
@@ -56,6 +57,7 @@ impl<R: Recorder> Serial<R> {
     ghost use Rattle.token.specs.History.{IsHeldByKeeper};
     ghost use Rattle.token.specs.Point.{need_at, moved, step_at};
     ghost use Rattle.token.specs.RunInTurn.{point_of};
+    ghost use Rattle.token.specs.Segments.{jobs_of, segment_in};
     ghost use Rattle.token.specs.Serial.{HasRecorded, IsAskedFor, IsLawful, IsLonger, IsNeeded, IsStart, fresh_at};
     ghost use Rattle.token.specs.declared.turn_fault.TurnFault.TheVariants.{WriteFailed};
 
@@ -149,11 +151,34 @@ impl<R: Recorder> Serial<R> {
         self.run.phase.number
     }
 
-    /// The threads that have a turn in the present phase, ascending.
+    /// The threads that have a turn in the present phase, in the order of their turns.
     pub fn list(&self) -> &[u32]
         ensures { result.now ≡ (point_of self.now).list }
     {
         self.run.phase.list.as_slice()
+    }
+
+    /// Those of the list that weren't given the token, in the order of their turns.
+    pub fn rest(&self) -> &[u32]
+        ensures { result.now ≡ drop (point_of self.now).given (point_of self.now).list }
+    {
+        &self.run.phase.list.as_slice()[self.run.phase.given..]
+    }
+
+    /// The threads that have a segment in the present phase, in the order of their turns: those of its list that are ready where it begins.
+    pub fn jobs(&self) -> ThreadNumbers
+        ensures jobs { result.items ≡ jobs_of (point_of self.now).base_threads (point_of self.now).list }
+        ensures made { All (λ n. n < length (point_of self.now).base_threads) result.items }
+    {
+        self.run.phase.jobs()
+    }
+
+    /// The segment of a thread in the present phase, if it is fresh there.
+    pub fn segment_of(&self, thread: u32) -> Segment
+        requires { thread < length (point_of self.now).base_threads }
+        ensures { result ≡ segment_in (point_of self.now).setup (point_of self.now).phase (point_of self.now).base_threads thread }
+    {
+        self.run.segment_of(thread)
     }
 
     /// The threads at the start of the present phase.
@@ -175,6 +200,13 @@ impl<R: Recorder> Serial<R> {
         ensures { result ≡ (point_of self.now).setup.quantum }
     {
         self.run.quantum
+    }
+
+    /// The number of the schedule, with the phases that it shuffles.
+    pub fn shuffle(&self) -> Option<Shuffle>
+        ensures { result ≡ (point_of self.now).setup.shuffle }
+    {
+        self.run.shuffle
     }
 
     /// Whether as many turns were done as a run may have.

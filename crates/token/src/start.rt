@@ -11,6 +11,7 @@ use crate::serial::Serial;
 use call_table::SharedState;
 use elf32_reader::Image;
 use paged_memory::Snapshot;
+use shuffled_phases::{Shuffle, choices_at_start, list_of, number_at_start};
 use std::alloc::{AllocError, Global};
 use std::marker::Model;
 use thread_table::Threads;
@@ -38,29 +39,32 @@ impl Start {
     ghost use Rattle.token.specs.Setup.{setup_of};
 
     /// A run of a program with this input, in which each thread may execute `bound` instructions, and a
-    /// segment ends after `quantum` instructions at the latest.
+    /// segment ends after `quantum` instructions at the latest. A number may shuffle its phases.
     pub fn open(
         alloc: Global,
         image: &Image,
         input: &[u8],
         bound: u64,
         quantum: Option<u64>,
+        shuffle: Option<Shuffle>,
     ) -> Result<Self, AllocError>
         requires bound { bound ≤ limit.instructions }
         requires some { 0 < bound }
         requires quantum { IfSome quantum (λ quantum. quantum ≤ limit.instructions) }
         requires some_quantum { IfSome quantum (λ quantum. 0 < quantum) }
-        ensures setup { IfOk result (λ start. (point_of start).setup ≡ setup_of image.now input.now bound quantum) }
+        ensures setup { IfOk result (λ start. (point_of start).setup ≡ setup_of image.now input.now bound quantum shuffle) }
         ensures done { IfOk result (λ start. (point_of start).done ≡ 0) }
         ensures output { IfOk result (λ start. (point_of start).state.output ≡ []) }
     {
         let first = Snapshot::of_image(alloc, image)?;
         let input = Vec::from_slice(alloc, input)?;
         let entry = image.entry();
-        let shared = SharedState::new(alloc, first.try_clone()?, entry, input);
+        let number = number_at_start(shuffle);
+        let choices = choices_at_start(shuffle);
+        let shared = SharedState::new(alloc, first.try_clone()?, entry, number, choices, input);
         let mut threads = Threads::new();
         threads.copy_from(shared.threads());
-        let list = threads.serial_list();
+        let list = list_of(shuffle, 1, &threads);
         let phase = Phase {
             number: 1,
             first: 0,
@@ -75,6 +79,7 @@ impl Start {
                 first,
                 bound,
                 quantum,
+                shuffle,
                 phase,
                 shared,
                 keeper: None,
