@@ -1,10 +1,10 @@
 -- Lists of events.
-use Rattle.std.proofs.Common.{◌≡◌, ◌∙◌, ℕ, Bool, true, false, Option, Some, None, List, [], ◌∷◌, ◌++◌, length, refl, ap, sym, subst, take}
+use Rattle.std.proofs.Common.{◌≡◌, ◌+◌, ◌∙◌, ℕ, Bool, true, false, Option, Some, None, List, [], ◌∷◌, ◌++◌, length, refl, ap, sym, subst, take}
 use Rattle.std.specs.Prelude.{Ok, Err, is_some, if◌then◌else◌, ◌==◌, ◌||◌, nat_lt, slice_get}
 use Rattle.schedule.specs.declared.event.Event.{Event}
 use Rattle.schedule.specs.declared.event.Event.TheVariants.{Draw, Step as AStep, Note, Skip, Post, Hold, Turn}
-use Rattle.thread_table.specs.Threads.{serial_list}
 use Rattle.token.specs.Point.{Point, after_step, counted, moved, next_phase, passed_on, step_at}
+use Rattle.token.specs.Setup.{list_in}
 use Rattle.token.specs.Turns.{Step}
 use Rattle.schedule_core.specs.Faults.{IsAnswerTo}
 use Rattle.schedule_core.specs.Tally.{HappenInTurn, Happens, IsRefusedAt, Moves, Tally, refusal_of}
@@ -55,7 +55,7 @@ moved_setup : (point : Point) (step : Step) → (moved point step).setup ≡ poi
 unfolding passed_on next_phase after_step counted
 moved_setup point step =
     let after : Point = after_step point step in
-    going_setup after (serial_list after.state.threads) (is_some after.ended || is_some after.keeper || nat_lt after.given (length after.list)) (length (serial_list after.state.threads) == 0)
+    going_setup after (list_in after.setup (after.phase + 1) after.state.threads) (is_some after.ended || is_some after.keeper || nat_lt after.given (length after.list)) (length (list_in after.setup (after.phase + 1) after.state.threads) == 0)
 
 moves_setup : (before after : Point) (event : Event) → Moves before after event → after.setup ≡ before.setup
 moves_setup before after (Draw worker) moves = ap (λ (point : Point). point.setup) moves

@@ -1,10 +1,10 @@
 -- What a turn changes of what stands beside it.
 use Rattle.std.proofs.Common.{◌≡◌, ◌∙◌, ℕ, zero, suc, ◌+◌, Bool, true, false, Option, Some, None, List, ◌∷◌, length, refl, ap, sym, subst, arith}
 use Rattle.std.specs.Prelude.{is_some, if◌then◌else◌, ◌==◌, ◌||◌, nat_lt}
-use Rattle.thread_table.specs.Threads.{serial_list}
 use Rattle.token.specs.Outcome.{quiet_outcome}
 use Rattle.token.specs.Point.{Point, after_step, due_at, moved, need_at, need_by, counted, need_of, next_phase, passed_on}
 use Rattle.token.specs.Serial.{IsLonger}
+use Rattle.token.specs.Setup.{list_in}
 use Rattle.token.specs.Turns.{Step}
 use Rattle.token.specs.declared.due.Due.{Due}
 use Rattle.token.specs.declared.due.Due.TheVariants as due
@@ -61,7 +61,7 @@ pub same_start : (point : Point) (step : Step) → (moved point step).phase ≡ 
 unfolding passed_on next_phase after_step counted
 same_start point step same =
     let after : Point = after_step point step in
-    by_going after (serial_list after.state.threads) (is_some after.ended || is_some after.keeper || nat_lt after.given (length after.list)) (length (serial_list after.state.threads) == 0) same
+    by_going after (list_in after.setup (after.phase + 1) after.state.threads) (is_some after.ended || is_some after.keeper || nat_lt after.given (length after.list)) (length (list_in after.setup (after.phase + 1) after.state.threads) == 0) same
 
 -- the segment that the next turn needs is that of a thread in this phase
 segment_work : (point : Point) (work : Work) → need_at point ≡ need.Segment work → work ≡ work_of (start_of point) work.thread

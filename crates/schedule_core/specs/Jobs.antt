@@ -3,30 +3,31 @@ use Rattle.std.specs.Prelude.{ℕ, ◌==◌, Option, List, position, slice_index
 use Rattle.guest_memory.specs.Memory.{Memory}
 use Rattle.schedule.specs.Phase.{Verdicts}
 use Rattle.schedule.specs.Verdict.{Verdict, verdict_after}
-use Rattle.thread_table.specs.Threads.{ready_list}
 use Rattle.thread_table.specs.declared.thread.Thread.{Thread}
 use Rattle.token.specs.Point.{Point}
-use Rattle.token.specs.Segments.{segment_in}
+use Rattle.token.specs.Segments as segments
 use Rattle.token.specs.Setup.{Setup}
 use Rattle.token.specs.declared.need.Work.{Work}
 
--- what a phase begins with: what the run was given, and the memory and the threads of the phase's first version
+-- what a phase begins with: what the run was given, the phase's number, the memory and the threads of its first version, and its list
 pub record Start : Type 0 where
   pub setup : Setup
+  pub phase : ℕ
   pub memory : Memory
   pub threads : List Thread
+  pub list : List ℕ
 
 -- what the present phase began with
 abbrev pub start_of : Point → Start
-start_of point = record { setup = point.setup; memory = point.base; threads = point.base_threads }
+start_of point = record { setup = point.setup; phase = point.phase; memory = point.base; threads = point.base_threads; list = point.list }
 
--- the threads of the phase's jobs: job j is that of the j-th ready thread
+-- the threads of the phase's jobs: job j is that of the j-th thread of the list that is ready where the phase begins
 unfoldable pub jobs_of : Start → List ℕ
-jobs_of start = ready_list start.threads
+jobs_of start = segments.jobs_of start.threads start.list
 
 -- the segment of a thread in this phase
 unfoldable pub work_of : Start → ℕ → Work
-work_of start thread = record { thread = thread; segment = segment_in start.setup start.threads thread }
+work_of start thread = record { thread = thread; segment = segments.segment_in start.setup start.phase start.threads thread }
 
 -- the segment of a job
 unfoldable pub work_at : Start → ℕ → Work

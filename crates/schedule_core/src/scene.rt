@@ -4,7 +4,7 @@ use crate::slot::Slot;
 use crate::underway::Underway;
 use schedule::Event;
 use std::alloc::AllocError;
-use token::{Kept, RunOutcome, Serial, Work, segment_of};
+use token::{Kept, RunOutcome, Serial, Work};
 
 /// The serial state of a run with the half-run jobs of its present phase.
 #[derive(Drop)]
@@ -37,10 +37,9 @@ impl Scene {
         requires { thread < length (start_in self.now).threads }
         ensures { result ≡ work_of (start_in self.now) thread }
     {
-        let row = self.serial.base_threads().get(thread);
         Work {
             thread,
-            segment: segment_of(row, self.serial.bound(), self.serial.quantum()),
+            segment: self.serial.segment_of(thread),
         }
     }
 
@@ -67,7 +66,7 @@ impl Scene {
         if self.drawn as usize >= self.slots.len() {
             return Ok(Seat::Ended);
         }
-        let jobs = self.serial.base_threads().ready_list();
+        let jobs = self.serial.jobs();
         let work = self.work_of(jobs.as_slice()[self.drawn as usize]);
         let base = self.serial.base().try_clone()?;
         Ok(Seat::Working(Held {

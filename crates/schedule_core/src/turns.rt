@@ -106,7 +106,7 @@ impl Scene {
     fn job_of(&self, thread: u32) -> Option<usize>
         ensures { result ≡ job_of (start_in self.now) thread }
     {
-        let jobs = self.serial.base_threads().ready_list();
+        let jobs = self.serial.jobs();
         jobs.as_slice().iter().position(|number| *number == thread)
     }
 
@@ -181,7 +181,7 @@ impl Scene {
         requires keeper { self.old.keeper ≡ None }
         ensures { Settles self.old (opened_in self.old) self.new }
     {
-        let jobs = self.serial.base_threads().ready_list().len();
+        let jobs = self.serial.jobs().len();
         let workers = self.seats.len();
         self.drawn = 0;
         self.least = jobs as u32;

@@ -8,6 +8,7 @@ use elf32_reader::Image;
 use hart::Hart;
 use paged_memory::Snapshot;
 use schedule::Event;
+use shuffled_phases::Shuffle;
 use std::alloc::{AllocError, Global};
 use std::marker::Model;
 use thread_table::CAPACITY;
@@ -63,6 +64,7 @@ impl World {
         input: &[u8],
         bound: u64,
         quantum: Option<u64>,
+        shuffle: Option<Shuffle>,
         workers: u32,
     ) -> Result<Self, AllocError>
         requires bound { bound ≤ span.instructions }
@@ -71,12 +73,12 @@ impl World {
         requires some_quantum { IfSome quantum (λ quantum. 0 < quantum) }
         requires few { workers ≤ limit.workers }
         requires some_workers { 0 < workers }
-        ensures setup { IfOk result (λ world. (point_at world).setup ≡ setup_of image.now input.now bound quantum) }
+        ensures setup { IfOk result (λ world. (point_at world).setup ≡ setup_of image.now input.now bound quantum shuffle) }
         ensures done { IfOk result (λ world. (point_at world).done ≡ 0) }
         ensures tally { IfOk result (λ world.
             tally_of world ≡ record { turns = 0; counts = opened (length (jobs_of (start_in world))) workers; keeper = begun }) }
     {
-        let start = Start::open(alloc, image, input, bound, quantum)?;
+        let start = Start::open(alloc, image, input, bound, quantum, shuffle)?;
         World::of_start(alloc, start, workers)
     }
 

@@ -1,6 +1,5 @@
 use Rattle.std.proofs.Common.{◌≡◌, ◌∙◌, ◌≤◌, ℕ, ap, arith, refl, length}
 use Rattle.std.proofs.lemmas.Grind.{common_steps}
-use Rattle.thread_table.specs.Threads.{ready_list}
 use Rattle.schedule.specs.Phase.{opened}
 use Rattle.schedule_core.proofs.Turning.{opened_desk, opened_told}
 use Rattle.schedule_core.specs.Jobs.{jobs_of}
@@ -10,7 +9,7 @@ use Rattle.schedule_core.proofs.scene.Scene.open_phase.Goals as goal
 pub returns : goal.returns
 unfolding jobs_of
 returns c =
-    let jobs : c.len-jobs.result ≡ length (jobs_of (start_in c.args.self.now)) = c.len-jobs.ensures.value ∙ ap length c.ready_list.ensures.list ∙ ap (λ threads. length (ready_list threads)) c.base_threads.ensures in
+    let jobs : c.len-jobs.result ≡ length (jobs_of (start_in c.args.self.now)) = c.len-jobs.ensures.value ∙ ap length c.jobs.ensures.jobs in
     let few : c.len-workers.result ≤ 64 = grind (arith, common_steps) in
     let fits = c.len-jobs.ensures.fits in
     let workers : c.len-workers.result ≡ length c.args.self.now.seats.items = grind (arith, common_steps) in
