@@ -11,4 +11,4 @@ use Rattle.token.specs.Setup.{Setup}
 -- Wherever in a phase a run of this setup stands, the end is that of a thread's segment on the memory that the phase began with.
 abbrev pub IsEndIn : Setup → ℕ → ℕ → SegmentEnd → Type 0
 IsEndIn setup phase thread end =
-    (point : Point) (history : History) → StandsAfter point history → point.setup ≡ setup → point.phase ≡ phase → IsEndOf point.base (segment_in setup point.base_threads thread) end
+    (point : Point) (history : History) → StandsAfter point history → point.setup ≡ setup → point.phase ≡ phase → IsEndOf point.base (segment_in setup phase point.base_threads thread) end

@@ -19,13 +19,13 @@ pub record PoolState : Type 0 where
   pub hands : ℕ
 
 -- the jobs of some threads in a phase that began with these rows
-abbrev pub jobs_in : Setup → List Thread → List ℕ → List Segment
-jobs_in setup rows threads = map (segment_in setup rows) threads
+abbrev pub jobs_in : Setup → (phase : ℕ) → List Thread → List ℕ → List Segment
+jobs_in setup phase rows threads = map (segment_in setup phase rows) threads
 
 -- Wherever in a phase a run of this setup stands, these are the jobs of these threads, and this is the memory that the phase began with.
 abbrev pub AreJobsIn : Setup → ℕ → List ℕ → List Segment → Memory → Type 0
 AreJobsIn setup number threads jobs memory =
-    (point : Point) (history : History) → StandsAfter point history → point.setup ≡ setup → point.phase ≡ number → (memory ≡ point.base) × (jobs ≡ jobs_in setup point.base_threads threads)
+    (point : Point) (history : History) → StandsAfter point history → point.setup ≡ setup → point.phase ≡ number → (memory ≡ point.base) × (jobs ≡ jobs_in setup number point.base_threads threads)
 
 -- A run of a setup is asked for its next turn.
 pub record IsAsked (given : Setup) (run : RunInTurn) : Type 0 where

@@ -12,5 +12,6 @@ mod pool;
 
 pub use ends_of_run::EndsOfRun;
 pub use of_run::OfRun;
+pub use opening::jobs_of;
 pub use phase_workers::Crew;
 pub use pool::Pool;

@@ -12,5 +12,5 @@ pub trait OfRun {
 impl OfRun for Brand {
     ghost use Rattle.std.specs.Prelude.{None, []};
 
-    ghost setup = { record { entry = 0; memory = λ _. None; input = []; bound = 0; quantum = None } };
+    ghost setup = { record { entry = 0; memory = λ _. None; input = []; bound = 0; quantum = None; shuffle = None } };
 }

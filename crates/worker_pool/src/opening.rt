@@ -1,9 +1,8 @@
 //! A phase of a run is made ready and shared out.
-ghost use Rattle.std.specs.Prelude.{◌≡◌, ◌<◌, ◌≤◌, All, length, map, vec_len, IfOk};
+ghost use Rattle.std.specs.Prelude.{◌≡◌, ◌<◌, ◌≤◌, All, length, vec_len, IfOk};
 ghost use Rattle.claim_table.specs.Logs.{most_seats};
 ghost use Rattle.paged_memory.specs.Snapshot.{cells_of};
 ghost use Rattle.token.specs.RunInTurn.{point_of};
-ghost use Rattle.token.specs.Segments as segments;
 ghost use Rattle.worker_pool.specs.Jobs.{IsAsked, jobs_in};
 
 use crate::ends_of_run::EndsOfRun;
@@ -15,24 +14,22 @@ use phase_workers::{Desk, Hand, SharedPhase};
 use segment::Segment;
 use std::alloc::{AllocError, Global};
 use std::sync::Wait;
-use thread_table::Threads;
-use token::{Recorder, Serial, segment_of};
+use token::{Recorder, Serial};
 
-/// The jobs of some threads, in their order.
-fn jobs_of(
+/// The jobs of some threads in the present phase of a run, in their order.
+pub fn jobs_of<K: Recorder>(
     alloc: Global,
-    rows: &Threads,
+    serial: &Serial<K>,
     threads: &[u32],
-    bound: u64,
-    quantum: Option<u64>,
 ) -> Result<Vec<Segment>, AllocError>
-    requires { All (λ thread. thread < length rows.now) threads.now }
+    requires { All (λ thread. thread < length (point_of serial.now).base_threads) threads.now }
     ensures { IfOk result (λ jobs.
-        jobs.items ≡ map (λ thread. segments.segment_of bound quantum (segments.row_in rows.now thread)) threads.now) }
+        jobs.items ≡ jobs_in (point_of serial.now).setup (point_of serial.now).phase
+        (point_of serial.now).base_threads threads.now) }
 {
     let mut jobs = Vec::with_capacity(alloc, threads.len())?;
     for thread in threads {
-        jobs.push(segment_of(rows.get(*thread), bound, quantum))?;
+        jobs.push(serial.segment_of(*thread))?;
     }
     Ok(jobs)
 }
@@ -48,17 +45,12 @@ fn shared_phase<B: OfRun, K: Recorder>(
     ensures some { IfOk result (λ made. 0 < vec_len made.1) }
     ensures seats { IfOk result (λ made. All (λ seat. seat.row ≡ made.0.phase.row) made.1.items) }
     ensures base { IfOk result (λ made. cells_of made.0.phase.base ≡ (point_of serial.now).base) }
-    ensures jobs { IfOk result (λ made. made.0.phase.jobs ≡ jobs_in B.setup (point_of serial.now).base_threads made.0.names) }
+    ensures jobs { IfOk result (λ made. made.0.phase.jobs
+        ≡ jobs_in B.setup (point_of serial.now).phase (point_of serial.now).base_threads made.0.names) }
 {
-    let ready = serial.base_threads().ready_list();
+    let ready = serial.jobs();
     let threads = Vec::from_slice(alloc, ready.as_slice())?;
-    let jobs = jobs_of(
-        alloc,
-        serial.base_threads(),
-        threads.as_slice(),
-        serial.bound(),
-        serial.quantum(),
-    )?;
+    let jobs = jobs_of(alloc, serial, threads.as_slice())?;
     let (phase, seats) = SharedJobs::open(alloc, jobs.as_slice(), seats, serial.base())?;
     Ok((SharedPhase::new(serial.phase(), threads, phase), seats))
 }
@@ -73,13 +65,13 @@ fn first_seat<B: OfRun>(shared: &SharedPhase<EndsOfRun<B>>, seats: &mut Vec<Draw
     seats.remove(0)
 }
 
-/// Draws the jobs of the threads below one. They have had their turns, so nobody needs to execute these jobs.
-fn draw_below<B: OfRun>(shared: &SharedPhase<EndsOfRun<B>>, seat: &mut DrawSeat, thread: u32)
+/// Draws the jobs of the threads before one. They have had their turns, so nobody needs to execute these jobs.
+fn draw_before<B: OfRun>(shared: &SharedPhase<EndsOfRun<B>>, seat: &mut DrawSeat, thread: u32)
     requires { seat.old.row ≡ shared.now.phase.row }
     ensures { seat.new.row ≡ seat.old.row }
 {
     for name in shared.names() {
-        if *name >= thread {
+        if *name == thread {
             return;
         }
         let _ = shared.jobs().draw(seat);
@@ -99,14 +91,14 @@ pub(crate) fn share_out<B: OfRun + Send + Sync, R: Wait, K: Recorder>(
     requires run { IsAsked B.setup serial.now }
     requires most { (0 < most) × (most ≤ most_seats) }
 {
-    let jobs = serial.base_threads().ready_list().len();
+    let jobs = serial.jobs().len();
     if jobs < 2 {
         return Ok(false);
     }
     let hands = most.min(jobs as u32);
     let (shared, mut seats) = shared_phase::<B, K>(alloc, serial, hands)?;
     let mut seat = first_seat(&shared, &mut seats);
-    draw_below(&shared, &mut seat, from.thread);
+    draw_before(&shared, &mut seat, from.thread);
     let shared = shared.with_told(from.told);
     desk.share(rt, alloc, shared, Hand { seat, held: None }, seats)?;
     Ok(true)

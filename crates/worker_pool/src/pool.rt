@@ -88,7 +88,7 @@ impl<B: OfRun + Send + Sync> Pool<B> {
         self.credit > 0
             && self.hands < self.most
             && serial.list().len() > hands
-            && serial.base_threads().ready_list().len() > hands
+            && serial.jobs().len() > hands
     }
 
     /// One host thread more serves.

@@ -1,7 +1,8 @@
 use Rattle.std.proofs.Common.{◌≡◌, take}
-use Rattle.std.specs.Prelude.{map}
-use Rattle.token.specs.Segments.{row_in, segment_of}
+use Rattle.token.specs.RunInTurn.{point_of}
+use Rattle.worker_pool.specs.Jobs.{jobs_in}
 use Rattle.worker_pool.proofs.opening.jobs_of.Given as goal
 
 abbrev pub invariant-loop-thread : goal.invariant-loop-thread
-invariant-loop-thread l = l.jobs.items ≡ map (λ thread. segment_of l.bound l.quantum (row_in l.rows thread)) (take l.thread-index l.threads)
+invariant-loop-thread g l =
+    l.jobs.items ≡ jobs_in (point_of l.serial).setup (point_of l.serial).phase (point_of l.serial).base_threads (take l.thread-index l.threads)
