@@ -5,11 +5,11 @@ use Rattle.races.specs.Recording.{Records}
 use Rattle.races.specs.declared.event.Event.{Event}
 use Rattle.races.specs.declared.recorder.RaceRecorder.{RaceRecorder}
 use Rattle.segment.specs.declared.segment_end.SegmentEnd.{SegmentEnd}
-use Rattle.thread_table.specs.Threads.{serial_list}
 use Rattle.token.specs.Outcome.{quiet_outcome}
 use Rattle.token.specs.Point.{Point, IsNeededAt, IsNeededBy, after_step, counted, moved, need_at, next_phase, passed_on, step_at}
 use Rattle.token.specs.History.{History}
 use Rattle.token.specs.Serial.{StandsAfter}
+use Rattle.token.specs.Setup.{list_in}
 use Rattle.token.specs.Turns.{Step}
 use Rattle.token.specs.declared.need.Need.{Need}
 use Rattle.token.specs.declared.need.Need.TheVariants as need
@@ -26,11 +26,11 @@ use Rattle.observed_run.proofs.Told.{told_more}
 passed_state : (point : Point) → (passed_on point).state ≡ point.state
 unfolding passed_on next_phase
 passed_state point =
-    by_test (is_some point.ended || is_some point.keeper || nat_lt point.given (length point.list)) (length (serial_list point.state.threads) == 0)
+    by_test (is_some point.ended || is_some point.keeper || nat_lt point.given (length point.list)) (length (list_in point.setup (point.phase + 1) point.state.threads) == 0)
   where
     by_test : (goes empty : Bool) → (if goes then point
         else (if empty then record point { ended = Some (quiet_outcome point.state) }
-        else record point { phase = point.phase + 1; first = point.done; base = point.state.memory; base_threads = point.state.threads; list = serial_list point.state.threads; given = 0 })).state ≡ point.state
+        else record point { phase = point.phase + 1; first = point.done; base = point.state.memory; base_threads = point.state.threads; list = list_in point.setup (point.phase + 1) point.state.threads; given = 0 })).state ≡ point.state
     by_test true empty = refl
     by_test false true = refl
     by_test false false = refl

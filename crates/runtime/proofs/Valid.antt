@@ -1,9 +1,9 @@
 -- The numbers of a configuration in order.
-use Rattle.std.proofs.Common.{◌≡◌, ◌<◌, ◌≤◌, ◌&&◌, ℕ, true, Option, Some, None, nat_le}
+use Rattle.std.proofs.Common.{◌≡◌, ◌<◌, ◌≤◌, ◌&&◌, ℕ, Bool, true, Option, Some, None, nat_le}
 use Rattle.std.specs.Option.{option_map_or, IfSome}
 use Rattle.std.proofs.lemmas.Bool.{and_parts, leb-true}
 use Rattle.abi.specs.Limits as span
-use Rattle.runtime.specs.Config.{is_valid}
+use Rattle.runtime.specs.Config.{is_numbered, is_valid}
 use Rattle.runtime.specs.Span.{is_span}
 use Rattle.runtime.specs.declared.config.Config.{Config}
 use Rattle.run_limits.specs.Limits as limit
@@ -35,9 +35,11 @@ quantum_some (Some quantum) is = (in_span quantum is).some
 pub in_range : (config : Config) → is_valid config ≡ true → InRange config
 unfolding is_valid
 in_range config is =
-    let workers = and_parts (is_span config.bound && option_map_or is_span config.quantum true && nat_le 1 config.workers) (nat_le config.workers limit.workers) is in
-    let worker = and_parts (is_span config.bound && option_map_or is_span config.quantum true) (nat_le 1 config.workers) workers.0 in
-    let spans = and_parts (is_span config.bound) (option_map_or is_span config.quantum true) worker.0 in
+    let span : Bool = is_span config.bound && option_map_or is_span config.quantum true in
+    let workers = and_parts (span && option_map_or is_numbered config.shuffle true && nat_le 1 config.workers) (nat_le config.workers limit.workers) is in
+    let worker = and_parts (span && option_map_or is_numbered config.shuffle true) (nat_le 1 config.workers) workers.0 in
+    let number = and_parts span (option_map_or is_numbered config.shuffle true) worker.0 in
+    let spans = and_parts (is_span config.bound) (option_map_or is_span config.quantum true) number.0 in
     let bound = in_span config.bound spans.0 in
     record {
       bound = bound.within;

@@ -27,9 +27,9 @@ IsRunnable input config = (is_valid config ≡ true) × (length input ≤ limit.
 abbrev pub IsAccepted : List ℕ → List ℕ → Config → Type 0
 IsAccepted elf input config = IsRunnable input config × (first_refusal elf ≡ None)
 
--- what a run is given: the image of the file, the input, the bound and the quantum
+-- what a run is given: the image of the file, the input, the bound, the quantum, and the schedule's number
 abbrev pub setup_from : List ℕ → List ℕ → Config → Setup
-setup_from elf input config = setup_of (image_of elf) input config.bound config.quantum
+setup_from elf input config = setup_of (image_of elf) input config.bound config.quantum config.shuffle
 
 -- why what a run is given is refused: the configuration is looked at first, then the input, then the file
 abbrev pub IsRefusedBy : List ℕ → List ℕ → Config → Refusal → Type 0

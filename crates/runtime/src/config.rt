@@ -1,8 +1,9 @@
-//! The configuration of a run: bound, quantum and workers, and whether each is in range.
+//! The configuration of a run: bound, quantum, the schedule's number and workers, and whether each is in range.
 ghost use Rattle.std.specs.Prelude.{◌≡◌};
 ghost use Rattle.runtime.specs.Span as spec;
 
 use run_limits::{MAX_BOUND, MAX_WORKERS};
+use shuffled_phases::Shuffle;
 
 /// How a file is run.
 #[derive(Clone, Copy, Debug, PartialEq, Eq)]
@@ -11,6 +12,8 @@ pub struct Config {
     pub bound: u64,
     /// How many instructions a thread executes at most before it synchronises, 1 to 2^40, or none.
     pub quantum: Option<u64>,
+    /// The schedule's number, from 1, with the phases that it shuffles, or none.
+    pub shuffle: Option<Shuffle>,
     /// How many host threads work at most, 1 to 64. It changes no answer.
     pub workers: u32,
 }
@@ -27,7 +30,15 @@ impl Config {
             Some(quantum) => is_span(quantum),
             None => true,
         };
-        is_span(self.bound) && quantum && 1 <= self.workers && self.workers <= MAX_WORKERS
+        let shuffle = match self.shuffle {
+            Some(shuffle) => 1 <= shuffle.number,
+            None => true,
+        };
+        is_span(self.bound)
+            && quantum
+            && shuffle
+            && 1 <= self.workers
+            && self.workers <= MAX_WORKERS
     }
 }
 

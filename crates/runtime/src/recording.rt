@@ -93,7 +93,14 @@ pub fn open_run(
     ensures { OpensRun elf.now input.now config.now result }
 {
     let image = open(alloc, elf, input, config)?;
-    Ok(Start::open(alloc, &image, input, config.bound, config.quantum)?)
+    Ok(Start::open(
+        alloc,
+        &image,
+        input,
+        config.bound,
+        config.quantum,
+        config.shuffle,
+    )?)
 }
 
 /// Does all turns of a run by so many host threads at most, from 1 to 64, sends the output to a sink, and tells a

@@ -1,10 +1,9 @@
 //! A taker of turns over the serial state, for one phase at a time.
-ghost use Rattle.std.specs.Prelude.{◌≡◌, ◌<◌, ◌+◌, List, All, length, map, IfOk};
+ghost use Rattle.std.specs.Prelude.{◌≡◌, ◌<◌, ◌+◌, List, length, IfOk};
 ghost use Rattle.guest_memory.specs.Memory.{Memory};
 ghost use Rattle.paged_memory.specs.Snapshot.{cells_of};
 ghost use Rattle.parallel_phase.specs.Ran.{IsRanOf};
 ghost use Rattle.segment.specs.declared.segment.Segment.{Segment as SegmentValue};
-ghost use Rattle.token.specs.Segments as segments;
 ghost use Rattle.token.specs.RunInTurn.{point_of};
 ghost use Rattle.worker_pool.specs.Jobs.{AreJobsIn};
 
@@ -14,9 +13,8 @@ use phase_jobs::Gate;
 use segment::Segment;
 use std::alloc::{AllocError, Global};
 use std::marker::{Model, PhantomData};
-use thread_table::Threads;
-use token::{Kept, Need, Serial, TurnFault, segment_of};
-use worker_pool::OfRun;
+use token::{Kept, Need, Serial, TurnFault};
+use worker_pool::{OfRun, jobs_of};
 
 /// Who does the turns of a phase of a run as its jobs end: of each job the turn of its thread, and then those that need no
 /// job, of a thread that keeps the token and of woken threads. The gate is told of each turn.
@@ -42,25 +40,6 @@ impl<'a, B: OfRun, G: Gate> Model for PhaseTurns<'a, B, G> {
     ghost view = { λ t. record { jobs = t.jobs.items; base = t.base; stage = t.stage } };
 
     ghost invariant = { λ t. IsOfPhase B.setup (point_of t.serial) t.number t.threads.items t.jobs.items t.base };
-}
-
-/// The jobs of some threads, in their order.
-fn jobs_of(
-    alloc: Global,
-    rows: &Threads,
-    threads: &[u32],
-    bound: u64,
-    quantum: Option<u64>,
-) -> Result<Vec<Segment>, AllocError>
-    requires { All (λ thread. thread < length rows.now) threads.now }
-    ensures { IfOk result (λ jobs. jobs.items
-        ≡ map (λ thread. segments.segment_of bound quantum (segments.row_in rows.now thread)) threads.now) }
-{
-    let mut jobs = Vec::with_capacity(alloc, threads.len())?;
-    for thread in threads {
-        jobs.push(segment_of(rows.get(*thread), bound, quantum))?;
-    }
-    Ok(jobs)
 }
 
 /// Does the turn of a thread whose job was run, and answers the thread. None where the run needs another one, or memory was
@@ -133,15 +112,9 @@ impl<'a, B: OfRun, G: Gate> PhaseTurns<'a, B, G> {
         ensures { IfOk result (λ turns. turns.stage ≡ New) }
     {
         serial.need();
-        let ready = serial.base_threads().ready_list();
+        let ready = serial.jobs();
         let threads = Vec::from_slice(alloc, ready.as_slice())?;
-        let jobs = jobs_of(
-            alloc,
-            serial.base_threads(),
-            threads.as_slice(),
-            serial.bound(),
-            serial.quantum(),
-        )?;
+        let jobs = jobs_of(alloc, &serial, threads.as_slice())?;
         let base = serial.base().try_clone()?;
         let number = serial.phase();
         Ok(PhaseTurns {

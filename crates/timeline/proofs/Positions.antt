@@ -7,6 +7,8 @@ use Rattle.hart.specs.Segment.{counted}
 use Rattle.hart.specs.declared.stop.Stop.{Stop}
 use Rattle.hart.specs.declared.stop.Stop.TheVariants.{Trap, Ecall, Quantum}
 use Rattle.segment.specs.Ends.{IsEndOf}
+use Rattle.shuffled_phases.proofs.Quanta as drawn
+use Rattle.token.specs.Setup.{quantum_in}
 use Rattle.token.specs.Point.{Point, IsNeededAt, IsNeededBy, base_at, due_at, need_at, need_by, need_of, work_from}
 use Rattle.token.specs.declared.due.Due.{Due}
 use Rattle.token.specs.declared.due.Due.TheVariants as due
@@ -142,7 +144,7 @@ wake_needed point none goes_on = by_need (need_at point) none goes_on
     by_need (need.Wake thread) none goes_on = tt
     by_need (need.Ended outcome) none goes_on = absurd (goes_on outcome refl)
 
--- a segment has the run's quantum or none
+-- a segment has a quantum of at least 1 or none
 pub some_quantum : (point : Point) (work : Work) → IfSome point.setup.quantum (λ q. 0 < q)
     → ((need_at point ≡ need.Segment work) → IfSome work.segment.quantum (λ q. 0 < q)) × ((need_at point ≡ need.Keeper work) → IfSome work.segment.quantum (λ q. 0 < q))
 unfolding need_at
@@ -151,8 +153,12 @@ some_quantum point work some = by_end point.ended (due_at point)
     by_end : (ended : Option RunOutcome) (who : Due)
         → ((need_by ended (need_of point who) ≡ need.Segment work) → IfSome work.segment.quantum (λ q. 0 < q)) × ((need_by ended (need_of point who) ≡ need.Keeper work) → IfSome work.segment.quantum (λ q. 0 < q))
     by_end (Some outcome) who = (λ is. cc, λ is. cc)
-    by_end None (due.Fresh thread) =
-        (λ is. let same : work_from point.setup (base_at point (due.Fresh thread)) thread point.setup.quantum ≡ work = cc is in subst (λ (w : Work). IfSome w.segment.quantum (λ q. 0 < q)) same some, λ is. cc)
+    by_end None (due.Fresh thread) = (
+      λ is.
+          let same : work_from point.setup (base_at point (due.Fresh thread)) thread (quantum_in point.setup point.phase thread point.base_threads) ≡ work = cc in
+          subst (λ (w : Work). IfSome w.segment.quantum (λ q. 0 < q)) same (drawn.some_quantum point.setup.shuffle point.setup.quantum point.phase thread point.base_threads some),
+      λ is. cc,
+    )
     by_end None (due.Keeper thread) =
         (λ is. cc, λ is. let same : work_from point.setup (base_at point (due.Keeper thread)) thread None ≡ work = cc is in subst (λ (w : Work). IfSome w.segment.quantum (λ q. 0 < q)) same tt)
     by_end None (due.Woken thread mutex) = (λ is. cc, λ is. cc)

@@ -1,5 +1,5 @@
 -- What each thread shows at a position: its registers, and the memory that it sees.
-use Rattle.std.specs.Prelude.{ℕ, ◌==◌, ◌&&◌, Bool, false, nat_lt, if◌then◌else◌, Option, Some, None, option_map, option_and_then, slice_get}
+use Rattle.std.specs.Prelude.{ℕ, ◌==◌, ◌&&◌, Bool, false, not, if◌then◌else◌, Option, Some, None, option_map, option_and_then, drop, slice_get}
 use Rattle.std.specs.List.{list_any}
 use Rattle.guest_memory.specs.Memory.{Memory}
 use Rattle.hart.specs.HartState.{HartState, next_pc, with_pc}
@@ -50,21 +50,21 @@ hart_by (Some own) thread row = if own.thread == thread then own.hart else resti
 unfoldable pub hart_shown : Moment → ℕ → Option HartState
 hart_shown moment thread = option_map (hart_by (own_at moment) thread) (row_at moment.point thread)
 
--- whether a thread comes after the one whose turn it is
-abbrev pub comes_after : Need → ℕ → Bool
-comes_after (need.Segment work) thread = nat_lt work.thread thread
-comes_after (need.Keeper work) thread = nat_lt work.thread thread
-comes_after (need.Wake woken) thread = nat_lt woken thread
-comes_after (need.Ended outcome) thread = false
+-- whether the next turn is another thread's
+abbrev pub is_anothers : Need → ℕ → Bool
+is_anothers (need.Segment work) thread = not (work.thread == thread)
+is_anothers (need.Keeper work) thread = not (work.thread == thread)
+is_anothers (need.Wake woken) thread = not (woken == thread)
+is_anothers (need.Ended outcome) thread = false
 
 abbrev pub is_ready_row : Option Thread → Bool
 is_ready_row None = false
 is_ready_row (Some row) = is_ready row.status
 
--- whether a thread is ready and its turn in the phase is to come, by the phase's list, which is ascending
+-- whether a thread is ready and its turn in the phase is to come: it is of the phase's list, and wasn't given the token
 unfoldable pub is_to_come : Point → ℕ → Bool
 is_to_come point thread =
-    is_ready_row (row_at point thread) && comes_after (need_at point) thread && list_any (λ listed. listed == thread) point.list
+    is_ready_row (row_at point thread) && is_anothers (need_at point) thread && list_any (λ listed. listed == thread) (drop point.given point.list)
 
 -- which memory a thread sees
 unfoldable pub sees_at : Moment → ℕ → Sees

@@ -83,23 +83,23 @@ impl Present {
         }
     }
 
-    /// Whether a thread is ready and its turn in the present phase is to come. The phase's list is ascending.
+    /// Whether a thread is ready and its turn in the present phase is to come.
     #[tactic(auto, unfolding(crate::specs::Shown::is_to_come))]
     fn is_to_come(&self, thread: u32) -> bool
         ensures { result ≡ shown.is_to_come (point_at self.now) thread }
     {
         self.status(thread) == Some(Status::Ready)
-            && self.comes_after(thread)
-            && self.serial.list().contains(&thread)
+            && self.is_anothers(thread)
+            && self.serial.rest().contains(&thread)
     }
 
-    /// Whether a thread comes after the one whose turn it is.
-    fn comes_after(&self, thread: u32) -> bool
-        ensures { result ≡ shown.comes_after (need_at (point_at self.now)) thread }
+    /// Whether the next turn is another thread's.
+    fn is_anothers(&self, thread: u32) -> bool
+        ensures { result ≡ shown.is_anothers (need_at (point_at self.now)) thread }
     {
         match self.serial.need() {
-            Need::Segment(work) | Need::Keeper(work) => work.thread < thread,
-            Need::Wake { thread: woken } => woken < thread,
+            Need::Segment(work) | Need::Keeper(work) => work.thread != thread,
+            Need::Wake { thread: woken } => woken != thread,
             Need::Ended(_) => false,
         }
     }
