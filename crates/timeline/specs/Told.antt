@@ -1,5 +1,5 @@
 -- What is told of a position: its turn and thread, what the run is about to do there, and how it ends.
-use Rattle.std.specs.Prelude.{◌≡◌, ℕ, ◌+◌, ◌-◌, ◌^◌, Bool, min, if◌then◌else◌, Option, Some, None, is_some, option_and_then}
+use Rattle.std.specs.Prelude.{◌≡◌, ℕ, ◌+◌, ◌-◌, ◌^◌, min, if◌then◌else◌, Option, Some, None, is_some, option_and_then}
 use Rattle.hart.specs.declared.stop.Stop.{Stop}
 use Rattle.hart.specs.declared.stop.Stop.TheVariants as stopped
 use Rattle.hart.specs.declared.trap.Trap.{Trap}
