@@ -1,3 +1,4 @@
+pub mod Description
 pub mod Memory
 pub mod Registers
 pub mod Signals

@@ -1,4 +1,8 @@
 //! The target description: the registers of a hart, in XML.
+ghost use Rattle.std.specs.Prelude.{◌≡◌, ◌++◌, IfOk, OnOk, length, map};
+ghost use Rattle.std.specs.String.{string_bytes};
+ghost use Rattle.gdb_shown.specs.Description.{entry_of, first_described, type_of};
+
 use std::alloc::{AllocError, Global};
 
 /// The names of the registers by their numbers, pc the last.
@@ -15,25 +19,44 @@ const BEFORE: &str =
 /// What stands after them.
 const AFTER: &str = "</feature></target>";
 
-/// The target description.
-pub fn target_description(alloc: Global) -> Result<String, AllocError> {
+/// The target description: an entry for each register, in the order of their numbers.
+pub fn target_description(alloc: Global) -> Result<String, AllocError>
+    ensures { IfOk result
+        (λ text. string_bytes text ≡ BEFORE.now ++ first_described (map (λ name. name.now) NAMES) 33 ++ AFTER.now) }
+{
     let mut text = String::from_str(alloc, BEFORE)?;
-    for (number, name) in NAMES.iter().enumerate() {
-        let kind = kind_of(number);
-        text.push_str("<reg name=\"")?;
-        text.push_str(name)?;
-        text.push_str("\" bitsize=\"32\" regnum=\"")?;
-        write!(text, "{number}")?;
-        text.push_str("\" type=\"")?;
-        text.push_str(kind)?;
-        text.push_str("\"/>")?;
-    }
+    write_entries(&mut text, &NAMES)?;
     text.push_str(AFTER)?;
     Ok(text)
 }
 
+/// Writes the entries of the registers with these names.
+#[tactic(auto, unfolding(crate::specs::Description::first_described))]
+fn write_entries(text: &mut String, names: &[&str]) -> Result<(), AllocError>
+    ensures { OnOk result (string_bytes text.new
+        ≡ string_bytes text.old ++ first_described (map (λ name. name.now) names.now) (length names.now)) }
+{
+    for (number, name) in names.iter().enumerate() {
+        write_entry(text, number, name, type_of(number))?;
+    }
+    Ok(())
+}
+
+/// Writes the entry of a register of this name and type.
+#[tactic(auto, unfolding(crate::specs::Description::entry_of))]
+fn write_entry(text: &mut String, number: usize, name: &str, kind: &str) -> Result<(), AllocError>
+    ensures { OnOk result (string_bytes text.new ≡ string_bytes text.old ++ entry_of name.now kind.now number) }
+{
+    write!(
+        text,
+        "<reg name=\"{name}\" bitsize=\"32\" regnum=\"{number}\" type=\"{kind}\"/>"
+    )
+}
+
 /// The type of a register.
-fn kind_of(number: usize) -> &'static str {
+fn type_of(number: usize) -> &'static str
+    ensures { result.now ≡ type_of number }
+{
     match number {
         1 | 32 => "code_ptr",
         2..=4 => "data_ptr",

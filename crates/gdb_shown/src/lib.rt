@@ -13,6 +13,7 @@ mod watching;
 pub use description::target_description;
 pub use memory::{bytes_seen, bytes_shared, memory_text};
 pub use registers::{PC, register, register_text, registers_text};
+pub use seen::Seen;
 pub use signals::{INTERRUPT, NONE, TRAP, WINDOW, signal_of};
 pub use stops::{end_text, exit_text, stop_text};
 pub use threads::{ids_text, part_of, threads_text, write_thread};

@@ -1,6 +1,9 @@
 //! What gdb saw last of the watched ranges, and which watch event was told last.
+ghost use Rattle.std.specs.Prelude.{◌≡◌, ◌&&◌};
+ghost use Rattle.gdb_shown.specs.Watching.{is_kept, other_of, range_of};
+
 use crate::memory::bytes_seen;
-use crate::seen::{Seen, is_same, seen_of};
+use crate::seen::{Seen, is_known, seen_of};
 use std::alloc::{AllocError, Global};
 use std::mem;
 use timeline::{Timeline, Watch, WatchKind};
@@ -31,9 +34,9 @@ pub struct Watching {
 }
 
 impl Watching {
-    ghost use Rattle.std.specs.Prelude.{◌≡◌, ◌++◌, ◌∷◌, [], None, Some, IfOk, MatchOption, OnOk, map};
+    ghost use Rattle.std.specs.Prelude.{◌++◌, ◌∷◌, [], None, Some, IfOk, MatchOption, OnErr, OnOk, map};
     ghost use Rattle.timeline.specs.Present.{moment_of};
-    ghost use Rattle.gdb_shown.specs.Watching.{IsBlank, armed, looks, ranges_of, tells};
+    ghost use Rattle.gdb_shown.specs.Watching.{IsBlank, after_step, armed, event_of, is_anew, others_of, ranges_of, seen_by, seen_told, seen_with, tells};
 
     /// Nothing was seen.
     pub fn new(alloc: Global) -> Self
@@ -104,7 +107,7 @@ impl Watching {
         let before = mem::replace(&mut self.seen, Vec::new(self.alloc));
         let mut seen = Vec::new(self.alloc);
         for watch in watches {
-            if watch.kind == WatchKind::Store && watch.len <= SEEN_LIMIT {
+            if is_kept(watch) {
                 let bytes = bytes_seen(self.alloc, timeline, thread, watch.start, watch.len)?;
                 seen.push(seen_of(before.as_slice(), watch, bytes))?;
             }
@@ -114,13 +117,14 @@ impl Watching {
     }
 
     /// Tells an event of a watch, of a step of this thread.
-    pub fn tell(
-        &mut self,
-        timeline: &Timeline,
-        watch: Watch,
-        thread: u32,
-    ) -> Result<(), AllocError> {
-        let is_still = watch.kind == WatchKind::Store && self.sees_anew(timeline, &watch, thread)?;
+    pub fn tell(&mut self, timeline: &Timeline, watch: Watch, thread: u32) -> Result<(), AllocError>
+        ensures told { OnOk result (self.new.told ≡ Some (event_of (moment_of timeline.now.present) self.old.seen.items watch thread)) }
+        ensures seen { OnOk result (ranges_of self.new ≡ seen_told (moment_of timeline.now.present) watch thread (ranges_of self.old)) }
+        ensures others { OnOk result (self.new.others.items ≡ []) }
+        ensures refused { OnErr result (self.new ≡ record self.old { seen = self.new.seen }) }
+        ensures rest { self.new ≡ record self.old { seen = self.new.seen; told = self.new.told; others = self.new.others } }
+    {
+        let is_still = self.sees_anew(timeline, &watch, thread)?;
         self.others.clear();
         self.told = Some(Told {
             thread,
@@ -130,67 +134,96 @@ impl Watching {
         Ok(())
     }
 
-    /// Whether a thread sees a range otherwise than gdb saw it last, which is then what gdb sees.
+    /// Whether a thread sees the range of a watch otherwise than gdb saw it last; gdb sees it so from now on.
     fn sees_anew(
         &mut self,
         timeline: &Timeline,
         watch: &Watch,
         thread: u32,
-    ) -> Result<bool, AllocError> {
-        let length = watch.len.min(SEEN_LIMIT);
-        let bytes = bytes_seen(self.alloc, timeline, thread, watch.start, length)?;
-        for seen in self.seen.iter_mut() {
-            if seen.start == watch.start && seen.len == watch.len {
-                if is_same(&seen.bytes, bytes.as_slice()) {
-                    return Ok(false);
-                }
-                seen.bytes = Some(bytes);
-                return Ok(true);
-            }
+    ) -> Result<bool, AllocError>
+        ensures anew { IfOk result (λ anew. anew ≡ is_anew (moment_of timeline.now.present) self.old.seen.items watch.now thread) }
+        ensures seen { OnOk result (ranges_of self.new ≡ seen_told (moment_of timeline.now.present) watch.now thread (ranges_of self.old)) }
+        ensures rest { self.new ≡ record self.old { seen = self.new.seen } }
+    {
+        if !is_kept(watch) {
+            return Ok(false);
         }
-        Ok(false)
+        let bytes = bytes_seen(self.alloc, timeline, thread, watch.start, watch.len)?;
+        let is_anew = !is_known(
+            self.seen.as_slice(),
+            watch.start,
+            watch.len,
+            bytes.as_slice(),
+        );
+        self.see(timeline, watch, thread)?;
+        Ok(is_anew)
     }
 
-    /// What a thread sees of the ranges of which it is kept what gdb saw last.
-    pub fn look(&self, timeline: &Timeline, thread: u32) -> Result<Vec<Vec<u8>>, AllocError>
+    /// gdb sees the range of a watch as a thread sees it.
+    fn see(&mut self, timeline: &Timeline, watch: &Watch, thread: u32) -> Result<(), AllocError>
+        ensures seen { OnOk result
+            (ranges_of self.new ≡ map (seen_with (moment_of timeline.now.present) watch.now thread) (ranges_of self.old)) }
+        ensures rest { self.new ≡ record self.old { seen = self.new.seen } }
+    {
+        let alloc = self.alloc;
+        for seen in self.seen.iter_mut() {
+            seen.see_watch(alloc, timeline, watch, thread)?;
+        }
+        Ok(())
+    }
+
+    /// The ranges of which it is kept what gdb saw last, as a thread sees them.
+    pub fn look(&self, timeline: &Timeline, thread: u32) -> Result<Vec<Seen>, AllocError>
         ensures { IfOk result
-            (λ seen. map (λ bytes. bytes.items) seen.items ≡ looks (moment_of timeline.now.present) self.now.seen.items thread) }
+            (λ seen. map range_of seen.items ≡ map (seen_by (moment_of timeline.now.present) thread) (ranges_of self.now)) }
     {
         let mut looks = Vec::new(self.alloc);
         for seen in &self.seen {
-            looks.push(bytes_seen(self.alloc, timeline, thread, seen.start, seen.len)?)?;
+            looks.push(seen.seen_by(self.alloc, timeline, thread)?)?;
         }
         Ok(looks)
     }
 
-    /// After a step over a watch that was told: gdb sees the ranges that have the told address, and the others that the step
-    /// changed are told next.
+    /// After a step over a watch event that was told, by what its thread saw before: gdb sees the ranges that have the told
+    /// address, and the others that the step changed are told next.
     pub fn see_step(
         &mut self,
         timeline: &Timeline,
         told: Told,
-        before: &[Vec<u8>],
-    ) -> Result<(), AllocError> {
-        let after = self.look(timeline, told.thread)?;
-        let mut others = Vec::new(self.alloc);
-        for (place, bytes) in after.into_iter().enumerate() {
-            let Some(seen) = self.seen.get_mut(place) else {
-                break;
-            };
-            if seen.has(told.address) {
-                seen.bytes = Some(bytes);
-            } else if let Some(old) = before.get(place)
-                && old.as_slice() != bytes.as_slice()
-            {
-                others.push(Told {
-                    thread: told.thread,
-                    address: seen.start,
-                    is_still: true,
-                })?;
-                seen.bytes = Some(bytes);
+        before: &[Seen],
+    ) -> Result<(), AllocError>
+        ensures seen { OnOk result
+            (ranges_of self.new ≡ map (after_step (moment_of timeline.now.present) told before.now) (ranges_of self.old)) }
+        ensures others { OnOk result
+            (self.new.others.items ≡ others_of (moment_of timeline.now.present) told before.now (ranges_of self.old)) }
+        ensures rest { self.new ≡ record self.old { seen = self.new.seen; others = self.new.others } }
+    {
+        let alloc = self.alloc;
+        let mut others = Vec::new(alloc);
+        for seen in self.seen.iter_mut() {
+            if seen.see_step(alloc, timeline, told, before)? {
+                others.push(other_of(told.thread, seen))?;
             }
         }
         self.others = others;
         Ok(())
+    }
+}
+
+/// Whether it is kept what gdb sees of the range of a watch.
+fn is_kept(watch: &Watch) -> bool
+    ensures { result ≡ is_kept watch.now }
+{
+    watch.kind == WatchKind::Store && watch.len <= SEEN_LIMIT
+}
+
+/// What is told of a range that a step of this thread changed.
+fn other_of(thread: u32, seen: &Seen) -> Told
+    ensures { result ≡ other_of thread (range_of seen.now) }
+{
+    Told {
+        thread,
+        address: seen.start,
+        is_still: true,
     }
 }
