@@ -37,7 +37,7 @@ pub fn start_of(alloc: Global, program: &Program, input: &[u8]) -> Result<Start,
 
 /// The start of a run of an image.
 fn start_in(alloc: Global, image: &Image, input: &[u8]) -> Result<Start, Failed> {
-    again!(Start::open(alloc, image, input, BOUND, None))
+    again!(Start::open(alloc, image, input, BOUND, None, None))
 }
 
 /// A run.

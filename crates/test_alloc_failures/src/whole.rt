@@ -19,6 +19,7 @@ use tracer::trace_text;
 const CONFIG: Config = Config {
     bound: BOUND,
     quantum: None,
+    shuffle: None,
     workers: 1,
 };
 

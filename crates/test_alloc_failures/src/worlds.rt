@@ -56,7 +56,7 @@ fn world_of(alloc: Global, schedule: &Schedule) -> Result<World, Failed> {
 
 /// A run of an image, of which nothing has happened.
 fn world_in(alloc: Global, image: &Image) -> Result<World, Failed> {
-    again!(World::open(alloc, image, b"", BOUND, None, WORKERS))
+    again!(World::open(alloc, image, b"", BOUND, None, None, WORKERS))
 }
 
 /// The events of a schedule's text.

@@ -20,6 +20,7 @@ use std::thread::Threads;
 pub const CONFIG: Config = Config {
     bound: MAX_BOUND,
     quantum: None,
+    shuffle: None,
     workers: 1,
 };
 

@@ -4,7 +4,7 @@ use crate::fixtures::{CONFIG, Ending, WORKERS, assert_same, ending, ends};
 use data_guest_programs::{CODE, SEVEN, file_of, file_of_headers};
 use elf32_reader::ElfFault;
 use hart::{Cause, Trap};
-use runtime::{Config, MAX_BOUND, MAX_INPUT, MAX_WORKERS, RunFault, RunOutcome};
+use runtime::{Config, MAX_BOUND, MAX_INPUT, MAX_WORKERS, RunFault, RunOutcome, Shuffle};
 use std::alloc::{AllocError, Global};
 use std::process::Abort;
 use std::sync::Wait;
@@ -43,6 +43,17 @@ static BAD_CONFIGS: [(u64, Option<u64>, u32); 6] = [
     (MAX_BOUND, Some(MAX_BOUND + 1), 1),
 ];
 
+/// A schedule's number outside its range.
+const NUMBER_0: Config = Config {
+    shuffle: Some(Shuffle {
+        number: 0,
+        first: 1,
+        last: 1,
+        choices: 0,
+    }),
+    ..CONFIG
+};
+
 /// A trap of thread 0.
 fn trap(pc: u32, cause: Cause, value: u32) -> RunOutcome {
     RunOutcome::Trap {
@@ -77,6 +88,7 @@ fn assert_ends(
         let config = Config {
             bound,
             quantum,
+            shuffle: None,
             workers,
         };
         assert_ending(rt, alloc, file, &[], &config, wanted);
@@ -177,10 +189,12 @@ fn assert_bad_configs(
         let config = Config {
             bound,
             quantum,
+            shuffle: None,
             workers,
         };
         assert_ending(rt, alloc, file, input, &config, Err(RunFault::BadConfig));
     }
+    assert_ending(rt, alloc, file, input, &NUMBER_0, Err(RunFault::BadConfig));
 }
 
 /// Asserts what is refused with a file: the configuration ahead of the input, and the input ahead of the file.

@@ -29,7 +29,7 @@ pub fn compare(
     let run = case.run;
     let bound = case.bound().min(ENOUGH);
     for workers in WORKERS {
-        let start = Start::open(alloc, &image, &run.input, bound, case.quantum())?;
+        let start = Start::open(alloc, &image, &run.input, bound, case.quantum(), None)?;
         let trace = trace_of(rt, alloc, start, workers, &OpenGate)?;
         let how = format!(in alloc; "phase by phase with {workers} workers")?;
         found.expect_text(trace.as_str(), run.trace.as_str(), "trace", how.as_str());

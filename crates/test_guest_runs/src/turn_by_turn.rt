@@ -40,7 +40,7 @@ fn take_turn(serial: &mut Serial<Kept>) -> Result<Option<RunOutcome>, TurnFault>
 fn run_serial(alloc: Global, case: Case<'_>) -> Result<Ran> {
     let image = read(alloc, case.file)?;
     let input = case.run.input.as_slice();
-    let start = Start::open(alloc, &image, input, case.bound(), case.quantum())?;
+    let start = Start::open(alloc, &image, input, case.bound(), case.quantum(), None)?;
     let mut serial = start.recorded_by(Kept::new(alloc));
     let mut sent = Vec::new(alloc);
     for _ in 0..TURNS {

@@ -83,7 +83,15 @@ fn world_of(alloc: Global, case: Case<'_>, workers: u32) -> Result<World> {
     let image = read(alloc, case.file)?;
     let workers = workers.clamp(1, 64);
     let input = case.run.input.as_slice();
-    Ok(World::open(alloc, &image, input, case.bound(), case.quantum(), workers)?)
+    Ok(World::open(
+        alloc,
+        &image,
+        input,
+        case.bound(),
+        case.quantum(),
+        None,
+        workers,
+    )?)
 }
 
 /// Compares the turns and the end of a walk.

@@ -52,6 +52,7 @@ fn report_of(
     let config = Config {
         bound: case.bound(),
         quantum: case.quantum(),
+        shuffle: None,
         workers,
     };
     match run(rt, alloc, case.file, &case.run.input, &config, gate) {

@@ -50,7 +50,7 @@ fn turns_overlap_once<R: Clock + Threads + Wait + Sync>(
     image: &Image,
 ) -> Result<bool> {
     let gate = Overlap::new(rt)?;
-    let start = Start::open(alloc, image, &[], BOUND, None)?;
+    let start = Start::open(alloc, image, &[], BOUND, None, None)?;
     let trace = trace_of(rt, alloc, start, 2, &gate)?;
     Ok(trace.as_str() == RACE_TRACE && gate.has_met() && !gate.has_failed())
 }

@@ -153,7 +153,7 @@ const MIXED_MOMENTS: [Moment; 5] = [
 /// A world of `race` of which nothing has happened.
 fn world_of_race(alloc: Global) -> Result<World, Fail> {
     let image = read(alloc, RACE.file(alloc)?.as_slice())?;
-    Ok(World::open(alloc, &image, &[], BOUND, None, 3)?)
+    Ok(World::open(alloc, &image, &[], BOUND, None, None, 3)?)
 }
 
 /// The events of a schedule.

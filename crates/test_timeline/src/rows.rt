@@ -90,7 +90,7 @@ pub fn timeline_of(
 ) -> Result<Timeline> {
     check(limits)?;
     let image = image_of(alloc, program)?;
-    let start = Start::open(alloc, &image, b"abc", limits.bound, limits.quantum)?;
+    let start = Start::open(alloc, &image, b"abc", limits.bound, limits.quantum, None)?;
     Ok(Timeline::open(alloc, start, spacing)?)
 }
 
@@ -134,7 +134,7 @@ impl Walk {
     fn open(alloc: Global, program: &Program, limits: &Limits) -> Result<Self> {
         check(limits)?;
         let image = image_of(alloc, program)?;
-        let world = World::open(alloc, &image, b"abc", limits.bound, limits.quantum, 1)?;
+        let world = World::open(alloc, &image, b"abc", limits.bound, limits.quantum, None, 1)?;
         Ok(Walk {
             world,
             steps: 0,

@@ -91,6 +91,7 @@ fn a_job_is_executed_where_it_is_drawn_and_nowhere_else(rt: HostRuntime) -> Resu
     let config = Config {
         bound: MAX_BOUND,
         quantum: None,
+        shuffle: None,
         workers: 2,
     };
     let mut at_once = false;

@@ -132,6 +132,7 @@ fn assert_told(
     let config = Config {
         bound: MAX_BOUND,
         quantum: None,
+        shuffle: None,
         workers: hands.workers,
     };
     let gate = Listening::of(hands.first_shared);
@@ -222,6 +223,7 @@ fn no_job_is_told_twice(rt: HostRuntime) -> Result<(), Fail> {
     let config = Config {
         bound: MAX_BOUND,
         quantum: None,
+        shuffle: None,
         workers: 2,
     };
     for first_shared in SHARED {

@@ -199,6 +199,7 @@ fn report_of<G: Gate + Sync>(
     let config = Config {
         bound: MAX_BOUND,
         quantum: None,
+        shuffle: None,
         workers,
     };
     Ok(run(rt, alloc, &file, &[], &config, gate)?)
