@@ -1,6 +1,7 @@
 -- What gdb is shown of threads: their ids, and what each does in words.
 use Rattle.std.specs.Prelude.{ℕ, zero, suc, ◌+◌, ◌==◌, false, nat_lt, if◌then◌else◌, min, drop, take, find, Option, Some, None, option_map, List, [], ◌∷◌, ◌++◌, length, codes, decimal}
 use Rattle.std.specs.Fmt.{digits}
+use Rattle.std.specs.List.{list_any}
 use Rattle.abi.specs.declared.call.Call.{Call}
 use Rattle.abi.specs.declared.call.Call.TheVariants.{Join}
 use Rattle.condvar_barrier.specs.declared.place.Place.{Place}
@@ -48,15 +49,19 @@ waiting_by (Some waiter) joined = place_words waiter.place
 abbrev pub waiting_words : Point → ℕ → List ℕ
 waiting_words point thread = waiting_by (find (λ waiter. waiter.thread == thread) point.state.objects.waiters) (joined_by (row_at point thread))
 
+-- where a ready thread stands in the phase whose turn isn't to come: the phase's list may leave it out
+abbrev pub shared_words : Point → ℕ → List ℕ
+shared_words point thread = if list_any (λ listed. listed == thread) point.list then codes "ready, its turn is over" else codes "ready, not in this phase"
+
 -- where a ready thread stands in the phase, by the memory that it sees
-abbrev pub ready_words : Moment → Sees → List ℕ
-ready_words moment Own = codes "its turn " ++ decimal (turn_at moment.point) ++ codes ", phase " ++ decimal moment.point.phase
-ready_words moment PhaseStart = codes "ready, its turn is to come"
-ready_words moment Shared = codes "ready, its turn is over"
+abbrev pub ready_words : Moment → ℕ → Sees → List ℕ
+ready_words moment thread Own = codes "its turn " ++ decimal (turn_at moment.point) ++ codes ", phase " ++ decimal moment.point.phase
+ready_words moment thread PhaseStart = codes "ready, its turn is to come"
+ready_words moment thread Shared = shared_words moment.point thread
 
 abbrev pub status_words : Moment → ℕ → Option Status → List ℕ
 status_words moment thread None = codes "not created here"
-status_words moment thread (Some Ready) = ready_words moment (sees_at moment thread)
+status_words moment thread (Some Ready) = ready_words moment thread (sees_at moment thread)
 status_words moment thread (Some (Woken mutex)) = codes "woken, takes mutex " ++ decimal mutex
 status_words moment thread (Some Blocked) = waiting_words moment.point thread
 status_words moment thread (Some (Done value)) = codes "done, value " ++ decimal value

@@ -3,7 +3,7 @@ ghost use Rattle.std.specs.Prelude.{◌≡◌, ◌==◌, ◌++◌, IfOk, OnOk, d
 ghost use Rattle.std.specs.String.{string_bytes};
 ghost use Rattle.timeline.specs.Present.{moment_of};
 ghost use Rattle.timeline.specs.Shown.{row_at, sees_at};
-ghost use Rattle.gdb_shown.specs.Threads.{entry_shown, id_shown, ids_shown, join_words, joined_by, joined_in, name_shown, next_id, part_shown, place_words, ready_words, thread_words, threads_shown, waiting_words};
+ghost use Rattle.gdb_shown.specs.Threads.{entry_shown, id_shown, ids_shown, join_words, joined_by, joined_in, name_shown, next_id, part_shown, place_words, ready_words, shared_words, thread_words, threads_shown, waiting_words};
 
 use abi::Call;
 use condvar_barrier::{Place, Waiter};
@@ -123,7 +123,7 @@ pub fn write_thread(text: &mut String, timeline: &Timeline, thread: u32) -> Resu
 /// Writes where a ready thread stands in the phase.
 fn write_ready(text: &mut String, timeline: &Timeline, thread: u32) -> Result<(), AllocError>
     ensures { OnOk result (string_bytes text.new ≡ string_bytes text.old
-        ++ ready_words (moment_of timeline.now.present) (sees_at (moment_of timeline.now.present) thread)) }
+        ++ ready_words (moment_of timeline.now.present) thread (sees_at (moment_of timeline.now.present) thread)) }
 {
     match timeline.sees(thread) {
         Sees::Own => {
@@ -131,7 +131,18 @@ fn write_ready(text: &mut String, timeline: &Timeline, thread: u32) -> Result<()
             write!(text, "its turn {turn}, phase {phase}")
         }
         Sees::PhaseStart => text.push_str("ready, its turn is to come"),
-        Sees::Shared => text.push_str("ready, its turn is over"),
+        Sees::Shared => text.push_str(shared_words(timeline, thread)),
+    }
+}
+
+/// Where a ready thread stands in the phase whose turn isn't to come. A phase's list may leave out ready threads.
+fn shared_words(timeline: &Timeline, thread: u32) -> &'static str
+    ensures { result.now ≡ shared_words (moment_of timeline.now.present).point thread }
+{
+    if timeline.serial().list().contains(&thread) {
+        "ready, its turn is over"
+    } else {
+        "ready, not in this phase"
     }
 }
 
