@@ -38,7 +38,7 @@ class Parameter(collections.namedtuple("Parameter", "name form need default help
     @property
     def value(self):
         """What help calls its value."""
-        return "FILE" if self.is_file else "N"
+        return "FILE" if self.is_file else "SHUFFLE" if self.form == "Shuffle" else "N"
 
     @property
     def meaning(self):

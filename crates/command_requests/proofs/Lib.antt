@@ -2,4 +2,6 @@ pub mod Building
 pub mod Complete
 pub mod Held
 pub mod Kept
+pub mod Matches
+pub mod Numerals
 pub mod Rows

@@ -1,5 +1,5 @@
 -- What the words of a command line ask for, by the values that the parser finds for the arguments of a command.
-use Rattle.std.specs.Prelude.{◌≡◌, ◌^◌, ◌<◌, ℕ, List, [], ◌∷◌, ◌++◌, Option, Some, None, codes, option_map}
+use Rattle.std.specs.Prelude.{◌≡◌, ◌^◌, ◌<◌, ℕ, List, [], ◌∷◌, ◌++◌, Option, Some, None, IsSome, codes, option_map}
 use Rattle.std.specs.Borrow.{Bor}
 use Rattle.std.specs.Str.Parse.{IsNumeral, digits_value, without_leading_plus}
 use Rattle.clap.specs.Faults.{fault_of}
@@ -12,7 +12,9 @@ use Rattle.command_requests.specs.declared.request.Request.{Request}
 use Rattle.command_requests.specs.declared.request.Request.TheVariants.{Run, Debug, Disasm, Replay}
 use Rattle.command_requests.specs.declared.text.Text.{Text as RunText}
 use Rattle.command_requests.specs.declared.wanted.Wanted.{Wanted}
+use Rattle.command_requests.specs.Shuffles.{shuffle_of}
 use Rattle.command_requests.specs.Texts.{name_of, texts}
+use Rattle.shuffled_phases.specs.declared.shuffle.Shuffle.{Shuffle}
 
 -- the text is a number of so many bits in decimal digits
 abbrev pub IsNumber : ℕ → Text → Type 0
@@ -24,6 +26,11 @@ IsRead bits None None = Unit {0}
 IsRead bits None (Some number) = ⊥
 IsRead bits (Some text) None = ¬ IsNumber bits text
 IsRead bits (Some text) (Some number) = IsNumber bits text × (number ≡ digits_value 10 (without_leading_plus text))
+
+-- the shuffle that a text says, where there is one
+abbrev pub IsShuffled : Option Text → Option Shuffle → Type 0
+IsShuffled None shuffle = shuffle ≡ None
+IsShuffled (Some text) shuffle = (shuffle_of text ≡ shuffle) × IsSome shuffle
 
 -- the destination that a text names, where there is one
 abbrev pub IsNamed : Option Text → Option Destination → Type 0
@@ -39,6 +46,7 @@ IsText rows id text = option_map (λ text. text.now) text ≡ first_of id rows
 pub record AreNumbers (rows : List Row) (numbers : Numbers) : Type 0 where
   pub bound : IsRead 64 (one_of (codes "bound") rows) (Some numbers.bound)
   pub quantum : IsRead 64 (one_of (codes "quantum") rows) numbers.quantum
+  pub shuffle : IsShuffled (first_of (codes "shuffle") rows) numbers.shuffle
 
 -- a text is wanted if a destination is named for it
 abbrev pub wanted_for : RunText → Option Destination → List Wanted

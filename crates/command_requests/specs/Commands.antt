@@ -48,9 +48,12 @@ bound = record (number (codes "bound") count) { defaults = codes "1000000000" �
 abbrev pub quantum : Rule
 quantum = number (codes "quantum") count
 
--- how many instructions are executed
-abbrev pub limits : List Rule
-limits = bound ∷ quantum ∷ []
+abbrev pub shuffle : Rule
+shuffle = option (codes "shuffle")
+
+-- what is the same for a run, its debugging and its replay
+abbrev pub setup : List Rule
+setup = bound ∷ quantum ∷ shuffle ∷ []
 
 -- the options of texts of a run
 abbrev pub options_of : List RunText → List Rule
@@ -63,16 +66,16 @@ with_rules shape [] = shape
 with_rules shape (rule ∷ rest) = with_rules (record shape { rules = shape.rules ++ rule ∷ [] }) rest
 
 abbrev pub run : Shape
-run = with_rules (new_shape (codes "run")) (file ∷ input ∷ (record workers { defaults = codes "4" ∷ [] }) ∷ limits ++ options_of texts)
+run = with_rules (new_shape (codes "run")) (file ∷ input ∷ (record workers { defaults = codes "4" ∷ [] }) ∷ setup ++ options_of texts)
 
 abbrev pub debug : Shape
-debug = with_rules (new_shape (codes "debug")) (file ∷ input ∷ turn ∷ limits)
+debug = with_rules (new_shape (codes "debug")) (file ∷ input ∷ turn ∷ setup)
 
 abbrev pub disasm : Shape
 disasm = with_rules (new_shape (codes "disasm")) (file ∷ [])
 
 abbrev pub replay : Shape
-replay = with_rules (new_shape (codes "replay")) (file ∷ schedule ∷ input ∷ (record workers { required = true }) ∷ limits)
+replay = with_rules (new_shape (codes "replay")) (file ∷ schedule ∷ input ∷ (record workers { required = true }) ∷ setup)
 
 -- the program, which takes one of its commands, --help and --version
 abbrev pub program : App

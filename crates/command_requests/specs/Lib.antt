@@ -5,6 +5,7 @@ pub mod Names
 pub mod Needed
 pub mod Parameter
 pub mod Reading
+pub mod Shuffles
 pub mod Status
 pub mod Texts
 pub mod Unasked

@@ -19,6 +19,7 @@ formed form.File name = option name
 formed (form.Text text) name = option name
 formed form.Workers name = number name (Signed (pos 1) (pos limit.workers))
 formed form.Count name = number name count
+formed form.Shuffle name = option name
 
 -- an argument that must be given so
 abbrev pub needed : Need → Rule → Rule

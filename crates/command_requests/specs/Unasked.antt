@@ -1,12 +1,15 @@
 -- What arguments that make no request come to.
 use Rattle.std.specs.Io.KnownBytes.{Appends}
-use Rattle.std.specs.Prelude.{◌≡◌, ◌≢◌, ◌⊎◌, ℕ, Option, List}
+use Rattle.std.specs.Prelude.{◌≡◌, ◌≢◌, ◌⊎◌, ℕ, Option, Some, None, List, [], codes}
+use Rattle.std.specs.Option.{IsSomeAnd}
 use Rattle.clap.specs.Faults.{fault_of}
 use Rattle.clap.specs.Kinds.{IsAmong}
-use Rattle.clap.specs.Words.{Text}
+use Rattle.clap.specs.Words.{Row, Text, first_of, subcommand_of}
 use Rattle.clap.specs.declared.error.kind.ErrorKind.{ErrorKind}
 use Rattle.clap.specs.declared.error.kind.ErrorKind.TheVariants.{DisplayHelp, DisplayVersion, OutOfMemory}
 use Rattle.command_requests.specs.Commands.{program}
+use Rattle.command_requests.specs.Shuffles.{shuffle_of}
+use Rattle.command_requests.specs.Status.{failure_status}
 use Rattle.command_requests.specs.declared.failure.Failure.{Failure}
 use Rattle.command_requests.specs.declared.failure.Failure.TheVariants as failures
 use Rattle.command_requests.specs.declared.target.Target.TheVariants.{StandardOutput}
@@ -22,9 +25,23 @@ pub record IsStatusOf (kind : ErrorKind) (status : ℕ) : Type 0 where
   pub version : kind ≡ DisplayVersion → IsAfterPrint status
   pub wrong : kind ≢ OutOfMemory → kind ≢ DisplayHelp → kind ≢ DisplayVersion → status ≡ 2
 
--- The status after words that make no request: memory ran out, or they are refused, and it is the status after an error that they make.
+-- The parser made no matches of the words: memory ran out, or they are refused, and it is the status after an error that they make.
+abbrev pub IsUnmatched : List Text → ℕ → Type 0
+IsUnmatched words status = (kind : ErrorKind) × ((kind ≡ OutOfMemory) ⊎ IsAmong kind (fault_of program words)) × IsStatusOf kind status
+
+-- Why the values of a command's arguments make no request: memory ran out, or the text that is given for the shuffle says none.
+abbrev pub IsUnread : List Row → Failure → Type 0
+IsUnread rows failures.OutOfMemory = Unit {0}
+IsUnread rows (failures.InvalidShuffle text) = (first_of (codes "shuffle") rows ≡ Some text.now) × (shuffle_of text.now ≡ None)
+IsUnread rows other = ⊥
+
+-- the parser refused no word, and the values of the command that it found make no request
+abbrev pub IsRefused : List Text → Failure → Type 0
+IsRefused words failure = (fault_of program words ≡ []) × IsSomeAnd (subcommand_of program words) (λ found. IsUnread found.1 failure)
+
+-- the status after words that make no request
 abbrev pub IsUnasked : List Text → ℕ → Type 0
-IsUnasked words status = (kind : ErrorKind) × ((kind ≡ OutOfMemory) ⊎ IsAmong kind (fault_of program words)) × IsStatusOf kind status
+IsUnasked words status = IsUnmatched words status ⊎ ((failure : Failure) × IsRefused words failure × (status ≡ failure_status failure))
 
 -- standard output holds a text after what it held
 abbrev pub IsFollowed : (old new : Option (List ℕ)) → Type 0

@@ -3,7 +3,8 @@ ghost use Rattle.std.specs.Prelude.{◌≡◌, IfErr, IfOk, map};
 ghost use Rattle.command_requests.specs.Asked.{IsAsked};
 ghost use Rattle.command_requests.specs.Unasked.{IsUnasked, KeepsUnlessHelp};
 
-use crate::parsing::parse;
+use crate::failing::fail;
+use crate::parsing::{matched, requested};
 use crate::refusing::refuse;
 use crate::request::Request;
 use std::alloc::Global;
@@ -23,8 +24,12 @@ pub fn asked<'a, S: AsStr, W: Write, E: Write>(
     ensures status { IfErr result (IsUnasked (map S.text arguments.entry.now)) }
     ensures output { IfErr result (λ status. KeepsUnlessHelp status (W.contents stdout.old) (W.contents stdout.new)) }
 {
-    match parse(alloc, arguments) {
+    let matches = match matched(alloc, arguments) {
+        Ok(matches) => matches,
+        Err(error) => return Err(refuse(alloc, &error, stdout, stderr)),
+    };
+    match requested(alloc, &matches) {
         Ok(request) => Ok(request),
-        Err(error) => Err(refuse(alloc, &error, stdout, stderr)),
+        Err(failure) => Err(fail(failure, stderr)),
     }
 }

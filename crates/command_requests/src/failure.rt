@@ -7,7 +7,7 @@ use output_files::{BeginFault, FileName, ReadFault, WriteFault};
 use std::alloc::AllocError;
 use thiserror::Error;
 
-/// Why a request was not done. Its text is the line for the user.
+/// Why a request was not done. Its text is what the user is told.
 #[derive(Clone, Copy, Debug, Error)]
 pub enum Failure<'a> {
     /// The arguments of the command line are not all text.
@@ -16,6 +16,9 @@ pub enum Failure<'a> {
     /// Two arguments name one file.
     #[error("error: {0} and {1} name one file")]
     OneFile(FileName<'a>, FileName<'a>),
+    /// This value of the option `--shuffle` says no schedule's number.
+    #[error("error: invalid value '{0}' for '--shuffle <SHUFFLE>': expected N[:A-P][/C] with N and A from 1\n\nFor more information, try '--help'.")]
+    InvalidShuffle(&'a str),
     /// A number of the run is outside its range.
     #[error("error: a number is outside its range")]
     OutsideRange,
@@ -77,7 +80,10 @@ impl Failure<'_> {
         ensures { result ≡ failure_status self.now }
     {
         match self {
-            Failure::NotText | Failure::OneFile(..) | Failure::OutsideRange => 2,
+            Failure::NotText
+            | Failure::OneFile(..)
+            | Failure::InvalidShuffle(_)
+            | Failure::OutsideRange => 2,
             Failure::ElfRefused(_) => 123,
             Failure::InputTooLarge | Failure::CannotRead(_) | Failure::CannotWrite(_) => 124,
             Failure::OutOfMemory => 125,

@@ -14,4 +14,6 @@ pub(crate) enum Form {
     Workers,
     /// As an option with a number of instructions or of turns, 1 to 2^40.
     Count,
+    /// As an option with a schedule's number, and the phases and choices that it is for.
+    Shuffle,
 }

@@ -17,6 +17,7 @@ mod parsing;
 mod printing;
 mod refusing;
 mod request;
+mod shuffling;
 mod target;
 mod text;
 mod wanted;

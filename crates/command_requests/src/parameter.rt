@@ -46,6 +46,7 @@ fn of_form<'a>(alloc: Global, form: Form, name: &'a str) -> Arg<'a>
             option(alloc, name, "N").value_parser(range)
         }
         Form::Count => option(alloc, name, "N").value_parser(count()),
+        Form::Shuffle => option(alloc, name, "SHUFFLE"),
     }
 }
 

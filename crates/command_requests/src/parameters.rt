@@ -71,6 +71,13 @@ pub(crate) const QUANTUM: Parameter = Parameter {
     help: "After how many instructions a thread's turn ends, 1 to 2^40 [default: none]",
 };
 
+pub(crate) const SHUFFLE: Parameter = Parameter {
+    name: "shuffle",
+    form: Form::Shuffle,
+    need: Need::Optional,
+    help: "The schedule's number, as 4, 4:39-41 or 4:39-41/7 [default: none]",
+};
+
 const TRACE: Parameter = Parameter {
     name: "trace",
     form: Form::Text(Text::Trace),
@@ -114,22 +121,23 @@ const DIGEST: Parameter = Parameter {
 };
 
 /// The parameters of the command run. The texts are in the order in which a run begins them and puts them where they are to be.
-pub(crate) static RUN: [Parameter; 11] = [
-    FILE, INPUT, WORKERS, BOUND, QUANTUM, TRACE, TIMELINE, REPORT, RACES, CORE, DIGEST,
+pub(crate) static RUN: [Parameter; 12] = [
+    FILE, INPUT, WORKERS, BOUND, QUANTUM, SHUFFLE, TRACE, TIMELINE, REPORT, RACES, CORE, DIGEST,
 ];
 
 /// The parameters of the command debug.
-pub(crate) static DEBUG: [Parameter; 5] = [FILE, DEBUGGED_INPUT, TURN, BOUND, QUANTUM];
+pub(crate) static DEBUG: [Parameter; 6] = [FILE, DEBUGGED_INPUT, TURN, BOUND, QUANTUM, SHUFFLE];
 
 /// The parameters of the command disasm.
 pub(crate) static DISASM: [Parameter; 1] = [FILE];
 
 /// The parameters of the command replay.
-pub(crate) static REPLAY: [Parameter; 6] = [
+pub(crate) static REPLAY: [Parameter; 7] = [
     FILE,
     SCHEDULE,
     INPUT,
     SCHEDULED_WORKERS,
     BOUND,
     QUANTUM,
+    SHUFFLE,
 ];

@@ -1,102 +1,133 @@
 //! Reads the arguments of a command line into a request.
-ghost use Rattle.std.specs.Prelude.{◌≡◌, IfErr, IfOk, OnOk, Some, codes, map, option_map};
+ghost use Rattle.std.specs.Prelude.{◌≡◌, [], IfErr, IfOk, OnOk, Some, codes, map, option_map};
+ghost use Rattle.std.specs.Option.{IsSomeAnd};
 ghost use Rattle.clap.specs.Faults.{fault_of};
 ghost use Rattle.clap.specs.Kinds.{HasKind};
-ghost use Rattle.clap.specs.Words.{first_of, found_of, one_of, rows_of, subcommand_rows_of};
-ghost use Rattle.command_requests.specs.Asked.{AddsWanted, AreNumbers, AreWanted, Asks, AsksFor, IsAsked, IsNamed, IsRead, IsText};
+ghost use Rattle.clap.specs.Words.{first_of, found_of, one_of, rows_of, subcommand_of, subcommand_rows_of};
+ghost use Rattle.command_requests.specs.Asked.{AddsWanted, AreNumbers, AreWanted, Asks, AsksFor, IsNamed, IsRead, IsShuffled, IsText};
 ghost use Rattle.command_requests.specs.Commands as spec;
 ghost use Rattle.command_requests.specs.Needed.{HasDebug, HasNumber, HasReplay, HasRun, HasText, IsFound};
 ghost use Rattle.command_requests.specs.Parameter.{AreNamed, IsNamedFor, texts_in_form, texts_of};
 ghost use Rattle.command_requests.specs.Texts.{texts};
+ghost use Rattle.command_requests.specs.Unasked.{IsUnread};
 
 use crate::commands::program;
 use crate::destination::Destination;
+use crate::failure::Failure;
 use crate::form::Form;
 use crate::numbers::Numbers;
 use crate::parameter::Parameter;
-use crate::parameters::{BOUND, FILE, INPUT, QUANTUM, RUN, SCHEDULE, TURN, WORKERS};
+use crate::parameters::{BOUND, FILE, INPUT, QUANTUM, RUN, SCHEDULE, SHUFFLE, TURN, WORKERS};
 use crate::request::Request;
+use crate::shuffling::shuffle_of;
 use crate::wanted::Wanted;
 use clap::{ArgMatches, Error};
+use shuffled_phases::Shuffle;
 use std::alloc::{AllocError, Global};
 use std::convert::AsStr;
 
-/// Reads the arguments of a command line, the program's name first.
-pub(crate) fn parse<'a, S: AsStr>(alloc: Global, arguments: &'a [S]) -> Result<Request<'a>, Error>
-    ensures asked { IfOk result (IsAsked (map S.text arguments.entry.now)) }
+/// The command that the arguments of a command line name, the program's name first, with the values of its arguments.
+pub(crate) fn matched<'a, S: AsStr>(
+    alloc: Global,
+    arguments: &'a [S],
+) -> Result<ArgMatches<'a>, Error>
+    ensures passed { IfOk result (λ _. fault_of spec.program (map S.text arguments.entry.now) ≡ []) }
+    ensures found { IfOk result (λ matches. subcommand_rows_of matches ≡ subcommand_of spec.program (map S.text arguments.entry.now)) }
+    ensures complete { IfOk result (λ matches. IsFound (subcommand_rows_of matches)) }
     ensures failed { IfErr result (HasKind (fault_of spec.program (map S.text arguments.entry.now))) }
 {
     let mut program = program(alloc)?;
-    let matches = program.try_get_matches_from_mut(arguments)?;
-    Ok(requested(alloc, &matches)?)
+    program.try_get_matches_from_mut(arguments)
 }
 
 /// What the matches ask for.
-fn requested<'a>(alloc: Global, matches: &ArgMatches<'a>) -> Result<Request<'a>, AllocError>
+pub(crate) fn requested<'a>(
+    alloc: Global,
+    matches: &ArgMatches<'a>,
+) -> Result<Request<'a>, Failure<'a>>
     requires { IsFound (subcommand_rows_of matches.now) }
-    ensures { IfOk result (AsksFor (subcommand_rows_of matches.now)) }
+    ensures asked { IfOk result (AsksFor (subcommand_rows_of matches.now)) }
+    ensures failed { IfErr result (λ failure. IsSomeAnd (subcommand_rows_of matches.now) (λ found. IsUnread found.1 failure)) }
 {
     match matches.subcommand().unwrap() {
         ("run", run) => run_request(alloc, run),
-        ("debug", debug) => Ok(debug_request(debug)),
+        ("debug", debug) => debug_request(debug),
         ("disasm", disasm) => Ok(Request::Disasm {
             file: given_text(disasm, FILE.name),
         }),
-        ("replay", replay) => Ok(replay_request(replay)),
+        ("replay", replay) => replay_request(replay),
         _ => unreachable!(),
     }
 }
 
 /// The run that these ask for.
-fn run_request<'a>(alloc: Global, matches: &ArgMatches<'a>) -> Result<Request<'a>, AllocError>
+fn run_request<'a>(alloc: Global, matches: &ArgMatches<'a>) -> Result<Request<'a>, Failure<'a>>
     requires { HasRun (rows_of (found_of matches.now)) }
-    ensures { IfOk result (Asks (codes "run") (rows_of (found_of matches.now))) }
+    ensures asked { IfOk result (Asks (codes "run") (rows_of (found_of matches.now))) }
+    ensures failed { IfErr result (IsUnread (rows_of (found_of matches.now))) }
 {
-    let wanted = wanted_of(alloc, matches)?;
     Ok(Request::Run {
         file: given_text(matches, FILE.name),
         input: text(matches, INPUT.name),
-        numbers: numbers_of(matches, workers_of(matches)),
-        wanted,
+        numbers: numbers_of(matches, workers_of(matches))?,
+        wanted: wanted_of(alloc, matches)?,
     })
 }
 
 /// The debugging that these ask for.
-fn debug_request<'a>(matches: &ArgMatches<'a>) -> Request<'a>
+fn debug_request<'a>(matches: &ArgMatches<'a>) -> Result<Request<'a>, Failure<'a>>
     requires { HasDebug (rows_of (found_of matches.now)) }
-    ensures { Asks (codes "debug") (rows_of (found_of matches.now)) result }
+    ensures asked { IfOk result (Asks (codes "debug") (rows_of (found_of matches.now))) }
+    ensures failed { IfErr result (IsUnread (rows_of (found_of matches.now))) }
 {
-    Request::Debug {
+    Ok(Request::Debug {
         file: given_text(matches, FILE.name),
         input: text(matches, INPUT.name),
-        numbers: numbers_of(matches, 1),
+        numbers: numbers_of(matches, 1)?,
         turn: given_number(matches, TURN.name),
-    }
+    })
 }
 
 /// The replay that these ask for.
-fn replay_request<'a>(matches: &ArgMatches<'a>) -> Request<'a>
+fn replay_request<'a>(matches: &ArgMatches<'a>) -> Result<Request<'a>, Failure<'a>>
     requires { HasReplay (rows_of (found_of matches.now)) }
-    ensures { Asks (codes "replay") (rows_of (found_of matches.now)) result }
+    ensures asked { IfOk result (Asks (codes "replay") (rows_of (found_of matches.now))) }
+    ensures failed { IfErr result (IsUnread (rows_of (found_of matches.now))) }
 {
-    Request::Replay {
+    Ok(Request::Replay {
         file: given_text(matches, FILE.name),
         schedule: given_text(matches, SCHEDULE.name),
         input: text(matches, INPUT.name),
-        numbers: numbers_of(matches, workers_of(matches)),
-    }
+        numbers: numbers_of(matches, workers_of(matches))?,
+    })
 }
 
 /// The numbers of a run by so many workers.
-fn numbers_of(matches: &ArgMatches<'_>, workers: u32) -> Numbers
+fn numbers_of<'a>(matches: &ArgMatches<'a>, workers: u32) -> Result<Numbers, Failure<'a>>
     requires { HasNumber 64 (codes "bound") (rows_of (found_of matches.now)) }
-    ensures numbers { AreNumbers (rows_of (found_of matches.now)) result }
-    ensures workers { result.workers ≡ workers }
+    ensures numbers { IfOk result (AreNumbers (rows_of (found_of matches.now))) }
+    ensures workers { IfOk result (λ numbers. numbers.workers ≡ workers) }
+    ensures failed { IfErr result (IsUnread (rows_of (found_of matches.now))) }
 {
-    Numbers {
+    Ok(Numbers {
         bound: given_number(matches, BOUND.name),
         quantum: number(matches, QUANTUM.name),
+        shuffle: shuffle_given(matches)?,
         workers,
+    })
+}
+
+/// The shuffle that its option says, if it is given.
+fn shuffle_given<'a>(matches: &ArgMatches<'a>) -> Result<Option<Shuffle>, Failure<'a>>
+    ensures shuffled { IfOk result (IsShuffled (first_of (codes "shuffle") (rows_of (found_of matches.now)))) }
+    ensures failed { IfErr result (IsUnread (rows_of (found_of matches.now))) }
+{
+    let Some(value) = text(matches, SHUFFLE.name) else {
+        return Ok(None);
+    };
+    match shuffle_of(value) {
+        Some(shuffle) => Ok(Some(shuffle)),
+        None => Err(Failure::InvalidShuffle(value)),
     }
 }
 
