@@ -33,7 +33,7 @@ PARTS = {
     "c-samples": "c_samples", "guest": "guest_tests", "manual": "manual_examples", "c-page": "c_page", "real": "real_programs",
     "gdb": "gdb_sessions", "hints": "hints", "core": "core_files", "races": "race_lists", "timeline": "timeline_files",
     "rows": "rows", "threads": "host_threads", "streams": "closed_streams", "bench": "bench", "kit": "kit_tests", "builds": "kit_words",
-    "openmp": "openmp_tests", "nptl": "nptl_tests", "rust": "rust_tests", "variations": "variation_tests", "explore": "explore_tests",
+    "openmp": "openmp_tests", "nptl": "nptl_tests", "rust": "rust_tests", "variations": "variation_tests", "explore": "explore_tests", "numbers": "number_tests",
 }
 
 TEST = re.compile(r"^\s*#\[test\]", re.M)

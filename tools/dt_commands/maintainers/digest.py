@@ -3,14 +3,9 @@
 It lays out the pages of the file's segments and thread 0's stack, writes the bytes that the run changed, and hashes output, memory and
 trace by Python's hashlib.
 """
-import hashlib
-import struct
 import sys
 
-PAGE, LOAD = 4096, 1
-STACK = range(0x7FFC0000 // PAGE, 0x80000000 // PAGE)
-# Where a file's header has the offset of its program headers, and their size and number.
-TABLE, ROWS = 28, 42
+from dt_commands.law_model import memory, shown
 
 
 def arguments(parser):
@@ -20,33 +15,10 @@ def arguments(parser):
     parser.add_argument("changes", nargs="*", metavar="ADDRESS=BYTE", help="a byte that the run changed, in hexadecimal digits")
 
 
-def pages_of(elf):
-    """Returns the pages by number: what each permits (1 loads, 2 stores, 4 fetches) and its bytes."""
-    pages = {}
-    offset, = struct.unpack_from("<I", elf, TABLE)
-    size, count = struct.unpack_from("<HH", elf, ROWS)
-    for index in range(count):
-        kind, at, start, _, in_file, in_memory, flags = struct.unpack_from("<7I", elf, offset + size * index)
-        if kind != LOAD or in_memory == 0:
-            continue
-        permits = (flags >> 2 & 1) + (flags & 2) + (4 if flags & 1 else 0)
-        for number in range(start // PAGE, (start + in_memory - 1) // PAGE + 1):
-            pages.setdefault(number, (permits, bytearray(PAGE)))
-        for place in range(in_file):
-            address = start + place
-            pages[address // PAGE][1][address % PAGE] = elf[at + place]
-    pages.update({number: (3, bytearray(PAGE)) for number in STACK})
-    return pages
-
-
 def run(options):
     with open(options.elf, "rb") as it:
-        pages = pages_of(it.read())
-    for change in options.changes:
-        address, byte = (int(part, 16) for part in change.split("="))
-        pages[address // PAGE][1][address % PAGE] = byte
-    memory = b"".join(b"%08x" % (PAGE * number) + bytes([permits]) + bytes(page) for number, (permits, page) in sorted(pages.items()))
-    print("outcome", options.outcome)
-    for name, text in (("output", bytes.fromhex(options.output)), ("memory", memory), ("trace", sys.stdin.buffer.read())):
-        print(name, hashlib.sha256(text).hexdigest())
+        shared = memory.Shared(memory.pages_of(it.read()))
+    shared.write({int(address, 16): int(byte, 16) for address, byte in (it.split("=") for it in options.changes)})
+    text = shown.digest_of(options.outcome, bytes.fromhex(options.output), shared.pages, sys.stdin.buffer.read())
+    sys.stdout.write(text.decode())
     return 0
