@@ -80,7 +80,7 @@ class Gate(unittest.TestCase):
         status, said = self.ran()
         self.assertEqual((status, said[0], said[-1]), (0, "dt packages", "7 passed, 0 failed"))
         self.assertLess(said.index("rt ci"), said.index("dt test kit"))
-        for it in ("dt check", "dt self-test --all", "dt release --check", "dt test threads", "dt sweep memory --gate"):
+        for it in ("dt check", "dt self-test --all", "dt release --check", "dt test numbers --brief", "dt test threads", "dt sweep memory --gate"):
             self.assertIn(it, said)
 
     def test_missing_packages_end_it_at_once(self):
@@ -88,7 +88,7 @@ class Gate(unittest.TestCase):
         self.assertEqual((status, said), (1, ["dt packages"]))
 
     def test_each_of_its_commands_can_fail_it(self):
-        for it in ("check", "self-test*", "release*", "test*threads", "sweep*memory*", "test*kit"):
+        for it in ("check", "self-test*", "release*", "test*numbers*", "test*threads", "sweep*memory*", "test*kit"):
             with self.subTest(it):
                 self.assertEqual(self.ran(fails=it.replace("*", "?*"))[0], 1)
 
