@@ -44,14 +44,11 @@ static BAD_CONFIGS: [(u64, Option<u64>, u32); 6] = [
 ];
 
 /// A schedule's number outside its range.
-const NUMBER_0: Config = Config {
-    shuffle: Some(Shuffle {
-        number: 0,
-        first: 1,
-        last: 1,
-        choices: 0,
-    }),
-    ..CONFIG
+const NUMBER_0: Shuffle = Shuffle {
+    number: 0,
+    first: 1,
+    last: 1,
+    choices: 0,
 };
 
 /// A trap of thread 0.
@@ -194,7 +191,11 @@ fn assert_bad_configs(
         };
         assert_ending(rt, alloc, file, input, &config, Err(RunFault::BadConfig));
     }
-    assert_ending(rt, alloc, file, input, &NUMBER_0, Err(RunFault::BadConfig));
+    let config = Config {
+        shuffle: Some(NUMBER_0),
+        ..CONFIG
+    };
+    assert_ending(rt, alloc, file, input, &config, Err(RunFault::BadConfig));
 }
 
 /// Asserts what is refused with a file: the configuration ahead of the input, and the input ahead of the file.
