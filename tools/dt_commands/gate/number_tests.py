@@ -28,8 +28,8 @@ GIVEN = b"some input to be read by several threads"
 CLEARING = 0x1FFFF000
 WORKERS = (1, 2, 3, 4, 64)
 LARGE = [2**31, 2**32 - 1]
-# One of so many numbers is tried in the gate, and with one of so many the debugger and a replay are.
-BRIEF, ASIDE = 8, 20
+# One of so many numbers is tried in the gate; and of each so many numbers the debugger and a replay are tried with this one.
+BRIEF, ASIDE, WITH_ASIDE = 11, 20, 8
 # A written schedule has at most so many instructions.
 MOST_STEPS = 20_000
 REGISTERS = 33
@@ -38,7 +38,7 @@ REGISTERS = 33
 def arguments(parser):
     parser.add_argument("names", nargs="*", metavar="GUEST", help="the guests whose names begin so (default: all)")
     parser.add_argument("--numbers", type=int, default=200, metavar="N", help="the greatest number; with 0 runs have none (default: 200)")
-    parser.add_argument("--brief", action="store_true", help="the gate's part alone: for each guest one number of eight")
+    parser.add_argument("--brief", action="store_true", help="the gate's part alone: for each guest one number of eleven")
     guest_runs.with_share(parser)
 
 
@@ -167,7 +167,7 @@ def test_run(tally, room, row):
     run = runs.Run(setup)
     write_file(f"{room}/a.elf", guest.elf)
     compare_run(room, guest, number, run, words, found)
-    if number % ASIDE == BRIEF:
+    if number % ASIDE == WITH_ASIDE:
         compare_debugger(room, guest, run, words, 1 + number % len(run.turns), found)
         if sum(it.steps for it in run.turns) <= MOST_STEPS:
             compare_replay(room, guest, number, run, words, found)
