@@ -55,6 +55,10 @@ class Table(unittest.TestCase):
         table = options.table_of(options.commands_in(TABLE, COMMANDS)[0]).split("\n")
         self.assertEqual(table[2:], ["| `--count N` | 1,000 | how many there are |", "| `--trace FILE` | none | write it |", ""])
 
+    def test_values_have_their_names_of_help(self):
+        self.assertEqual([it.value for it in options.rows_in(TABLE).values()], ["FILE", "N", "FILE"])
+        self.assertEqual(options.rows_in(TABLE.replace("Form::Count", "Form::Shuffle"))["COUNT"].value, "SHUFFLE")
+
     def test_a_command_line_without_an_option_is_told(self):
         every = options.commands_in(TABLE, COMMANDS)[:1]
         page = "## run\n\n`dthreads run FILE [--count N]{}` runs.\n"
@@ -72,6 +76,8 @@ class Completions(unittest.TestCase):
         self.assertEqual(completed("dthreads", "debug", "--t"), ["--turn"])
         self.assertEqual(completed("dthreads", "run", "--trace", "dth"), ["dthreads.1"])
         self.assertEqual(completed("dthreads", "run", "--workers", ""), [])
+        self.assertEqual(completed("dthreads", "replay", "--sh"), ["--shuffle"])
+        self.assertEqual(completed("dthreads", "run", "--shuffle", ""), [])
         self.assertEqual(completed("dthreads", "disasm", "dth"), ["dthreads.1"])
 
     def test_a_text_with_marks_is_one_word_of_zsh(self):

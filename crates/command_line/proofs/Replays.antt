@@ -1,9 +1,9 @@
 -- What a replay answers, put together of its parts.
-use Rattle.std.proofs.Common.{◌≡◌, inr, ℕ, Option, Result, Ok, Err, List, IfErr, IfOk, ◌<◌, ◌≤◌, ◌&&◌, true, nat_le}
+use Rattle.std.proofs.Common.{◌≡◌, inr, ℕ, Option, Result, Ok, Err, List, IfErr, IfOk, ◌<◌, ◌≤◌, ◌&&◌, Bool, true, nat_le}
 use Rattle.std.proofs.lemmas.Bool.{and_parts, leb-true}
 use Rattle.std.specs.Io.KnownBytes.{Appends}
 use Rattle.std.specs.Option.{option_map_or}
-use Rattle.runtime.specs.Config.{is_valid}
+use Rattle.runtime.specs.Config.{is_numbered, is_valid}
 use Rattle.run_limits.specs.Limits as limit
 use Rattle.runtime.specs.Span.{is_span}
 use Rattle.runtime.specs.declared.config.Config.{Config}
@@ -18,8 +18,9 @@ use Rattle.command_line.specs.Replays.{AreOf, ReplayRequest, Replays}
 pub few_workers : (config : Config) → is_valid config ≡ true → (config.workers ≤ limit.workers) × (0 < config.workers)
 unfolding is_valid
 few_workers config is =
-    let last = and_parts (is_span config.bound && option_map_or is_span config.quantum true && nat_le 1 config.workers) (nat_le config.workers limit.workers) is in
-    let first = and_parts (is_span config.bound && option_map_or is_span config.quantum true) (nat_le 1 config.workers) last.0 in
+    let setup : Bool = is_span config.bound && option_map_or is_span config.quantum true && option_map_or is_numbered config.shuffle true in
+    let last = and_parts (setup && nat_le 1 config.workers) (nat_le config.workers limit.workers) is in
+    let first = and_parts setup (nat_le 1 config.workers) last.0 in
     (leb-true config.workers limit.workers last.1, leb-true 1 config.workers first.1)
 
 -- what a run that was opened with these events answers is what the replay answers

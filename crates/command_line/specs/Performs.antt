@@ -26,7 +26,7 @@ use Rattle.command_line.specs.Replays.{ReplayRequest, Replays}
 
 -- the configuration of a run with these numbers
 abbrev pub config_of : Numbers → Config
-config_of numbers = record { bound = numbers.bound; quantum = numbers.quantum; workers = numbers.workers }
+config_of numbers = record { bound = numbers.bound; quantum = numbers.quantum; shuffle = numbers.shuffle; workers = numbers.workers }
 
 -- Such is it of what there is to read of the input: of standard input, or of the file that is named for it, whose bytes were read.
 abbrev pub OnInput : Content → Option (List ℕ) → Option (Bor (List ℕ)) → (Option (List ℕ) → Type 0) → Type 0

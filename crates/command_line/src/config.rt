@@ -12,6 +12,7 @@ pub(crate) fn config_of(numbers: Numbers) -> Config
     Config {
         bound: numbers.bound,
         quantum: numbers.quantum,
+        shuffle: numbers.shuffle,
         workers: numbers.workers,
     }
 }
