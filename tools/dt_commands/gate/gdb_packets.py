@@ -44,7 +44,7 @@ class Debugged:
             said = self.answer()
             if said == "OK" or not said.startswith("O"):
                 return said
-            self.printed += bytes.fromhex(said[1:]).decode()
+            self.printed += bytes.fromhex(said[1:]).decode(errors="replace")
 
     def monitor(self, command):
         """Returns what a command of the user's prints."""
