@@ -4,6 +4,7 @@ A program is linked with the entry of guest/tests/numbered.S, which loads the nu
 own code, and a copy with both is run. Or it is run by words of one's own, in which FILE, NUMBER and CHOICES are replaced.
 """
 import os
+import re
 import shlex
 import struct
 import subprocess
@@ -30,9 +31,9 @@ def numbered(image, number, choices):
 
 
 def words_of(command, file, number, choices):
-    """Returns the words of a command, with those replaced that stand for a run."""
+    """Returns the words of a command, with what stands for a run replaced, also within a word."""
     named = {"FILE": file, "NUMBER": str(number), "CHOICES": str(choices)}
-    return [named.get(it, it) for it in shlex.split(command)]
+    return [re.sub("FILE|NUMBER|CHOICES", lambda found: named[found[0]], it) for it in shlex.split(command)]
 
 
 class Numbered:
