@@ -12,7 +12,7 @@ class Numbers(unittest.TestCase):
 
     def test_a_command_has_the_file_the_number_and_the_choices(self):
         words = numbered_runs.words_of("dthreads run FILE --shuffle NUMBER '/ CHOICES' CHOICES", "a b.elf", 7, 0)
-        self.assertEqual(words, ["dthreads", "run", "a b.elf", "--shuffle", "7", "/ CHOICES", "0"])
+        self.assertEqual(words, ["dthreads", "run", "a b.elf", "--shuffle", "7", "/ 0", "0"])
 
 
 class Lists(unittest.TestCase):
