@@ -33,6 +33,7 @@ pub use run_fault::RunFault;
 pub use run_limits::{MAX_BOUND, MAX_INPUT, MAX_WORKERS};
 pub use running::{run, run_into};
 pub use sending::send;
+pub use shuffled_phases::Shuffle;
 pub use sink::{Sink, SinkFault};
 pub use token::{Both, Kept, NoRecord, Recorder, RunOutcome, Start};
 pub use write_sink::WriteSink;
