@@ -1,5 +1,5 @@
 -- What was seen of a run, by the contract of runs.
-use Rattle.std.proofs.Common.{◌≡◌, ◌∙◌, ℕ, Some, List, Err, Option, ap, arith, refl, sym, subst}
+use Rattle.std.proofs.Common.{◌≡◌, ◌∙◌, ◌+◌, ℕ, Some, List, Err, Option, ap, arith, refl, sym, subst}
 use Rattle.sha2.specs.Sha256.{sha256}
 use Rattle.runtime.proofs.OneReport.{answer_so}
 use Rattle.runtime.specs.Answer.{HasAnswer}
@@ -31,9 +31,9 @@ ends_as records setup wanted end recorder ending line is ends outcome digest sho
     subst (λ (given : Setup). HasAnswer given (EndsAs given ending line)) is
     (answer_so setup (IsRecordedEnd records setup end recorder) (EndsAs setup ending line) (ends_so records setup end recorder ending line outcome digest shown) ends)
 
--- a run that writes nothing, and whose sink never fails, stops only if memory runs out
-pub only_memory : {T X : Type 0} (interruption : Interruption) → CountsFailures {T = T} WriteFailed (Err interruption) 0 0 → (interruption ≡ RecordFailed → ⊥ × X)
+-- a run whose recorder writes nothing, and whose sink never fails, stops only if memory runs out
+pub only_memory : (T : Type 0) (interruption : Interruption) → CountsFailures {T = T} WriteFailed (Err interruption) 0 0 → (interruption ≡ RecordFailed → ⊥)
     → interruption ≡ OutOfMemory
-only_memory OutOfMemory counts may = refl
-only_memory WriteFailed counts may = let once : 0 ≡ 1 = counts.0 refl in absurd (omega arith)
-only_memory RecordFailed counts may = absurd (may refl).0
+only_memory T OutOfMemory counts never = refl
+only_memory T WriteFailed counts never = let once : 0 ≡ 0 + 1 = counts.0 refl in absurd (omega (arith, once))
+only_memory T RecordFailed counts never = absurd (never refl)
