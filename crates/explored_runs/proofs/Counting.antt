@@ -1,11 +1,7 @@
 -- Rows that count one run more.
-use Rattle.std.proofs.Common.{◌≡◌, ◌≢◌, ◌⊎◌, inl, inr, ℕ, zero, suc, ◌+◌, ◌<◌, ◌≤◌, if◌then◌else◌, ◌==◌, List, [], ◌∷◌, ◌++◌, All, length, get_or, set, slice_set, slice_index_or, refl, sym, ◌∙◌, ap, subst, arith, length-append}
-use Rattle.std.specs.List.{AllZip, concat}
-use Rattle.std.proofs.lemmas.Bool.{eq-eqb, cases_eq}
-use Rattle.std.proofs.lemmas.List.Elements.{All-nil, All-cons, All-head, All-tail, All-weaker}
-use Rattle.shuffled_phases.specs.Lists.{times}
-use Rattle.shuffled_phases.proofs.Times.{times-append, times-itself}
-use Rattle.explored_runs.specs.Rows.{AreInOrder, AreRowsOf, Counts, CountsFirst, CountsRuns, Telling, one_more}
+use Rattle.std.proofs.Common.{◌≡◌, ◌≢◌, inl, inr, ℕ, zero, suc, ◌<◌, List, [], ◌∷◌, ◌++◌, All, length, slice_set, slice_index_or, refl, sym, ap, subst, arith}
+use Rattle.std.proofs.lemmas.List.Elements.{All-nil, All-cons, All-head, All-tail}
+use Rattle.explored_runs.specs.Rows.{AreInOrder, Counts, CountsFirst, one_more}
 use Rattle.explored_runs.specs.declared.ending.Ending.{Ending}
 use Rattle.explored_runs.specs.declared.row.Row.{Row}
 

@@ -1,5 +1,5 @@
 -- What was seen of a run, by the contract of runs.
-use Rattle.std.proofs.Common.{◌≡◌, ◌∙◌, ◌+◌, ℕ, Some, List, Err, Option, ap, arith, refl, sym, subst}
+use Rattle.std.proofs.Common.{◌≡◌, ◌∙◌, ◌+◌, ℕ, Some, List, Err, ap, arith, refl, sym, subst}
 use Rattle.sha2.specs.Sha256.{sha256}
 use Rattle.runtime.proofs.OneReport.{answer_so}
 use Rattle.runtime.specs.Answer.{HasAnswer}
@@ -8,7 +8,7 @@ use Rattle.runtime.specs.Sending.{CountsFailures}
 use Rattle.runtime.specs.declared.interruption.Interruption.{Interruption}
 use Rattle.runtime.specs.declared.interruption.Interruption.TheVariants.{OutOfMemory, RecordFailed, WriteFailed}
 use Rattle.runtime.specs.declared.run_end.RunEnd.{RunEnd}
-use Rattle.token.specs.History.{History, present}
+use Rattle.token.specs.History.{History}
 use Rattle.token.specs.Setup.{Setup}
 use Rattle.explored_runs.specs.LastLine.{last_line}
 use Rattle.explored_runs.specs.Runs.{EndsAs}

@@ -1,11 +1,11 @@
 -- The rows of a range, and those of a range that is longer by a number.
-use Rattle.std.proofs.Common.{◌≡◌, ◌≢◌, ◌⊎◌, inl, inr, ℕ, zero, suc, ◌+◌, ◌<◌, ◌≤◌, if◌then◌else◌, ◌==◌, List, [], ◌∷◌, ◌++◌, All, length, refl, sym, ◌∙◌, ap, subst, arith, length-append}
+use Rattle.std.proofs.Common.{◌≡◌, ◌≢◌, ◌⊎◌, inl, inr, ℕ, ◌+◌, ◌<◌, ◌≤◌, if◌then◌else◌, ◌==◌, List, [], ◌∷◌, All, length, refl, sym, subst, arith, length-append}
 use Rattle.std.specs.List.{AllZip, concat}
 use Rattle.std.proofs.lemmas.Bool.{cases_eq, eq-eqb, ne_eqb}
-use Rattle.std.proofs.lemmas.List.Elements.{All-nil, All-cons, All-head, All-tail, All-weaker}
+use Rattle.std.proofs.lemmas.List.Elements.{All-nil, All-cons, All-head, All-tail}
 use Rattle.shuffled_phases.specs.Lists.{times}
 use Rattle.shuffled_phases.proofs.Times.{times-append, times-itself}
-use Rattle.explored_runs.specs.Rows.{AreInOrder, AreRowsOf, Counts, CountsFirst, CountsRuns, Telling, one_more}
+use Rattle.explored_runs.specs.Rows.{AreRowsOf, Counts, CountsFirst, CountsRuns, Telling, one_more}
 use Rattle.explored_runs.specs.declared.ending.Ending.{Ending}
 use Rattle.explored_runs.specs.declared.row.Row.{Row}
 use Rattle.explored_runs.proofs.Counting.{in_order}

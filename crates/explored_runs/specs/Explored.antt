@@ -1,8 +1,8 @@
 -- What an exploration answers.
-use Rattle.std.specs.Prelude.{◌≡◌, ℕ, Some, List, Result, Vec, Ok, Err}
+use Rattle.std.specs.Prelude.{ℕ, Some, List, Result, Vec, Ok, Err}
 use Rattle.std.specs.declared.alloc.Global.{Global}
 use Rattle.elf32_reader.specs.Segments.{image_of}
-use Rattle.runtime.specs.Run.{IsAccepted, IsUnopenedBy, setup_from}
+use Rattle.runtime.specs.Run.{IsAccepted, IsUnopenedBy}
 use Rattle.runtime.specs.declared.config.Config.{Config}
 use Rattle.runtime.specs.declared.open_fault.OpenFault.{OpenFault}
 use Rattle.explored_runs.specs.Rows.{AreRowsOf}

@@ -1,5 +1,5 @@
 -- The last line of an output, made fit for a table.
-use Rattle.std.specs.Prelude.{ℕ, Bool, ◌==◌, ◌&&◌, nat_le, nat_lt, if◌then◌else◌, List, [], ◌∷◌, ◌++◌, length}
+use Rattle.std.specs.Prelude.{ℕ, ◌==◌, ◌&&◌, nat_le, nat_lt, if◌then◌else◌, List, [], ◌∷◌, ◌++◌, length}
 
 -- a byte if it is printable ASCII, else a dot
 abbrev pub shown : ℕ → ℕ

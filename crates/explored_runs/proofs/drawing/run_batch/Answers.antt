@@ -3,7 +3,6 @@ use Rattle.std.proofs.lemmas.List.{with_items_is}
 use Rattle.std.proofs.lemmas.List.Elements.{All-pop}
 use Rattle.explored_runs.specs.Runs.{AllSeen, AreSlots, IsPart}
 use Rattle.explored_runs.specs.declared.seen.Seen.{Seen}
-use Rattle.explored_runs.proofs.Slotted.{no_slots}
 use Rattle.explored_runs.proofs.drawing.run_batch.Goals as goal
 
 pub put_all-requires : goal.put_all-requires

@@ -1,4 +1,4 @@
-use Rattle.std.proofs.Common.{◌≡◌, ◌≢◌, ◌∙◌, ℕ, ◌<◌, List, slice_index_or, length, ap, subst, refl, arith, sym}
+use Rattle.std.proofs.Common.{◌≡◌, ◌≢◌, ◌∙◌, ◌<◌, List, slice_index_or, length, ap, subst, refl, arith, sym}
 use Rattle.explored_runs.specs.Rows.{Counts}
 use Rattle.explored_runs.specs.declared.row.Row.{Row}
 use Rattle.explored_runs.proofs.Counting.{counts_at, counts_new}

@@ -1,5 +1,4 @@
-use Rattle.std.proofs.Common.{Some, List, Option, refl, arith}
-use Rattle.explored_runs.specs.declared.seen.Seen.{Seen}
+use Rattle.std.proofs.Common.{Some, arith}
 use Rattle.explored_runs.proofs.Slotted.{slots_put}
 use Rattle.explored_runs.proofs.slots.put.Goals as goal
 
