@@ -23,13 +23,13 @@ class Definitions(unittest.TestCase):
         self.assertEqual(definitions.used("record { other = count }", items, {}, {}, None), {items["count"]})
 
     def test_names_behind_an_alias(self):
-        found = definitions.used("nat_le 1 limit.workers", {}, {"limit": ("run_limits", "specs", "Limits")}, {}, None)
-        self.assertEqual(found, {(("run_limits", "specs", "Limits"), "workers")})
+        found = definitions.used("nat_le 1 limit.workers", {}, {"limit": ("abi", "specs", "Limits")}, {}, None)
+        self.assertEqual(found, {(("abi", "specs", "Limits"), "workers")})
 
 
 class Tables(unittest.TestCase):
     def test_numbers_are_written_for_readers(self):
-        self.assertEqual(crate_pages.value("run_limits", "Limits", "input"), "16,777,216")
+        self.assertEqual(crate_pages.value("abi", "Limits", "input"), "16,777,216")
         self.assertEqual(crate_pages.value("abi", "Limits", "instructions"), "2^40")
 
     def test_each_change_is_named_once(self):

@@ -1,4 +1,4 @@
--- How many of each thing a run has at most, and how much a call asks for at most.
+-- How many of each thing a run has at most, how much it is given at most, and how much a call asks for at most.
 use Rattle.std.specs.Prelude.{ℕ, ◌^◌}
 
 -- threads, whose numbers are below it
@@ -28,3 +28,11 @@ output = 16_777_216
 -- instructions that each thread may execute in all, and as many from one synchronisation to the next
 abbrev pub instructions : ℕ
 instructions = 2 ^ 40
+
+-- host threads
+abbrev pub workers : ℕ
+workers = 64
+
+-- bytes of the input
+abbrev pub input : ℕ
+input = 16_777_216

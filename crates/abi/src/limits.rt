@@ -1,4 +1,4 @@
-//! How many of each thing a run has at most.
+//! How many of each thing a run has at most, and how much it is given at most.
 
 /// How many threads a run can make. Their numbers are below it, and none is used again.
 pub const THREADS: u32 = 256;
@@ -18,3 +18,12 @@ pub const CALL_PAGES: u32 = 1024;
 
 /// How many bytes the output has at most.
 pub const OUTPUT: u32 = 16_777_216;
+
+/// The greatest bound and the greatest quantum, in instructions: 2^40.
+pub const MAX_BOUND: u64 = 1_099_511_627_776;
+
+/// How many host threads work at most.
+pub const MAX_WORKERS: u32 = 64;
+
+/// How many bytes of input there are at most.
+pub const MAX_INPUT: usize = 16_777_216;

@@ -1,7 +1,7 @@
 -- What seats have done, one by one and together.
 use Rattle.std.specs.Prelude.{◌≡◌, ℕ, ◌+◌, ◌<◌, Bool, ◌==◌, if◌then◌else◌, List, [], ◌∷◌, ◌++◌, length}
 use Rattle.claim_table.specs.declared.log.Log.{Log}
-use Rattle.run_limits.specs.Limits as limit
+use Rattle.abi.specs.Limits as limit
 
 -- the most jobs of a phase, and the most seats
 abbrev pub most_jobs : ℕ

@@ -3,7 +3,7 @@ use Rattle.std.specs.Borrow.{Bor}
 use Rattle.std.specs.Prelude.{◌≡◌, ◌⊎◌, ℕ, Option, Some, None, Result, Ok, Err, List, []}
 use Rattle.elf32_reader.specs.Format.{file_limit}
 use Rattle.output_files.specs.Content.{Content}
-use Rattle.run_limits.specs.Limits as limit
+use Rattle.abi.specs.Limits as limit
 use Rattle.runtime.specs.Run.{IsAccepted}
 use Rattle.runtime.specs.declared.config.Config.{Config}
 use Rattle.command_requests.specs.Reading.{AreRead, IsUnreadAt}

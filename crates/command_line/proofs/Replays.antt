@@ -4,7 +4,7 @@ use Rattle.std.proofs.lemmas.Bool.{and_parts, leb-true}
 use Rattle.std.specs.Io.KnownBytes.{Appends}
 use Rattle.std.specs.Option.{option_map_or}
 use Rattle.runtime.specs.Config.{is_numbered, is_valid}
-use Rattle.run_limits.specs.Limits as limit
+use Rattle.abi.specs.Limits as limit
 use Rattle.runtime.specs.Span.{is_span}
 use Rattle.runtime.specs.declared.config.Config.{Config}
 use Rattle.schedule.specs.declared.event.Event.{Event}

@@ -3,7 +3,7 @@
 use Rattle.std.specs.Borrow.{Bor}
 use Rattle.std.specs.Prelude.{◌≡◌, ◌⊎◌, ℕ, Option, Some, None, Result, Err, List}
 use Rattle.std.specs.Result.{IsErrAnd}
-use Rattle.run_limits.specs.Limits as limit
+use Rattle.abi.specs.Limits as limit
 use Rattle.output_files.specs.Content.{Content}
 use Rattle.runtime.specs.declared.config.Config.{Config}
 use Rattle.token.specs.declared.outcome.RunOutcome.{RunOutcome}

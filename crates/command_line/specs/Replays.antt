@@ -5,7 +5,7 @@ use Rattle.elf32_reader.specs.Format.{file_limit}
 use Rattle.output_files.specs.Content.{Content}
 use Rattle.runtime.specs.Run.{IsAccepted, setup_from}
 use Rattle.runtime.specs.declared.config.Config.{Config}
-use Rattle.run_limits.specs.Limits as limit
+use Rattle.abi.specs.Limits as limit
 use Rattle.schedule.specs.declared.event.Event.{Event}
 use Rattle.token.specs.Setup.{Setup}
 use Rattle.token.specs.declared.outcome.RunOutcome.{RunOutcome}

@@ -2,7 +2,7 @@
 ghost use Rattle.std.specs.Prelude.{◌≡◌, ◌+◌, ◌-◌, ◌^◌, ◌<◌, IfErr, IfOk, IsSome};
 ghost use Rattle.output_files.specs.Content.{Tells};
 ghost use Rattle.output_files.specs.Taken.{TakesAtMost};
-ghost use Rattle.run_limits.specs.Limits as limit;
+ghost use Rattle.abi.specs.Limits as limit;
 ghost use Rattle.command_requests.specs.Reading.{AreRead, IsUnreadAt};
 ghost use Rattle.command_run.specs.Serves.{host_of, run_of};
 ghost use Rattle.command_line.specs.Performs.{ReplaysOn, RunsOn};

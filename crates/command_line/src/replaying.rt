@@ -1,7 +1,7 @@
 //! Replays of written schedules, over files.
 ghost use Rattle.std.specs.Prelude.{◌≡◌, ◌+◌, IfErr, IfOk};
 ghost use Rattle.output_files.specs.Taken.{TakesAtMost};
-ghost use Rattle.run_limits.specs.Limits as limit;
+ghost use Rattle.abi.specs.Limits as limit;
 ghost use Rattle.token.specs.RunInTurn.{point_of};
 ghost use Rattle.command_line.specs.Replays.{AreGiven, AreOf, IsUngiven, IsUnopened, Replays, asked};
 

@@ -1,7 +1,7 @@
 //! Replays of written schedules, of runs that were opened.
 ghost use Rattle.std.specs.Prelude.{◌≡◌, ℕ, ◌<◌, ◌≤◌, List, IfErr, IfOk, OnOk};
 ghost use Rattle.std.specs.Io.KnownBytes.{Appends};
-ghost use Rattle.run_limits.specs.Limits as limit;
+ghost use Rattle.abi.specs.Limits as limit;
 ghost use Rattle.schedule_core.specs.Scene.{point_at};
 ghost use Rattle.token.specs.RunInTurn.{point_of};
 ghost use Rattle.command_replay.specs.Replayed.{IsCut, IsPrinted, IsReplayed, IsUnprinted};

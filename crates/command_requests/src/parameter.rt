@@ -7,9 +7,9 @@ ghost use Rattle.command_requests.specs.Parameter.{formed, needed, rule_for};
 
 use crate::form::Form;
 use crate::need::Need;
+use abi::limits::{MAX_BOUND, MAX_WORKERS};
 use clap::builder::ValueParser;
 use clap::{Arg, value_parser};
-use run_limits::{MAX_BOUND, MAX_WORKERS};
 use std::alloc::Global;
 
 /// A parameter of a command: a row of the table of them.

@@ -14,7 +14,7 @@ use Rattle.runtime.specs.Sending.{SendsPrefix}
 use Rattle.runtime.specs.declared.config.Config.{Config}
 use Rattle.runtime.specs.declared.refusal.Refusal.{Refusal}
 use Rattle.runtime.specs.declared.write_sink.WriteSink.{WriteSink}
-use Rattle.run_limits.specs.Limits as limit
+use Rattle.abi.specs.Limits as limit
 use Rattle.token.specs.Change.{Change}
 use Rattle.token.specs.History.{History, changes_of, outcome, present, turns_of}
 use Rattle.token.specs.RunInTurn.{point_of}

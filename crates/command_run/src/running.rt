@@ -3,7 +3,7 @@ ghost use Rattle.std.specs.Prelude.{◌≡◌, ◌+◌, [], IfErr, IfOk, OnErr, 
 ghost use Rattle.std.specs.Io.KnownBytes.{Appends};
 ghost use Rattle.output_files.specs.Content.{Content};
 ghost use Rattle.output_files.specs.Taken.{TakesAtMost};
-ghost use Rattle.run_limits.specs.Limits as limit;
+ghost use Rattle.abi.specs.Limits as limit;
 ghost use Rattle.runtime.specs.Recorded.{Ends};
 ghost use Rattle.runtime.specs.Sending.{CountsFailures, SendsSoFar};
 ghost use Rattle.runtime.specs.declared.interruption.Interruption.TheVariants as stop;

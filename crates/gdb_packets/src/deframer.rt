@@ -67,13 +67,6 @@ impl Deframer {
         self.body.as_slice()
     }
 
-    /// Whether a frame has begun and isn't complete.
-    pub fn is_in_frame(&self) -> bool
-        ensures { IsTrue result ↔ (bytes_begun self.now.body.items self.now.part ≢ []) }
-    {
-        self.part != Part::Outside
-    }
-
     /// Takes the next byte.
     pub fn hear(&mut self, byte: u8) -> Heard
         ensures packet { result ≡ Heard.Packet

@@ -123,13 +123,6 @@ impl Session {
         self.life == Life::Over
     }
 
-    /// Whether a frame has begun, so that the byte 03 is a part of it.
-    pub fn is_in_frame(&self) -> bool
-        ensures { IsTrue result ↔ (bytes_begun self.now.deframer.body.items self.now.deframer.part ≢ []) }
-    {
-        self.deframer.is_in_frame()
-    }
-
     /// The bytes for gdb that weren't taken yet, which are taken by this.
     pub fn take_output(&mut self) -> Vec<u8>
         ensures taken { result.items ≡ sent_of self.old.wire }

@@ -26,7 +26,7 @@ pub use near::{Near, near_entry};
 pub use one_step::step;
 pub use place::Place;
 pub use reached::Reached;
-pub use segment::{run_coded, run_coded_slice, run_slice, run_to_stop};
+pub use segment::{run_coded, run_coded_slice, run_to_stop};
 pub use slice_end::SliceEnd;
 pub use state::Hart;
 pub use stepped::Stepped;

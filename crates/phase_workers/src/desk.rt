@@ -57,13 +57,6 @@ impl<F: EndFacts + Send + Sync> Desk<F> {
         Ok(crew)
     }
 
-    /// Whether there may be workers.
-    pub fn has_crew(&self) -> bool
-        ensures { result ≡ self.now.crew }
-    {
-        self.line.is_some()
-    }
-
     /// Whether a phase is shared out.
     pub fn is_shared_out(&self) -> bool
         ensures { result ≡ is_some self.now.shared }

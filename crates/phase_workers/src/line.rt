@@ -8,9 +8,9 @@ use crate::offer::Offer;
 use crate::post::Post;
 use crate::shared_phase::SharedPhase;
 use crate::signals::Signals;
+use abi::limits::MAX_WORKERS;
 use claim_table::{DrawSeat, JOBS};
 use crossbeam_channel::{Receiver, Sender, bounded};
-use run_limits::MAX_WORKERS;
 use std::alloc::{AllocError, Global};
 use std::sync::{Arc, Wait};
 

@@ -2,29 +2,28 @@
 use Rattle.std.proofs.Common.{◌≡◌, ◌<◌, ◌≤◌, ◌&&◌, ℕ, Bool, true, Option, Some, None, nat_le}
 use Rattle.std.specs.Option.{option_map_or, IfSome}
 use Rattle.std.proofs.lemmas.Bool.{and_parts, leb-true}
-use Rattle.abi.specs.Limits as span
 use Rattle.runtime.specs.Config.{is_numbered, is_valid}
 use Rattle.runtime.specs.Span.{is_span}
 use Rattle.runtime.specs.declared.config.Config.{Config}
-use Rattle.run_limits.specs.Limits as limit
+use Rattle.abi.specs.Limits as limit
 
 record InSpan (n : ℕ) : Type 0 where
   some : 0 < n
-  within : n ≤ span.instructions
+  within : n ≤ limit.instructions
 
 in_span : (n : ℕ) → is_span n ≡ true → InSpan n
 unfolding is_span
 in_span n is =
-    let parts = and_parts (nat_le 1 n) (nat_le n span.instructions) is in
-    record { some = leb-true 1 n parts.0; within = leb-true n span.instructions parts.1 }
+    let parts = and_parts (nat_le 1 n) (nat_le n limit.instructions) is in
+    record { some = leb-true 1 n parts.0; within = leb-true n limit.instructions parts.1 }
 
 pub record InRange (config : Config) : Type 0 where
-  pub bound : config.bound ≤ span.instructions
+  pub bound : config.bound ≤ limit.instructions
   pub some : 0 < config.bound
-  pub quantum : IfSome config.quantum (λ quantum. quantum ≤ span.instructions)
+  pub quantum : IfSome config.quantum (λ quantum. quantum ≤ limit.instructions)
   pub some_quantum : IfSome config.quantum (λ quantum. 0 < quantum)
 
-quantum_within : (quantum : Option ℕ) → option_map_or is_span quantum true ≡ true → IfSome quantum (λ quantum. quantum ≤ span.instructions)
+quantum_within : (quantum : Option ℕ) → option_map_or is_span quantum true ≡ true → IfSome quantum (λ quantum. quantum ≤ limit.instructions)
 quantum_within None is = tt
 quantum_within (Some quantum) is = (in_span quantum is).within
 

@@ -1,6 +1,6 @@
 use Rattle.std.specs.Prelude.{Bool, true, ◌&&◌, nat_le}
 use Rattle.std.specs.Option.{option_map_or}
-use Rattle.run_limits.specs.Limits as limit
+use Rattle.abi.specs.Limits as limit
 use Rattle.runtime.specs.Span.{is_span}
 use Rattle.runtime.specs.declared.config.Config.{Config}
 use Rattle.shuffled_phases.specs.declared.shuffle.Shuffle.{Shuffle}

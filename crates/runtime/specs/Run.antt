@@ -7,7 +7,7 @@ use Rattle.token.specs.RunInTurn.{point_of}
 use Rattle.token.specs.Setup.{Setup, setup_of}
 use Rattle.token.specs.declared.run_in_turn.RunInTurn.{RunInTurn}
 use Rattle.runtime.specs.Config.{is_valid}
-use Rattle.run_limits.specs.Limits as limit
+use Rattle.abi.specs.Limits as limit
 use Rattle.runtime.specs.Faults.{refusal_of}
 use Rattle.runtime.specs.Reports.{Reports}
 use Rattle.runtime.specs.declared.config.Config.{Config}

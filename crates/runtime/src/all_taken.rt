@@ -3,7 +3,7 @@ use crate::sink::{Sink, SinkFault};
 
 /// The sink that takes all, tells nothing and never fails.
 #[derive(Clone, Copy, Debug, PartialEq, Eq)]
-pub(crate) struct AllTaken;
+pub struct AllTaken;
 
 impl Sink for AllTaken {
     ghost failed = { λ _. 0 };

@@ -2,7 +2,7 @@
 ghost use Rattle.std.specs.Prelude.{◌≡◌};
 ghost use Rattle.runtime.specs.Span as spec;
 
-use run_limits::{MAX_BOUND, MAX_WORKERS};
+use abi::limits::{MAX_BOUND, MAX_WORKERS};
 use shuffled_phases::Shuffle;
 
 /// How a file is run.

@@ -4,12 +4,12 @@ ghost use Rattle.runtime.specs.Run.{Opens};
 use crate::config::Config;
 use crate::open_fault::OpenFault;
 use crate::refusal::Refusal;
+use abi::limits::MAX_INPUT;
 use elf32_reader::{ElfFault, Image, read};
-use run_limits::MAX_INPUT;
 use std::alloc::Global;
 
 /// The image of a file, where the configuration, the input and the file are in order, looked at in this turn.
-pub(crate) fn open(
+pub fn open_image(
     alloc: Global,
     elf: &[u8],
     input: &[u8],

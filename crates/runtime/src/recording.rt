@@ -1,7 +1,7 @@
 //! Runs with a recorder.
 ghost use Rattle.std.specs.Prelude.{◌≡◌, ◌-◌, ◌^◌, ◌<◌, ◌≤◌, []};
 ghost use Rattle.token.specs.RunInTurn.{point_of};
-ghost use Rattle.run_limits.specs.Limits as limit;
+ghost use Rattle.abi.specs.Limits as limit;
 ghost use Rattle.runtime.specs.Faults as spec;
 ghost use Rattle.runtime.specs.Recorded.{AnswersRecorded, ComesTo, IsConcluded, IsConclusion};
 ghost use Rattle.runtime.specs.Run.{OpensRun, setup_from};
@@ -10,15 +10,15 @@ ghost use Rattle.runtime.specs.Sending.{CountsFailures, SendsEnd};
 use crate::config::Config;
 use crate::interruption::Interruption;
 use crate::open_fault::OpenFault;
-use crate::opening::open;
+use crate::opening::open_image;
 use crate::recorded_run::RecordedRun;
 use crate::reporting::end_of;
 use crate::run_end::RunEnd;
 use crate::run_fault::RunFault;
 use crate::sink::Sink;
 use crate::turns::take_turns;
+use abi::limits::MAX_WORKERS;
 use phase_jobs::Gate;
-use run_limits::MAX_WORKERS;
 use std::alloc::Global;
 use std::marker::Brand;
 use std::sync::Wait;
@@ -92,7 +92,7 @@ pub fn open_run(
 ) -> Result<Start, OpenFault>
     ensures { OpensRun elf.now input.now config.now result }
 {
-    let image = open(alloc, elf, input, config)?;
+    let image = open_image(alloc, elf, input, config)?;
     Ok(Start::open(
         alloc,
         &image,

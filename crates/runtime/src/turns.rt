@@ -3,7 +3,7 @@ ghost use Rattle.std.specs.Prelude.{◌≡◌, ◌<◌, ◌≤◌, None, Some, I
 ghost use Rattle.token.specs.Point.{need_at};
 ghost use Rattle.token.specs.RunInTurn.{point_of};
 ghost use Rattle.token.specs.Serial.{IsAskedFor};
-ghost use Rattle.run_limits.specs.Limits as limit;
+ghost use Rattle.abi.specs.Limits as limit;
 ghost use Rattle.runtime.specs.Turns.{GoesOn, MayGoOn, MovesBeside, WantsOnly, found_end};
 ghost use denote.Param.Send.{IsSync, IsSend};
 

@@ -33,18 +33,6 @@ impl<W: Write> WriteSink<W> {
         }
     }
 
-    /// Writes all of these bytes and flushes them. It fails if this or an earlier flush did.
-    pub fn print(&mut self, bytes: &[u8]) -> Result<(), SinkFault>
-        ensures bytes { OnOk result (Appends (W.contents self.old.writer) (W.contents self.new.writer) bytes.now) }
-        ensures whole { OnOk result (self.old.is_lost ≡ false) }
-        ensures others { (self.new.failures ≡ self.old.failures) × (self.new.is_lost ≡ self.old.is_lost) }
-    {
-        match self.writer.write_all(bytes) {
-            Ok(()) => self.finish(),
-            Err(_) => Err(SinkFault),
-        }
-    }
-
     /// Flushes what was written. It fails if this or an earlier flush did.
     pub fn finish(&mut self) -> Result<(), SinkFault>
         ensures bytes { Keeps (W.contents self.old.writer) (W.contents self.new.writer) }

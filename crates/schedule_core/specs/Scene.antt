@@ -6,7 +6,7 @@ use Rattle.std.specs.declared.alloc.Global.{Global}
 use Rattle.guest_memory.specs.Memory.{Memory}
 use Rattle.hart.specs.HartState.{HartState}
 use Rattle.hart.specs.Segment.{after}
-use Rattle.run_limits.specs.Limits as limit
+use Rattle.abi.specs.Limits as limit
 use Rattle.schedule.specs.Phase.{Counts, begun, is_enabled, made, opened}
 use Rattle.schedule.specs.declared.progress.Progress.{Progress}
 use Rattle.schedule.specs.declared.event.Event.{Event}

@@ -16,7 +16,7 @@ impl Scene {
     ghost use Rattle.schedule.specs.Phase.{advanced, begun};
     ghost use Rattle.schedule.specs.declared.event.Event.TheVariants as event;
     ghost use Rattle.token.specs.declared.need.Need.TheVariants as need;
-    ghost use Rattle.run_limits.specs.Limits as limit;
+    ghost use Rattle.abi.specs.Limits as limit;
     ghost use Rattle.schedule_core.specs.Jobs.{job_of, verdict_by};
     ghost use Rattle.schedule_core.specs.Scene.{Answers, Does, GoesOn, HasRoom, IsDesk, IsSound, NeedsNext, Settles, TakesTurn, counts_of, keeper_progress, opened_in, point_at, settled_from, start_in};
     ghost use Rattle.schedule_core.specs.Tally.{is_posted, is_posted_at};

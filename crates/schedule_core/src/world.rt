@@ -40,9 +40,8 @@ impl Model for World {
 
 impl World {
     ghost use Rattle.std.specs.Prelude.{◌≡◌, ◌≤◌, ◌<◌, [], length, IfOk, IfErr, IfSome, OnOk, OnErr, option_map, slice_get};
-    ghost use Rattle.abi.specs.Limits as span;
     ghost use Rattle.paged_memory.specs.Snapshot.{cells_of};
-    ghost use Rattle.run_limits.specs.Limits as limit;
+    ghost use Rattle.abi.specs.Limits as limit;
     ghost use Rattle.twins.specs.View as views;
     ghost use Rattle.schedule.specs.Phase.{begun, opened};
     ghost use Rattle.token.specs.History.{History, turns_of};
@@ -67,9 +66,9 @@ impl World {
         shuffle: Option<Shuffle>,
         workers: u32,
     ) -> Result<Self, AllocError>
-        requires bound { bound ≤ span.instructions }
+        requires bound { bound ≤ limit.instructions }
         requires some { 0 < bound }
-        requires quantum { IfSome quantum (λ quantum. quantum ≤ span.instructions) }
+        requires quantum { IfSome quantum (λ quantum. quantum ≤ limit.instructions) }
         requires some_quantum { IfSome quantum (λ quantum. 0 < quantum) }
         requires few { workers ≤ limit.workers }
         requires some_workers { 0 < workers }

@@ -1,10 +1,10 @@
 //! One line of a schedule.
 ghost use Rattle.std.specs.Prelude.{◌≡◌, ℕ, ◌++◌, ◌∷◌, [], ◌<◌, List, MatchOption, position, ◌==◌};
-ghost use Rattle.run_limits.specs.Limits as limit;
+ghost use Rattle.abi.specs.Limits as limit;
 ghost use Rattle.schedule.specs.declared.event.Event.{Event as AnEvent};
 ghost use Rattle.schedule_text.specs.Text.{IsEvent, IsFirstLine, IsWritable, decimal, words_of};
 
-use run_limits::MAX_WORKERS;
+use abi::limits::MAX_WORKERS;
 use schedule::Event;
 
 /// The first line of a text.

@@ -11,6 +11,6 @@ mod shuffle;
 
 pub use lengths::drawn_length;
 pub use part::{Part, shuffled};
-pub use phases::{choices_at_start, list_of, number_at_start, quantum_of};
+pub use phases::{choices_at_start, fill_list, number_at_start, quantum_of};
 pub use place::Place;
 pub use shuffle::Shuffle;

@@ -27,15 +27,15 @@ pub fn choices_at_start(shuffle: Option<Shuffle>) -> u32
     }
 }
 
-/// The list of a phase that begins with these threads: those that have a turn, ascending if the phase isn't shuffled.
+/// Fills the list of a phase that begins with these threads, in place of what it had: those that have a turn, ascending
+/// if the phase isn't shuffled.
 #[tactic(auto, unfolding(crate::specs::Phases::list_of))]
-pub fn list_of(shuffle: Option<Shuffle>, phase: u64, threads: &Threads) -> ThreadNumbers
-    ensures { result.items ≡ spec.list_of shuffle phase threads.now }
+pub fn fill_list(shuffle: Option<Shuffle>, phase: u64, threads: &Threads, list: &mut ThreadNumbers)
+    ensures { list.new.items ≡ spec.list_of shuffle phase threads.now }
 {
-    let list = threads.serial_list();
-    match number_in(shuffle, phase) {
-        Some(number) => shuffled(number, phase, list.as_slice()),
-        None => list,
+    threads.fill_serial_list(list);
+    if let Some(number) = number_in(shuffle, phase) {
+        *list = shuffled(number, phase, list.as_slice());
     }
 }
 

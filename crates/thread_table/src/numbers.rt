@@ -15,20 +15,23 @@ pub const CAPACITY: usize = THREADS as usize;
 /// Numbers of threads, ascending. It takes no memory.
 pub type ThreadNumbers = ArrayVec<u32, CAPACITY>;
 
-/// The numbers of the threads of which a test holds.
-pub(crate) fn numbers_where<F: Fn(&Thread) -> bool>(threads: &[Thread], test: F) -> ThreadNumbers
+/// Fills a list with the numbers of the threads of which a test holds, in place of what it had.
+pub(crate) fn fill_where<F: Fn(&Thread) -> bool>(
+    threads: &[Thread],
+    test: F,
+    numbers: &mut ThreadNumbers,
+)
     ghost holds: { Row → Bool }
     requires room { length threads.now ≤ limit.threads }
     requires callable { F.IsAlwaysCallable test }
     requires tells { (thread : Row) (answer : Bool) → FnReturnsAt F.Fn test thread answer → answer ≡ holds thread }
-    ensures list { result.items ≡ spec.numbers_where holds threads.now }
-    ensures numbers { spec.AreNumbersOf threads.now result.items }
+    ensures list { numbers.new.items ≡ spec.numbers_where holds threads.now }
+    ensures numbers { spec.AreNumbersOf threads.now numbers.new.items }
 {
-    let mut numbers = ArrayVec::new();
+    numbers.clear();
     for (number, thread) in threads.iter().enumerate() {
         if test(thread) {
             numbers.push(number as u32);
         }
     }
-    numbers
 }

@@ -4,7 +4,7 @@ ghost use Rattle.abi.specs.Limits as limit;
 ghost use Rattle.thread_table.specs.Thread.{let_go};
 ghost use Rattle.thread_table.specs.Threads as spec;
 
-use crate::numbers::{CAPACITY, ThreadNumbers, numbers_where};
+use crate::numbers::{CAPACITY, ThreadNumbers, fill_where};
 use crate::status::Status;
 use crate::thread::Thread;
 use abi::{Code, Reply};
@@ -143,7 +143,12 @@ impl Threads {
         ensures threads { self.new ≡ spec.ended self.old n value }
         ensures len { length self.new ≡ length self.old }
     {
-        let joiners = numbers_where(self.made.as_slice(), |thread| thread.is_joiner_of(n));
+        let mut joiners = ThreadNumbers::new();
+        fill_where(
+            self.made.as_slice(),
+            |thread| thread.is_joiner_of(n),
+            &mut joiners,
+        );
         let_go_joiners(self.made.as_mut_slice(), n);
         set_status(self.made.as_mut_slice(), n as usize, Status::Done(value));
         joiners
@@ -154,7 +159,10 @@ impl Threads {
         ensures list { result.items ≡ spec.ready_list self.now }
         ensures numbers { spec.AreNumbersOf self.now result.items }
     {
-        numbers_where(self.made.as_slice(), |thread| thread.status.is_ready())
+        let mut list = ThreadNumbers::new();
+        let is_ready = |thread: &Thread| thread.status.is_ready();
+        fill_where(self.made.as_slice(), is_ready, &mut list);
+        list
     }
 
     /// The numbers of the threads that have a turn, ascending: those that are ready or woken.
@@ -162,7 +170,18 @@ impl Threads {
         ensures list { result.items ≡ spec.serial_list self.now }
         ensures numbers { spec.AreNumbersOf self.now result.items }
     {
-        numbers_where(self.made.as_slice(), |thread| thread.status.has_turn())
+        let mut list = ThreadNumbers::new();
+        self.fill_serial_list(&mut list);
+        list
+    }
+
+    /// Fills a list with the numbers of the threads that have a turn, in place of what it had. They are ascending.
+    pub fn fill_serial_list(&self, list: &mut ThreadNumbers)
+        ensures list { list.new.items ≡ spec.serial_list self.now }
+        ensures numbers { spec.AreNumbersOf self.now list.new.items }
+    {
+        let has_turn = |thread: &Thread| thread.status.has_turn();
+        fill_where(self.made.as_slice(), has_turn, list);
     }
 }
 

@@ -17,9 +17,9 @@ use call_table::SharedState;
 use commit::changed;
 use paged_memory::Snapshot;
 use segment::{Segment, SegmentEnd};
-use shuffled_phases::{Shuffle, list_of, quantum_of};
+use shuffled_phases::{Shuffle, fill_list, quantum_of};
 use std::alloc::AllocError;
-use thread_table::{Status, Thread};
+use thread_table::{Status, Thread, ThreadNumbers};
 
 /// More turns than this are refused as if memory ran out. No run comes near it: that would take thousands of years.
 pub(crate) const MOST_TURNS: u64 = 1 << 63;
@@ -279,7 +279,9 @@ impl RunInTurn {
         {
             return;
         }
-        let list = list_of(self.shuffle, self.phase.number + 1, self.shared.threads());
+        let mut list = ThreadNumbers::new();
+        let next = self.phase.number + 1;
+        fill_list(self.shuffle, next, self.shared.threads(), &mut list);
         if list.is_empty() {
             self.outcome = Some(quiet_outcome(&self.shared));
             return;

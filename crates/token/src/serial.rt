@@ -131,13 +131,6 @@ impl<R: Recorder> Serial<R> {
     }
 
     /// Its recorder, which has recorded the turns and the changes of a legal history after which the run stands.
-    pub fn recorder(&self) -> &R
-        ensures { HasRecorded R.records result.now self.now }
-    {
-        &self.recorder
-    }
-
-    /// Its recorder, which has recorded the turns and the changes of a legal history after which the run stands.
     pub fn into_recorder(self) -> R
         ensures { HasRecorded R.records result self }
     {
@@ -186,27 +179,6 @@ impl<R: Recorder> Serial<R> {
         ensures { result.now ≡ (point_of self.now).base_threads }
     {
         &self.run.phase.threads
-    }
-
-    /// How many instructions each thread may execute.
-    pub fn bound(&self) -> u64
-        ensures { result ≡ (point_of self.now).setup.bound }
-    {
-        self.run.bound
-    }
-
-    /// After how many instructions a segment ends at the latest, where there is a quantum.
-    pub fn quantum(&self) -> Option<u64>
-        ensures { result ≡ (point_of self.now).setup.quantum }
-    {
-        self.run.quantum
-    }
-
-    /// The number of the schedule, with the phases that it shuffles.
-    pub fn shuffle(&self) -> Option<Shuffle>
-        ensures { result ≡ (point_of self.now).setup.shuffle }
-    {
-        self.run.shuffle
     }
 
     /// Whether as many turns were done as a run may have.

@@ -11,10 +11,10 @@ use crate::serial::Serial;
 use call_table::SharedState;
 use elf32_reader::Image;
 use paged_memory::Snapshot;
-use shuffled_phases::{Shuffle, choices_at_start, list_of, number_at_start};
+use shuffled_phases::{Shuffle, choices_at_start, fill_list, number_at_start};
 use std::alloc::{AllocError, Global};
 use std::marker::Model;
-use thread_table::Threads;
+use thread_table::{ThreadNumbers, Threads};
 
 /// A run of which no turn is done, and that has no recorder yet.
 #[derive(Drop)]
@@ -64,7 +64,8 @@ impl Start {
         let shared = SharedState::new(alloc, first.try_clone()?, entry, number, choices, input);
         let mut threads = Threads::new();
         threads.copy_from(shared.threads());
-        let list = list_of(shuffle, 1, &threads);
+        let mut list = ThreadNumbers::new();
+        fill_list(shuffle, 1, &threads, &mut list);
         let phase = Phase {
             number: 1,
             first: 0,

@@ -3,6 +3,7 @@ ghost use Rattle.std.specs.Prelude.{◌≡◌, ◌<◌, ◌≤◌, All, length, 
 ghost use Rattle.claim_table.specs.Logs.{most_seats};
 ghost use Rattle.paged_memory.specs.Snapshot.{cells_of};
 ghost use Rattle.token.specs.RunInTurn.{point_of};
+ghost use Rattle.token.specs.Segments as segments;
 ghost use Rattle.worker_pool.specs.Jobs.{IsAsked, jobs_in};
 
 use crate::ends_of_run::EndsOfRun;
@@ -47,6 +48,7 @@ fn shared_phase<B: OfRun, K: Recorder>(
     ensures base { IfOk result (λ made. cells_of made.0.phase.base ≡ (point_of serial.now).base) }
     ensures jobs { IfOk result (λ made. made.0.phase.jobs
         ≡ jobs_in B.setup (point_of serial.now).phase (point_of serial.now).base_threads made.0.names) }
+    ensures names { IfOk result (λ made. made.0.names ≡ segments.jobs_of (point_of serial.now).base_threads (point_of serial.now).list) }
 {
     let ready = serial.jobs();
     let threads = Vec::from_slice(alloc, ready.as_slice())?;

@@ -7,9 +7,9 @@ from .texts import read_text
 
 # The list of limits: what is limited, and the crate, the file and the name of the definition with the number.
 LIMITS = [
-    ("host threads", "run_limits", "Limits", "workers"),
+    ("host threads", "abi", "Limits", "workers"),
     ("bound and quantum, in instructions", "abi", "Limits", "instructions"),
-    ("bytes of the input", "run_limits", "Limits", "input"),
+    ("bytes of the input", "abi", "Limits", "input"),
     ("bytes of the output", "abi", "Limits", "output"),
     ("heap pages ever given", "guest_memory", "Layout", "heap_pages"),
     ("threads ever created", "abi", "Limits", "threads"),

@@ -1,6 +1,6 @@
 use Rattle.std.proofs.Common.{ℕ, List, Option, Result, Ok, Err, IfOk}
 use Rattle.elf32_reader.specs.Format.{file_limit}
-use Rattle.run_limits.specs.Limits as limit
+use Rattle.abi.specs.Limits as limit
 use Rattle.runtime.specs.declared.config.Config.{Config}
 use Rattle.command_run.specs.declared.opened.Opened.{Opened}
 use Rattle.command_run.specs.Serves.{AreOpenedFrom, AreRun}

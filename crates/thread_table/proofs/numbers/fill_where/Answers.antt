@@ -1,8 +1,8 @@
 use Rattle.std.proofs.Common.{◌∙◌, length, take, refl, sym, ap, arith, lit<}
 use Rattle.std.proofs.lemmas.List.{length-take-le, take_all}
 use Rattle.thread_table.proofs.Lists.{AreNumbersOf-numbers_where, numbers_where-none, numbers_where-more_picked, numbers_where-more_left, length-numbers_where}
-use Rattle.thread_table.proofs.numbers.numbers_where.Goals as goal
-use Rattle.thread_table.proofs.numbers.numbers_where.Goals.{then-test, else-test}
+use Rattle.thread_table.proofs.numbers.fill_where.Goals as goal
+use Rattle.thread_table.proofs.numbers.fill_where.Goals.{then-test, else-test}
 
 pub loop-number-init : goal.loop-number-init
 loop-number-init g c = c.new-numbers.ensures ∙ sym (numbers_where-none g.holds)
