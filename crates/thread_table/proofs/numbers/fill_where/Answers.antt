@@ -5,7 +5,7 @@ use Rattle.thread_table.proofs.numbers.fill_where.Goals as goal
 use Rattle.thread_table.proofs.numbers.fill_where.Goals.{then-test, else-test}
 
 pub loop-number-init : goal.loop-number-init
-loop-number-init g c = c.new-numbers.ensures ∙ sym (numbers_where-none g.holds)
+loop-number-init g c = c.clear.ensures ∙ sym (numbers_where-none g.holds)
 
 pub push-requires : goal.push-requires
 push-requires g c =
