@@ -1,1 +1,4 @@
+pub mod Opened
+pub mod Quantum
+pub mod Replayed
 pub mod Replays

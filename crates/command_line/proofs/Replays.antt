@@ -10,8 +10,8 @@ use Rattle.runtime.specs.declared.config.Config.{Config}
 use Rattle.schedule.specs.declared.event.Event.{Event}
 use Rattle.token.specs.Setup.{Setup}
 use Rattle.token.specs.declared.outcome.RunOutcome.{RunOutcome}
-use Rattle.command_replay.specs.Replayed.{IsCut, IsReplayed}
-use Rattle.command_replay.specs.declared.replay_failure.ReplayFailure.{ReplayFailure}
+use Rattle.command_line.specs.Replayed.{IsCut, IsReplayed}
+use Rattle.command_line.specs.declared.replay_failure.ReplayFailure.{ReplayFailure}
 use Rattle.command_line.specs.Replays.{AreOf, ReplayRequest, Replays}
 
 -- an accepted configuration has 1 to 64 workers

@@ -1,3 +1,9 @@
+pub mod Debugging
 pub mod Debugs
+pub mod Incoming
+pub mod Listings
 pub mod Performs
+pub mod Replayed
 pub mod Replays
+pub mod Scheduled
+pub mod Status

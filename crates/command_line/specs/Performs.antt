@@ -16,11 +16,11 @@ use Rattle.command_requests.specs.declared.failure.Failure.{Failure}
 use Rattle.command_requests.specs.declared.numbers.Numbers.{Numbers}
 use Rattle.command_requests.specs.declared.request.Request.{Request}
 use Rattle.command_requests.specs.declared.request.Request.TheVariants.{Run, Debug, Disasm, Replay}
-use Rattle.command_outputs.specs.Status.{answer_status}
-use Rattle.command_disasm.specs.Listings.{IsListed, IsUnlisted}
-use Rattle.command_replay.specs.Status.{replay_status}
-use Rattle.command_replay.specs.declared.replay_failure.ReplayFailure.{ReplayFailure}
-use Rattle.command_replay.specs.declared.replay_failure.ReplayFailure.TheVariants.{Plain}
+use Rattle.command_run.specs.Status.{answer_status}
+use Rattle.command_line.specs.Listings.{IsListed, IsUnlisted}
+use Rattle.command_line.specs.Status.{replay_status}
+use Rattle.command_line.specs.declared.replay_failure.ReplayFailure.{ReplayFailure}
+use Rattle.command_line.specs.declared.replay_failure.ReplayFailure.TheVariants.{Plain}
 use Rattle.command_run.specs.Serves.{Host, RunRequest, RunsInto, run_of}
 use Rattle.command_line.specs.Replays.{ReplayRequest, Replays}
 

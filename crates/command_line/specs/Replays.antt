@@ -12,10 +12,10 @@ use Rattle.token.specs.declared.outcome.RunOutcome.{RunOutcome}
 use Rattle.command_requests.specs.Reading.{AreRead, IsUnread}
 use Rattle.command_requests.specs.declared.failure.Failure.{Failure}
 use Rattle.command_requests.specs.declared.failure.Failure.TheVariants.{InputTooLarge}
-use Rattle.command_replay.specs.Replayed.{IsCut, IsReplayed}
-use Rattle.command_replay.specs.Scheduled.{AreScheduled, IsUnscheduled}
-use Rattle.command_replay.specs.declared.replay_failure.ReplayFailure.{ReplayFailure}
-use Rattle.command_replay.specs.declared.replay_failure.ReplayFailure.TheVariants.{Plain}
+use Rattle.command_line.specs.Replayed.{IsCut, IsReplayed}
+use Rattle.command_line.specs.Scheduled.{AreScheduled, IsUnscheduled}
+use Rattle.command_line.specs.declared.replay_failure.ReplayFailure.{ReplayFailure}
+use Rattle.command_line.specs.declared.replay_failure.ReplayFailure.TheVariants.{Plain}
 use Rattle.command_run.specs.Serves.{IsRefused}
 
 -- a replay that is asked for: of the file and the schedule at two paths, on what there is to read of standard input, with the files' content

@@ -8,8 +8,8 @@ ghost use Rattle.command_run.specs.Serves.{host_of, run_of};
 ghost use Rattle.command_line.specs.Performs.{ReplaysOn, RunsOn};
 ghost use Rattle.command_line.specs.Replays.{asked};
 
-use crate::replaying::replay;
-use command_replay::ReplayFailure;
+use crate::given_schedule::replay;
+use crate::replay_failure::ReplayFailure;
 use command_requests::{Failure, Target, Wanted};
 use command_run::run_file;
 use output_files::Files;

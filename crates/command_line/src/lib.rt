@@ -1,11 +1,18 @@
-//! The command line: parses the arguments, does what they ask for, and answers the status.
+//! The command line: parses the arguments, runs, lists, replays or debugs as they ask for, and answers the status.
 #![tactic(auto)]
 
 mod config;
+mod debugging;
 mod given_input;
+mod given_schedule;
+mod incoming;
+mod listings;
+mod opened;
 mod performing;
+mod replay_failure;
 mod replaying;
+mod serving;
 
-pub use command_outputs::conclude;
 pub use command_requests::{Failure, Target, arguments_of};
+pub use command_run::conclude;
 pub use performing::{perform, perform_request};

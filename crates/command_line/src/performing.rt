@@ -8,12 +8,12 @@ ghost use Rattle.command_run.specs.Serves.{host_of};
 ghost use Rattle.command_line.specs.Performs.{Performs, PerformsOne, found_of};
 
 use crate::config::config_of;
+use crate::debugging::{Debugging, conclude_debugging, debug_file};
 use crate::given_input::{replay_given, run_given};
-use command_debug::{Debugging, conclude_debugging, debug_file};
-use command_disasm::{conclude_listing, disasm};
-use command_outputs::conclude;
-use command_replay::conclude_replay;
+use crate::listings::{conclude_listing, disasm};
+use crate::replaying::conclude_replay;
 use command_requests::{Request, asked};
+use command_run::conclude;
 use output_files::Files;
 use runtime::WriteSink;
 use std::alloc::Global;

@@ -1,88 +1,110 @@
-//! Replays of written schedules, over files.
-ghost use Rattle.std.specs.Prelude.{◌≡◌, ◌+◌, IfErr, IfOk};
-ghost use Rattle.output_files.specs.Taken.{TakesAtMost};
+//! Replays of written schedules, of runs that were opened.
+ghost use Rattle.std.specs.Prelude.{◌≡◌, ℕ, ◌<◌, ◌≤◌, List, IfErr, IfOk, OnOk};
+ghost use Rattle.std.specs.Io.KnownBytes.{Appends};
 ghost use Rattle.abi.specs.Limits as limit;
+ghost use Rattle.schedule_core.specs.Scene.{point_at};
 ghost use Rattle.token.specs.RunInTurn.{point_of};
-ghost use Rattle.command_line.specs.Replays.{AreGiven, AreOf, IsUngiven, IsUnopened, Replays, asked};
+ghost use Rattle.command_line.specs.Replayed.{IsCut, IsPrinted, IsReplayed, IsUnprinted};
+ghost use Rattle.command_line.specs.Scheduled.{AreScheduled, IsUnscheduled};
+ghost use Rattle.command_line.specs.Status.{replay_status};
 
-use command_replay::{Opened, ReplayFailure, go_through, read_events};
-use command_requests::{Failure, Target};
-use command_run::open_bytes;
-use elf32_reader::FILE_LIMIT;
-use output_files::{Files, read_upto};
-use runtime::{Config, MAX_INPUT, RunOutcome};
+use crate::opened::Opened;
+use crate::replay_failure::ReplayFailure;
+use command_requests::{Failure, Target, print};
+use command_run::conclude;
+use output_files::Files;
+use schedule::Event;
+use schedule_core::World;
+use schedule_text::{ParseFault, parse};
 use std::alloc::Global;
-use std::io::{Read, Write};
+use std::io::Write;
+use token::RunOutcome;
+use tracer::trace_text;
 
-/// The bytes of a program's file, and the guest's input.
-#[derive(Drop)]
-struct Given {
-    elf: Vec<u8>,
-    input: Vec<u8>,
+/// How many bytes a schedule has at most.
+const SCHEDULE_LIMIT: usize = 16_777_216;
+
+/// The status of a replay that ends before the run does.
+const OPEN: u8 = 122;
+
+/// Reads the events of the schedule at a path.
+pub(crate) fn read_events<'a, F: Files>(
+    alloc: Global,
+    path: &'a str,
+    files: &F,
+) -> Result<Vec<Event>, ReplayFailure<'a>>
+    ensures events { IfOk result (λ events. AreScheduled (F.content files.now path.now) events.items) }
+    ensures failed { IfErr result (IsUnscheduled path.now (F.content files.now path.now)) }
+{
+    let text = match files.read(alloc, path, SCHEDULE_LIMIT) {
+        Ok(text) if text.len() <= SCHEDULE_LIMIT => text,
+        Ok(_) => return Err(Failure::CannotRead(Target::Path(path)).into()),
+        Err(fault) => return Err(Failure::of_read(Target::Path(path), fault).into()),
+    };
+    match parse(alloc, text.as_slice()) {
+        Ok(events) => Ok(events),
+        Err(ParseFault::NotAnEvent { line }) => Err(ReplayFailure::NotAnEvent { line }),
+        Err(ParseFault::OutOfMemory) => Err(Failure::OutOfMemory.into()),
+    }
 }
 
-/// Applies the events of a schedule to a run of the program of a file, with the bytes of `stdin` as its input, and prints the
-/// trace of the turns that were done. Answers how the run ended, or none where a turn may follow.
-pub(crate) fn replay<'a, F: Files, R: Read, W: Write>(
+/// Applies events to a run of which no turn is done, and prints the trace of the turns that were done, also where an event is
+/// refused.
+pub(crate) fn go_through<'a, W: Write>(
     alloc: Global,
-    file: &'a str,
-    schedule: &'a str,
-    config: &Config,
-    files: &F,
-    stdin: &mut R,
+    opened: Opened,
+    workers: u32,
     stdout: &mut W,
 ) -> Result<Option<RunOutcome>, ReplayFailure<'a>>
-    ensures input { TakesAtMost (limit.input + 1) (R.remaining stdin.old) (R.remaining stdin.new) }
-    ensures answer { Replays (asked F.content files.now file.now schedule.now (R.remaining stdin.old) config.now)
-        (W.contents stdout.old) (W.contents stdout.new) result }
+    requires few { workers ≤ limit.workers }
+    requires some { 0 < workers }
+    ensures replayed { IfOk result (λ ended. (text : List ℕ)
+        × IsReplayed (point_of opened.start).setup workers opened.events.items ended text
+        × Appends (W.contents stdout.old) (W.contents stdout.new) text) }
+    ensures cut { IfErr result (IsCut (point_of opened.start).setup workers opened.events.items
+        (W.contents stdout.old) (W.contents stdout.new)) }
 {
-    let opened = open_replay(alloc, file, schedule, config, files, stdin)?;
-    go_through(alloc, opened, config.workers, stdout)
-}
-
-/// Reads the file, the input and the schedule, and opens the run, which is looked at last.
-fn open_replay<'a, F: Files, R: Read>(
-    alloc: Global,
-    file: &'a str,
-    schedule: &'a str,
-    config: &Config,
-    files: &F,
-    stdin: &mut R,
-) -> Result<Opened, ReplayFailure<'a>>
-    ensures input { TakesAtMost (limit.input + 1) (R.remaining stdin.old) (R.remaining stdin.new) }
-    ensures opened { IfOk result (λ opened. AreOf (asked F.content files.now file.now schedule.now (R.remaining stdin.old) config.now)
-        (point_of opened.start).setup opened.events.items) }
-    ensures start { IfOk result (λ opened. (point_of opened.start).done ≡ 0) }
-    ensures failed { IfErr result (IsUnopened (asked F.content files.now file.now schedule.now (R.remaining stdin.old) config.now)) }
-{
-    let given = read_given(alloc, file, files, stdin)?;
-    let events = read_events(alloc, schedule, files)?;
-    let start = open_bytes(alloc, given.elf.as_slice(), given.input.as_slice(), config)?;
-    Ok(Opened { start, events })
-}
-
-/// Reads the program's file and then the input, which is to be within its limit.
-fn read_given<'a, F: Files, R: Read>(
-    alloc: Global,
-    file: &'a str,
-    files: &F,
-    stdin: &mut R,
-) -> Result<Given, Failure<'a>>
-    ensures input { TakesAtMost (limit.input + 1) (R.remaining stdin.old) (R.remaining stdin.new) }
-    ensures given { IfOk result (λ given. AreGiven (F.content files.now file.now) (R.remaining stdin.old)
-        (record { elf = given.elf.items; input = given.input.items })) }
-    ensures failed { IfErr result (IsUngiven file.now (R.remaining stdin.old)) }
-{
-    let elf = match files.read(alloc, file, FILE_LIMIT) {
-        Ok(elf) => elf,
-        Err(fault) => return Err(Failure::of_read(Target::Path(file), fault)),
-    };
-    let input = match read_upto(alloc, stdin, MAX_INPUT) {
-        Ok(input) => input,
-        Err(fault) => return Err(Failure::of_read(Target::StandardInput, fault)),
-    };
-    if input.len() > MAX_INPUT {
-        return Err(Failure::InputTooLarge);
+    let mut world = World::of_start(alloc, opened.start, workers)?;
+    let applied = world.apply_all(opened.events.as_slice());
+    print_trace(alloc, &world, stdout)?;
+    match applied {
+        Ok(()) => Ok(world.outcome()),
+        Err(refused) => Err(ReplayFailure::of_refused(refused)),
     }
-    Ok(Given { elf, input })
+}
+
+/// Prints the trace of the turns that were done.
+fn print_trace<'a, W: Write>(
+    alloc: Global,
+    world: &World,
+    stdout: &mut W,
+) -> Result<(), Failure<'a>>
+    ensures printed { OnOk result (IsPrinted (point_at world.now) (W.contents stdout.old) (W.contents stdout.new)) }
+    ensures failed { IfErr result (IsUnprinted (W.contents stdout.old) (W.contents stdout.new)) }
+{
+    let text = trace_text(alloc, world.turns())?;
+    match print(text.as_bytes(), stdout) {
+        Ok(()) => Ok(()),
+        Err(_) => Err(Failure::CannotWrite(Target::StandardOutput)),
+    }
+}
+
+/// Says how a replay ended, where there is more to say than its status, and answers the status.
+pub(crate) fn conclude_replay<E: Write>(
+    answer: Result<Option<RunOutcome>, ReplayFailure<'_>>,
+    stderr: &mut E,
+) -> u8
+    ensures { result ≡ replay_status answer.entry }
+{
+    match answer {
+        Ok(Some(outcome)) => conclude(Ok(outcome), stderr),
+        Ok(None) => {
+            let _ = writeln!(stderr, "open");
+            OPEN
+        }
+        Err(failure) => {
+            let _ = writeln!(stderr, "{failure}");
+            failure.status()
+        }
+    }
 }

@@ -30,13 +30,13 @@ use Rattle.token.specs.declared.turn.Turn.{Turn}
 use Rattle.command_run.specs.Failure.{IsStoppedBy}
 use Rattle.command_requests.specs.Destination.{KeepsBut}
 use Rattle.command_requests.specs.Texts.{wants_races}
-use Rattle.command_outputs.proofs.Out.{from_before, printed_all}
-use Rattle.command_outputs.specs.Placing.{IsUnwrittenTo}
-use Rattle.command_outputs.specs.Recording.{HasWriting, either, failed_in, has_failed, kind_of, unwritten, wanted_by, wanted_of, writes_meanwhile, writing_in}
-use Rattle.command_outputs.specs.Texts.{AreAllOut, AreCutShort, AreTextsOf, ComesOut, IsUnbegun, Left, Placed, destinations}
-use Rattle.command_outputs.specs.declared.item.Item.{Item}
-use Rattle.command_outputs.specs.declared.recording.Recording.{Recording as TextRecording}
-use Rattle.command_outputs.specs.declared.recording.Recording.TheVariants.{Trace, Timeline, Report, Races, Core, Digest}
+use Rattle.command_run.proofs.Out.{from_before, printed_all}
+use Rattle.command_run.specs.Placing.{IsUnwrittenTo}
+use Rattle.command_run.specs.Recording.{HasWriting, either, failed_in, has_failed, kind_of, unwritten, wanted_by, wanted_of, writes_meanwhile, writing_in}
+use Rattle.command_run.specs.Texts.{AreAllOut, AreCutShort, AreTextsOf, ComesOut, IsUnbegun, Left, Placed, destinations}
+use Rattle.command_run.specs.declared.item.Item.{Item}
+use Rattle.command_run.specs.declared.recording.Recording.{Recording as TextRecording}
+use Rattle.command_run.specs.declared.recording.Recording.TheVariants.{Trace, Timeline, Report, Races, Core, Digest}
 use Rattle.command_requests.specs.Destination.{target_of}
 use Rattle.symbols.specs.Symbol.{SymbolLists}
 use Rattle.symbols.specs.Symbols.{symbols_of}

@@ -1,3 +1,7 @@
 pub mod Failure
-pub mod Serves
 pub mod Observing
+pub mod Placing
+pub mod Recording
+pub mod Serves
+pub mod Status
+pub mod Texts

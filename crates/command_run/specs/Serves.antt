@@ -26,10 +26,10 @@ use Rattle.command_requests.specs.Names.{AreTwins, Sameness, names_of}
 use Rattle.command_requests.specs.Reading.{AreRead, IsUnread}
 use Rattle.command_requests.specs.Destination.{KeepsBut}
 use Rattle.command_requests.specs.Texts.{wants_races}
-use Rattle.command_outputs.specs.Placing.{IsUnwrittenTo}
-use Rattle.command_outputs.specs.Recording.{AreTold, writes_meanwhile}
-use Rattle.command_outputs.specs.Texts.{AreCutShort, AreFiled, AreTextsOf, CanPrintAll, IsUnbegun, Left, Placed, destinations, printed}
-use Rattle.command_outputs.specs.declared.item.Item.{Item}
+use Rattle.command_run.specs.Placing.{IsUnwrittenTo}
+use Rattle.command_run.specs.Recording.{AreTold, writes_meanwhile}
+use Rattle.command_run.specs.Texts.{AreCutShort, AreFiled, AreTextsOf, CanPrintAll, IsUnbegun, Left, Placed, destinations, printed}
+use Rattle.command_run.specs.declared.item.Item.{Item}
 use Rattle.command_requests.specs.declared.failure.Failure.{Failure}
 use Rattle.command_requests.specs.declared.failure.Failure.TheVariants.{OneFile, CannotWrite, OutOfMemory}
 use Rattle.command_requests.specs.declared.target.Target.TheVariants.{StandardOutput}

@@ -1,11 +1,24 @@
-//! The command run, over any files and streams.
+//! The command run, over any files and streams: the run, and its texts, begun, told of each turn, and put in their places or abandoned.
 #![tactic(auto)]
 
+mod abandoning;
+mod beginning;
+mod completing;
+mod concluding;
+mod ended;
+mod finishing;
+mod item;
+mod items;
 mod observing;
 mod opened;
 mod performing;
+mod placing;
+mod recording;
 mod run_failure;
 mod running;
+mod trace_failure;
+mod unwritten;
 
+pub use concluding::conclude;
 pub use performing::run_file;
 pub use running::open_bytes;

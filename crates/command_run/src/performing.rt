@@ -8,10 +8,13 @@ ghost use Rattle.symbols.specs.Symbol.{SymbolLists};
 ghost use Rattle.token.specs.RunInTurn.{point_of};
 ghost use Rattle.command_run.specs.Serves.{Concludes, IsReady, RunsInto, host_of, run_of};
 
+use crate::abandoning::abandon;
+use crate::beginning::begin;
+use crate::ended::Ended;
+use crate::finishing::finish;
 use crate::observing::race_text;
 use crate::opened::Opened;
 use crate::running::{RunAttempt, open_file, run_start};
-use command_outputs::{Ended, abandon, begin, finish};
 use command_requests::{Failure, Wanted, named_twice, wants_races};
 use output_files::Files;
 use runtime::{Config, RunOutcome, WriteSink};

@@ -38,7 +38,7 @@ HANDED_ON = {
     ("crates/schedule_core/src/event_fault.rt", "EventFault::OutOfMemory"),
     ("crates/elf32_reader/src/reader.rt", "Err(_) => Err(ElfFault::OutOfMemory),"),
     ("crates/command_requests/src/arguments.rt", ".map_err(|_| Failure::OutOfMemory),"),
-    ("crates/command_disasm/src/listings.rt", "Err(_) => Err(Failure::OutOfMemory),"),
+    ("crates/command_line/src/listings.rt", "Err(_) => Err(Failure::OutOfMemory),"),
     ("crates/timeline/src/motion.rt", "Err(_) => Err(AllocError),"),
     ("crates/races/src/recorder.rt", "return Err(AllocError);"),
     ("crates/trace_events/src/timeline_recorder.rt", "self.failure = Some(TurnFault::OutOfMemory);"),

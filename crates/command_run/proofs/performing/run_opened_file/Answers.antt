@@ -2,7 +2,7 @@ use Rattle.std.proofs.Common.{◌∙◌, inl, inr, refl}
 use Rattle.std.specs.String.{string_bytes}
 use Rattle.output_files.specs.Content.{Tells}
 use Rattle.token.specs.RunInTurn.{point_of}
-use Rattle.command_outputs.specs.Recording.{wanted_by}
+use Rattle.command_run.specs.Recording.{wanted_by}
 use Rattle.command_run.proofs.Runs.{but_parts_twice, concludes_left_out, concludes_refused, concludes_unbegun, concludes_well, none_begun, wanted_races}
 use Rattle.command_run.specs.Serves.{AreToldOf}
 use Rattle.command_run.proofs.performing.run_opened_file.Goals as goal

@@ -1,7 +1,7 @@
 use Rattle.std.proofs.Common.{◌∙◌, ◌+◌, ap, inl, inr, refl, subst, sym}
 use Rattle.std.proofs.KnownBytes.{Appends-kept}
 use Rattle.token.specs.RunInTurn.{point_of}
-use Rattle.command_outputs.specs.Recording.{HasWriting, wanted_by}
+use Rattle.command_run.specs.Recording.{HasWriting, wanted_by}
 use Rattle.command_run.proofs.Runs.{all_sent, blamed_as, stopped_by, unwritten_some}
 use Rattle.command_run.specs.Serves.{AreToldOf}
 use Rattle.command_run.proofs.running.run_start.Goals as goal

@@ -1,4 +1,4 @@
-use Rattle.command_outputs.specs.Recording.{wanted_by}
+use Rattle.command_run.specs.Recording.{wanted_by}
 use Rattle.command_run.proofs.running.run_start.Given as goal
 
 -- the texts that are told are those that were begun

@@ -1,2 +1,0 @@
-pub mod Debugging
-pub mod Incoming

@@ -1,4 +1,0 @@
-pub mod Out
-pub mod Telling
-pub mod Begun
-pub mod Making

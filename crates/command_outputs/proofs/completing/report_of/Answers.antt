@@ -1,8 +1,0 @@
-use Rattle.std.specs.String.{string_bytes}
-use Rattle.command_outputs.proofs.Making.{report_made}
-use Rattle.command_outputs.proofs.completing.report_of.Goals as goal
-
-pub returns : goal.returns
-returns c =
-    report_made string_bytes c.args.sharing.now c.in_ok-rows.field-0.items c.report_text.result c.in_ok-rows.ensures
-    (rw c.deref.ensures.value at c.report_text.ensures)

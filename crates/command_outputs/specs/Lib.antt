@@ -1,4 +1,0 @@
-pub mod Placing
-pub mod Recording
-pub mod Texts
-pub mod Status

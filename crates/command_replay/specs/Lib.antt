@@ -1,3 +1,0 @@
-pub mod Replayed
-pub mod Scheduled
-pub mod Status
