@@ -12,7 +12,6 @@ record InSpan (n : ℕ) : Type 0 where
   within : n ≤ limit.instructions
 
 in_span : (n : ℕ) → is_span n ≡ true → InSpan n
-unfolding is_span
 in_span n is =
     let parts = and_parts (nat_le 1 n) (nat_le n limit.instructions) is in
     record { some = leb-true 1 n parts.0; within = leb-true n limit.instructions parts.1 }
