@@ -121,15 +121,15 @@ def listed():
     besides = [more - own for own, more in zip(of_library, of_program)]
     count = sum(len(it.texts) for it in every.values())
     return (
-        f"Of {count:,} definitions the law, and with it `run`, needs {counted(of_library[0], every)}, lowest crates first:\n\n"
-        f"{lines_of(*of_library, every)}\n`perform` needs {counted(besides[0], every)} besides, most of them for the texts of a run:\n\n"
+        f"Of {count:,} definitions, the law and `run` need {counted(of_library[0], every)}. Lowest crates first:\n\n"
+        f"{lines_of(*of_library, every)}\n`perform` needs another {counted(besides[0], every)}. Most of them are for the texts of a run:\n\n"
         f"{lines_of(*besides, every)}"
     )
 
 
 def counted(definitions, every):
     lines = sum(every[path].lines(name) for path, name in definitions)
-    return f"{len(definitions)}, {lines:,} lines without comments"
+    return f"{len(definitions)} ({lines:,} lines without comments)"
 
 
 def lines_of(definitions, types, every):
