@@ -2,6 +2,7 @@
 import argparse
 import ast
 import contextlib
+import glob
 import io
 import json
 import os
@@ -216,7 +217,8 @@ class Modules(unittest.TestCase):
     """Which modules of the tools are a part of each sum."""
 
     # Modules that print, put steps in an order, or choose the crates that are tried.
-    OTHERS = ["dt_commands/lanes.py", "dt_commands/progress.py", "dt_mutants/draw.py", "dt_mutants/progress.py", "dt_mutants/selftest.py"]
+    OTHERS = ["dt_commands/shared/lanes.py", "dt_commands/shared/progress.py"]
+    OTHERS += ["dt_mutants/draw.py", "dt_mutants/progress.py", "dt_mutants/selftest.py"]
 
     def imported(self, module):
         """Returns the modules of the tools that one imports, by their paths."""
@@ -224,8 +226,9 @@ class Modules(unittest.TestCase):
         names = [name.name for it in found if isinstance(it, ast.Import) for name in it.names]
         for it in found:
             names += [f"{it.module}.{name.name}" for name in it.names] + [it.module] if isinstance(it, ast.ImportFrom) else []
-        paths = [f"{it.replace('.', '/')}.py" for it in names]
-        return [it for it in paths if os.path.isfile(f"{TOP}/tools/{it}")]
+        paths = [it.replace(".", "/") for it in names]
+        found = [glob.glob(f"{TOP}/tools/{os.path.dirname(it)}/**/{os.path.basename(it)}.py", recursive=True) for it in paths if "/" in it]
+        return [os.path.relpath(it, f"{TOP}/tools") for of in found for it in of]
 
     def reached(self, *new):
         found, new = set(), list(new)

@@ -11,7 +11,6 @@ import os
 import re
 import shutil
 import subprocess
-import tempfile
 
 from dt_commands import c_page, guest_runs, rust_crates, rust_std
 from dt_commands.repository import TOP

@@ -58,7 +58,7 @@ def rows_in(table):
     """Returns the rows of a table of parameters by their names in the source."""
     found = {it["row"]: Parameter(it["name"], it["form"], it["need"], it["default"], it["help"]) for it in ROW.finditer(table)}
     if len(found) != table.count(": Parameter = "):
-        raise SystemExit(f"{TABLE}: a row has another form than tools/dt_commands/options.py reads")
+        raise SystemExit(f"{TABLE}: a row has another form than tools/dt_commands/maintainers/options.py reads")
     for it in found.values():
         if it.form == "Text" and not PLACE.search(it.help):
             raise SystemExit(f"{TABLE}: help of {it.name} doesn't say where the text goes, as that of the others does")

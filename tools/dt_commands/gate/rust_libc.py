@@ -3,7 +3,6 @@
 A program in C and one in Rust print each constant, and the size, the alignment and the places of the fields of each structure that
 guest/rust/libc.rs defines. Both are run, and must print the same. What the headers lack is left out. It needs guest/build-rust.
 """
-import os
 import re
 import subprocess
 import sys
