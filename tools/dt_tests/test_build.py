@@ -157,7 +157,3 @@ class Whole(WithRoom):
         self.assertIn("this is of high", self.said)
         self.assertFalse(os.path.exists(f"{self.top}/{built_from.OF_BUILD}"))
         self.assertEqual(self.ran("run")[0], "built, run\n")
-
-
-if __name__ == "__main__":
-    unittest.main()

@@ -82,7 +82,3 @@ class CatchAlls(unittest.TestCase):
     def test_each_marked_clause_and_no_other_is_found(self):
         found = catch_alls.of_definitions(DEFINITIONS)
         self.assertEqual(list(zip(marked(DEFINITIONS), ["wait_by", "stop_words"])), found)
-
-
-if __name__ == "__main__":
-    unittest.main()

@@ -21,7 +21,3 @@ class Clauses(unittest.TestCase):
         more = " + 0" * 40
         self.assertEqual(clauses.long_lines(clauses.clauses_of(SOURCE.replace("/ 4", f"/ 4{more}"))), [12])
         self.assertEqual(clauses.long_lines(clauses.clauses_of(SOURCE.replace("0 }\n    ensures*", f"0{more} }}\n    ensures*"))), [11])
-
-
-if __name__ == "__main__":
-    unittest.main()

@@ -39,7 +39,3 @@ class Directive(unittest.TestCase):
         found = of('set-target-env-var OMP_NUM_THREADS "2"', 'shouldfail "it stops"', 'output "one\\[0-9\\]"', "additional-sources other.c")
         self.assertEqual((found.variables(), found.is_to_fail(), found.output(), found.sources()),
                          (["OMP_NUM_THREADS=2"], True, "one[0-9]", ["other.c"]))
-
-
-if __name__ == "__main__":
-    unittest.main()

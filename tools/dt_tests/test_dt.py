@@ -117,7 +117,3 @@ class SelfTest(unittest.TestCase):
 
     def test_without_such_processes_the_tests_run_all_the_same(self):
         self.outcomes(begin=lambda _: (None, {}))
-
-
-if __name__ == "__main__":
-    unittest.main()

@@ -32,7 +32,3 @@ class Edits(unittest.TestCase):
         others = [repr(it) for at in folders() for it in edits_of(os.path.basename(at), at, "mutants")]
         self.assertEqual(sorted(set(found) - set(named)), [])
         self.assertEqual(sorted(set(named) - set(found) - set(others)), [])
-
-
-if __name__ == "__main__":
-    unittest.main()

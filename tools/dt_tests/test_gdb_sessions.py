@@ -182,7 +182,3 @@ class Starting(unittest.TestCase):
     def test_a_program_that_is_not_there_is_told(self):
         ran, _ = self.called(["b.elf"], ["gdb-multiarch"])
         self.assertEqual((ran.returncode, ran.stderr), (2, "dthreads-gdb: b.elf: no such program, or it can't be read\n"))
-
-
-if __name__ == "__main__":
-    unittest.main()

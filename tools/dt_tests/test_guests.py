@@ -149,7 +149,3 @@ class Measures(unittest.TestCase):
         of_seed = lambda seed: hashlib.sha256(random_guests.guest(random.Random(seed))).hexdigest()
         self.assertEqual(of_seed(7), of_seed(7))
         self.assertNotEqual(of_seed(7), of_seed(8))
-
-
-if __name__ == "__main__":
-    unittest.main()

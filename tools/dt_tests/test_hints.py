@@ -53,7 +53,3 @@ class Lists(unittest.TestCase):
         for name in (hints.NAME, *hints.BALANCED):
             with self.subTest(name):
                 self.assertTrue(hints.guest_tests.source_of(name))
-
-
-if __name__ == "__main__":
-    unittest.main()

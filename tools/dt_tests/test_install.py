@@ -179,7 +179,3 @@ class Installed(OfACopy):
             return
         self.assertTrue(os.path.exists(self.share(install.LIBRARY)))
         self.assertEqual(self.called("dthreads", "run", elf).stdout, b"counter 1000 of 2000\n")
-
-
-if __name__ == "__main__":
-    unittest.main()

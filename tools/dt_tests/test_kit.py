@@ -177,7 +177,3 @@ class Packages(unittest.TestCase):
 
     def test_each_package_of_the_kit_is_seen_to(self):
         self.assertTrue(set(packages.versions()) <= set(packages.NEEDED))
-
-
-if __name__ == "__main__":
-    unittest.main()

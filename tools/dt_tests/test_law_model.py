@@ -330,7 +330,3 @@ class Rest(unittest.TestCase):
     def test_the_gate_tries_each_guest(self):
         self.assertEqual({it.name for it, _ in rows_of()}, {it.name for it in number_tests.guests()})
         self.assertLess(len(rows_of()), 500)
-
-
-if __name__ == "__main__":
-    unittest.main()

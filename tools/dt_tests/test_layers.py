@@ -68,7 +68,3 @@ class Picture(unittest.TestCase):
 
     def test_a_section_that_is_left_out_is_told(self):
         self.assertEqual(1, len(told(picture().replace("debugging   what it is for\n", ""))))
-
-
-if __name__ == "__main__":
-    unittest.main()

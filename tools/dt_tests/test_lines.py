@@ -82,7 +82,3 @@ class Lines(WithRoom):
         ran = self.lines(race.format("", ""), "program.elf", path="/usr/bin")
         self.assertEqual((ran.returncode, ran.stderr), (0, ""))
         self.assertEqual(ran.stdout, race.format(" at=program.c:6", " at=program.c:1"))
-
-
-if __name__ == "__main__":
-    unittest.main()

@@ -340,7 +340,3 @@ class Libraries(WithRoom):
         self.assertTrue(self.serve())
         self.write("crates/high/out/rlib/high.rlib/format", "other")
         self.assertFalse(self.serve())
-
-
-if __name__ == "__main__":
-    unittest.main()

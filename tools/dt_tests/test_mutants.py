@@ -164,7 +164,3 @@ class Judging(WithCrate):
         edits = list(self.edits({"a": [("100", "true")], "b": [("200", "7")]}, source=source).values())
         self.assertEqual([it.name for it in verdicts.blamed(edits, said("compiles_not"))], ["a"])
         self.assertEqual(verdicts.refused_by(edits, said("compiles_not"), 1), [])
-
-
-if __name__ == "__main__":
-    unittest.main()

@@ -96,7 +96,3 @@ class Gate(unittest.TestCase):
         for it in ("0 passed, 0 failed", "", "7 passed, 1 failed"):
             with self.subTest(it):
                 self.assertEqual(self.ran(it)[0], 1)
-
-
-if __name__ == "__main__":
-    unittest.main()

@@ -32,6 +32,5 @@ class Taken(unittest.TestCase):
             with self.subTest((text, end)):
                 self.assertEqual(nptl_tests.is_wanted(text, end), is_wanted)
 
-
-if __name__ == "__main__":
-    unittest.main()
+    def test_the_page_tells_why_tests_fail(self):
+        self.assertIn("`stdio.h`", nptl_tests.failing()["tst-cancel6"])

@@ -29,7 +29,3 @@ class Lists(unittest.TestCase):
         others = rows_of(f"{variation_tests.FOLDER}/others")
         self.assertEqual([it[0] for it in others if it[0] not in names], [])
         self.assertEqual([it[0] for it in others if len(it) < 2], [])
-
-
-if __name__ == "__main__":
-    unittest.main()

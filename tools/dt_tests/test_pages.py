@@ -77,7 +77,3 @@ class Toolchain(unittest.TestCase):
 class Links(unittest.TestCase):
     def test_anchors_are_those_of_code_hosts(self):
         self.assertEqual(page_links.anchors("# A\n## `run`, and more!\n"), {"a", "run-and-more"})
-
-
-if __name__ == "__main__":
-    unittest.main()

@@ -167,7 +167,3 @@ class Command(WithRoom):
 class OfTheSample(unittest.TestCase):
     def test_the_picture_in_the_pages_is_as_it_must_be(self):
         self.assertEqual(sample_pictures.found(), [])
-
-
-if __name__ == "__main__":
-    unittest.main()

@@ -1,6 +1,5 @@
 """Tests of `tools/dt measure proofs`, over files with times that are given."""
 import os
-import unittest
 
 from dt_commands import measure_proofs
 from rooms import WithRoom
@@ -41,7 +40,3 @@ class Proofs(WithRoom):
         lines = measure_proofs.shown("small", *measure_proofs.times_of(self.files), 2)
         self.assertEqual([it.split()[0] for it in lines], ["8.0", "3.0", "14.0"])
         self.assertTrue(lines[-1].endswith("small: Lts 6, other 4, Proof 2, Code 1, Kinds 1"))
-
-
-if __name__ == "__main__":
-    unittest.main()

@@ -47,7 +47,3 @@ class Built(unittest.TestCase):
             open(f"{room}/tool_1.2+ds.orig.tar.xz", "w", encoding="utf-8").close()
             self.assertEqual(archives.find("tool"), (f"{room}/tool_1.2+ds.orig.tar.xz", "1.2+ds"))
             self.assertIsNone(archives.find("too"))
-
-
-if __name__ == "__main__":
-    unittest.main()

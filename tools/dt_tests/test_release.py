@@ -319,7 +319,3 @@ class Choices(Tree):
         os.symlink(f"{self.top}/dthreads", f"{self.top}/bin/other")
         self.assertEqual(self.started("run", script=f"{self.top}/bin/other", folder=self.path), f"{RELEASED} run")
         self.assertEqual(self.started("run", script="./dthreads", folder=self.top), f"{RELEASED} run")
-
-
-if __name__ == "__main__":
-    unittest.main()

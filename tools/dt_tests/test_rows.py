@@ -164,7 +164,3 @@ class Bench(unittest.TestCase):
             self.assertEqual({*os.listdir(f"{place}/crates")}, {bench.NAME, *bench.crates_below()})
             with open(f"{place}/crates.txt", encoding="utf-8") as it:
                 self.assertEqual(len(it.readlines()), 1 + len(bench.crates_below()))
-
-
-if __name__ == "__main__":
-    unittest.main()

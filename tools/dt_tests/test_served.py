@@ -134,7 +134,3 @@ class Files(unittest.TestCase):
         given = {"lemmas": "use Rattle.numbers.specs.contracts.half\n", "above": ["Numbers"]}
         source = SOURCE.replace("half { IsHalf self.now.value result }", "half { result ≡ 0 }")
         self.assertNotEqual(crate(**given), crate(source=source, **given))
-
-
-if __name__ == "__main__":
-    unittest.main()

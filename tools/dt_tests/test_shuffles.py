@@ -50,7 +50,3 @@ class Lengths(unittest.TestCase):
         found = [shuffles.length(number, phase, thread) for number in NUMBERS for phase in range(1, 20) for thread in THREADS]
         self.assertTrue(all(it is None or 1 <= it < 2**16 for it in found))
         self.assertTrue(1 in found and None in found and max(it or 0 for it in found) > 2**15)
-
-
-if __name__ == "__main__":
-    unittest.main()

@@ -18,7 +18,3 @@ class Sources(unittest.TestCase):
 
     def test_brackets_in_texts_are_no_brackets(self):
         self.assertEqual([], made_up_errors.complaints('fn f() { let a = "{("; match b { Fault::OutOfMemory => Other::OutOfMemory, } }'))
-
-
-if __name__ == "__main__":
-    unittest.main()

@@ -62,7 +62,3 @@ class Sweeps(unittest.TestCase):
     def test_a_limit_is_no_refusal(self):
         said = "== change_1\nrace: trace\ncase=change_1 run=ended status=0\n== change_2\ncase=change_2 run=no-answer proved=no\n"
         self.assertEqual([sweep_changes.cases_in(said)[it][0] for it in (1, 2)], ["FAILED", "no answer"])
-
-
-if __name__ == "__main__":
-    unittest.main()

@@ -71,7 +71,3 @@ class Sweeps(unittest.TestCase):
 
     def test_runs_of_several_host_threads_differ_by_20_requests_at_most(self):
         self.assertLessEqual(sweep_memory.SPREAD, 20)
-
-
-if __name__ == "__main__":
-    unittest.main()

@@ -44,7 +44,3 @@ class Guests(unittest.TestCase):
         first, bound, quantum = written_guests.runs("race")[:3]
         self.assertEqual((first.words, bound.words, quantum.words), ([], ["--bound", "3"], ["--quantum", "2"]))
         self.assertEqual(written_guests.runs("echo")[0].given, b"ab")
-
-
-if __name__ == "__main__":
-    unittest.main()

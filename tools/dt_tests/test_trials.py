@@ -169,7 +169,3 @@ class Trials(unittest.TestCase):
 
     def test_a_check_that_writes_into_the_seed_fails_the_trial(self):
         self.assertIn("changed meanwhile", self.tried(["x"] * 5, is_seed_changed=True)[2].failure)
-
-
-if __name__ == "__main__":
-    unittest.main()

@@ -131,7 +131,3 @@ class SmallerNumbers(WithRoom):
         self.assertTrue([it for it in folders if test.smaller(it)])
         for it in folders:
             test.wanted_of(it)
-
-
-if __name__ == "__main__":
-    unittest.main()

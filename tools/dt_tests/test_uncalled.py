@@ -84,7 +84,3 @@ class Uncalled(unittest.TestCase):
 
     def test_what_is_listed_calls_others(self):
         self.assertEqual(["lower/Table::seen", "lower/show"], found("upper/first"))
-
-
-if __name__ == "__main__":
-    unittest.main()

@@ -26,7 +26,3 @@ class Where(unittest.TestCase):
     def test_the_first_part_that_fits_counts(self):
         for name, part in (("twins::view::View::near", "Instructions"), ("twins::pages::take", "Pages"), ("std_alloc::vec::grow", "Allocator")):
             self.assertEqual(measure_where.part_of(name, "(/x/command)"), part)
-
-
-if __name__ == "__main__":
-    unittest.main()

@@ -10,7 +10,7 @@ import tempfile
 
 from dt_commands.progress import Progress
 from dt_commands.repository import TOP
-from dt_commands.texts import write_file
+from dt_commands.texts import read_text, rows_of, write_file
 
 KIT = f"{TOP}/guest"
 PAGE = f"{TOP}/docs/C-FUNCTIONS.md"
@@ -22,9 +22,7 @@ STANDARDS = [("c11", "C11"), ("posix", "POSIX.1-2008, beyond C11")]
 
 def standard(name):
     """Returns the headers of a standard, each with its functions, in the file's order."""
-    with open(f"{KIT}/reference/{name}", encoding="utf-8") as lines:
-        rows = [line.split() for line in lines if line.strip() and not line.startswith("#")]
-    return [(row[0], row[1:]) for row in rows]
+    return [(row[0], row[1:]) for row in rows_of(f"{KIT}/reference/{name}")]
 
 
 def reasons():
@@ -101,9 +99,8 @@ def links(names):
     """Whether a program links that names all these functions."""
     with tempfile.TemporaryDirectory() as room:
         source = f"{room}/all.c"
-        with open(source, "w", encoding="utf-8") as file:
-            file.write("int main(void) { return 0; }\n")
-            file.write('__asm__(".section .rodata.all, \\"aR\\"\\n' + "".join(f".word {name}\\n" for name in names) + '");\n')
+        words = "".join(f".word {name}\\n" for name in names)
+        write_file(source, f'int main(void) {{ return 0; }}\n__asm__(".section .rodata.all, \\"aR\\"\\n{words}");\n')
         done = subprocess.run([f"{KIT}/dthreads-cc", "-o", f"{room}/all.elf", source, "-lm", "-Wl,--no-gc-sections"],
                               stderr=subprocess.PIPE, text=True)
     if done.returncode:
@@ -115,8 +112,7 @@ def compared():
     """Returns the page, the place of its table, the text that the table must be, and the functions that are there as symbols."""
     with Progress("tables", 1):
         text, present = table()
-    with open(PAGE, encoding="utf-8") as file:
-        page = file.read()
+    page = read_text(PAGE)
     found = TABLE.search(page)
     if not found:
         raise SystemExit(f"{PAGE}: the marks of the table are missing")

@@ -13,7 +13,7 @@ import tempfile
 from dt_commands import guest_runs, guest_tests
 from dt_commands.progress import Progress
 from dt_commands.repository import TOP
-from dt_commands.texts import first_difference, write_file
+from dt_commands.texts import first_difference, read_text, write_file
 
 PAGES = ("docs/C.md", "docs/CLEAN-RUNS.md", "docs/OPENMP.md")
 # What a page's commands need besides.
@@ -51,8 +51,7 @@ def printed(text, room, progress):
 
 def is_as_told(page):
     """Returns whether the commands of a page print what the page says. If not, prints where that begins."""
-    with open(f"{TOP}/{page}", encoding="utf-8") as it:
-        text = it.read()
+    text = read_text(f"{TOP}/{page}")
     wanted = shown_in(text)
     count = sum(it.startswith("$ ") for it in wanted)
     with tempfile.TemporaryDirectory() as room, Progress("commands", count) as progress:

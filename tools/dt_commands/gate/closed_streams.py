@@ -80,10 +80,6 @@ def shown(run):
     return f"status {run.status}, output {run.output[:60]}, errors {run.errors[:60]}, file {(run.file or b'')[:60]}"
 
 
-def arguments(parser):
-    pass
-
-
 def test(options):
     """Tests runs of the program with standard streams closed."""
     with tempfile.TemporaryDirectory(prefix="closed-streams-") as room:

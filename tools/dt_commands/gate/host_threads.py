@@ -10,7 +10,7 @@ import tempfile
 import time
 
 from dt_commands import closed_streams, fixed_guests, guest_runs
-from dt_commands.texts import write_file
+from dt_commands.texts import read_text, write_file
 
 # Workers, threads of the guest that have long work in one phase, and how many host threads there are then.
 ROWS = [(1, 5, 1), (2, 2, 2), (2, 5, 2), (3, 5, 3), (4, 3, 3), (64, 1, 1), (64, 2, 2), (64, 5, 5)]
@@ -29,8 +29,7 @@ WAITING = [(2, 1), (64, 1), (2, 5_000_000), (64, 5_000_000)]
 
 def host_threads(process):
     """Returns how many host threads a process has."""
-    with open(f"/proc/{process.pid}/status", encoding="ascii") as it:
-        return int(re.search(r"^Threads:\s+(\d+)$", it.read(), re.M)[1])
+    return int(re.search(r"^Threads:\s+(\d+)$", read_text(f"/proc/{process.pid}/status"), re.M)[1])
 
 
 def started(file, workers, wanted):
@@ -88,10 +87,6 @@ def wait_fails(room):
         found = f"status {ran.returncode}, not {TRAPPED}" if ran.returncode != TRAPPED else f"{spent:.2f} s of processor time in {passed:.2f} s{'' if is_idle else ': somebody waits busily, or does the work once more'}"
         print(f"{workers} workers, one thread with work after {rounds} rounds of another: {found}", flush=True)
     return failed
-
-
-def arguments(parser):
-    pass
 
 
 def test(options):

@@ -15,6 +15,7 @@ from collections import namedtuple
 from dt_commands import guest_runs, lanes, packages, rust_tests
 from dt_commands.progress import minutes
 from dt_commands.repository import TOP
+from dt_commands.texts import contents, read_text, write_file
 from dt_mutants.progress import processor_seconds
 
 # A part: its name, the words of its call, in how many shares it is made, and what it reads beside COMMON, from the top.
@@ -34,7 +35,7 @@ PARTS = [
     Part("samples, built anew", ["check", "c-samples"], 1, []),
     Part("table of functions", ["check", "c-functions"], 1, ["docs/C-FUNCTIONS.md"]),
     Part("samples", ["test", "c-samples"], 1, []),
-    Part("builds of others", ["test", "builds"], 1, []),
+    Part("builds of others", ["test", "builds"], 1, ["guest/tests/builds"]),
     Part("page", ["test", "c-page"], 1, ["docs/C.md", "docs/CLEAN-RUNS.md", "docs/OPENMP.md"]),
     Part("manual pages", ["test", "manual"], 1, ["guest/tests/manual"]),
 ]
@@ -86,8 +87,7 @@ def sum_of(part, of_machine):
     """Returns the sum of all that a part reads."""
     made = hashlib.sha256("\n".join([part.name, *part.words, *of_machine]).encode())
     for path in sorted({file for it in (*COMMON, *part.reads) for file in files_below(it)}):
-        with open(f"{TOP}/{path}", "rb") as it:
-            made.update(f"\n{path} {hashlib.sha256(it.read()).hexdigest()}".encode())
+        made.update(f"\n{path} {hashlib.sha256(contents(f'{TOP}/{path}')).hexdigest()}".encode())
     return made.hexdigest()
 
 
@@ -133,8 +133,7 @@ class Session:
         """Makes what isn't stamped, and returns the status."""
         due = [it for it in self.parts if is_anew or not os.path.exists(stamp_of(self.before[it.name]))]
         for part in (it for it in self.parts if it not in due):
-            with open(stamp_of(self.before[part.name]), encoding="utf-8") as it:
-                print(f"{part.name}: unchanged since it was green: {it.read().strip()}", flush=True)
+            print(f"{part.name}: unchanged since it was green: {read_text(stamp_of(self.before[part.name])).strip()}", flush=True)
         self.left, self.said = {it.name: len(tasks_of(it)) for it in due}, {it.name: [] for it in due}
         every = [(part.name, lambda words=words: self.does(words)) for part in due for words in tasks_of(part)]
         lanes.tasks_in_lanes(lane_count, every, self.ended)
@@ -160,9 +159,7 @@ class Session:
         for part in due:
             if part.name not in self.failed and after[part.name] == self.before[part.name]:
                 file = stamp_of(after[part.name])
-                os.makedirs(os.path.dirname(file), exist_ok=True)
-                with open(f"{file}.{os.getpid()}", "w", encoding="utf-8") as it:
-                    it.write(f"{together(self.said[part.name])}\n")
+                write_file(f"{file}.{os.getpid()}", f"{together(self.said[part.name])}\n")
                 os.replace(f"{file}.{os.getpid()}", file)
 
 

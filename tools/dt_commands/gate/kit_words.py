@@ -1,82 +1,23 @@
-"""The words of dthreads-cc, as builds of other programs give them: each case is a command with what it must print or give."""
+"""The words of dthreads-cc, as builds of other programs give them: each case is a command with what it must print or give.
+
+The programs are those of guest/tests/builds. DTHREADS names the program that runs them, or else ./dthreads.
+"""
 import os
 import re
+import shutil
 import subprocess
 import tempfile
 
 from dt_commands import guest_runs
 from dt_commands.progress import Progress
-from dt_commands.texts import write_file
+from dt_commands.texts import read_text, write_file
 
 # Instructions that take less than a tenth of a second.
 SOON = 5000000
 # Bytes of a file that is larger than the input may be.
 LARGE = 40 << 20
-MAIN = "int main(void) { return 7; }\n"
-FORKS = '#include <unistd.h>\nint main(int count, char **words) { return count > 1 && (fork() || fork() || execv(words[1], words)); }\n'
-VISIBLE = """#if !defined _GNU_SOURCE || __GCC_ATOMIC_INT_LOCK_FREE != 2
-#error
-#endif
-#include <sys/auxv.h>
-#include <sys/resource.h>
-int main() { rusage it; return getrusage(RUSAGE_SELF, &it) + (int)getauxval(1000) + 7; }
-"""
-BESIDE = """#include <pthread.h>
-#include <unistd.h>
-static volatile int stop;
-static void *computes(void *argument) { while (!stop); return argument; }
-int main(void)
-{
-    pthread_t thread;
-    pthread_create(&thread, 0, computes, 0);
-    usleep(1000);
-    stop = 1;
-    return pthread_join(thread, 0);
-}
-"""
-DAY = """#include <stdio.h>
-#include <time.h>
-int main(void) { time_t now = time(NULL); return printf("%s", asctime(gmtime(&now))) < 0; }
-"""
-WHOLE = """#include <stdio.h>
-int main(void)
-{
-    static unsigned char bytes[65536];
-    unsigned long size = 0, sum = 0;
-    FILE *file = fopen("/data/large", "rb");
-    for (size_t count; (count = fread(bytes, 1, sizeof bytes, file)) > 0; size += count)
-        sum = sum * 31 + bytes[count - 1];
-    file = fopen("/data/small", "r+");
-    fputs("SMALL", file);
-    rewind(file);
-    return printf("%lu %lu %s", size, sum, fgets((char *)bytes, 100, file)) < 0;
-}
-"""
-FULL = """#include <errno.h>
-#include <stdio.h>
-#include <string.h>
-#include <unistd.h>
-int main(void)
-{
-    static char bytes[60000];
-    int count = 0;
-    while (write(1, bytes, sizeof bytes) == sizeof bytes)
-        count++;
-    fprintf(stderr, "%d, %s\\n", count, strerror(errno));
-    return 5;
-}
-"""
-WORDS = """#include <stdio.h>
-#include <stdlib.h>
-int main(int count, char **words)
-{
-    for (int at = 0; at < count; at++)
-        printf("%s ", words[at]);
-    printf("%s\\n", getenv("WORD"));
-    return 3;
-}
-"""
-LOCAL = "static __thread int local = 6;\nint main(void) { return ++local; }\n"
+# The programs of the cases, which each has in its folder.
+SOURCES = f"{guest_runs.KIT}/tests/builds"
 
 
 def call(words, room):
@@ -123,7 +64,6 @@ def preprocessed(room):
 
 def main_in_archive(room):
     """An archive may have main."""
-    write_file(f"{room}/main.c", MAIN)
     call(["-c", "main.c"], room)
     subprocess.run(["riscv64-unknown-elf-ar", "rcs", "libmain.a", "main.o"], cwd=room, check=True)
     return status(room, "-L.", "-lmain"), 7
@@ -131,7 +71,6 @@ def main_in_archive(room):
 
 def warns_once(room):
     """A program that names absent functions is linked, with one warning for each."""
-    write_file(f"{room}/forks.c", FORKS)
     said = call(["forks.c", "-o", "forks.elf"], room)
     wanted = [f"dthreads-cc: {it}: there are no processes here; the call fails with ENOSYS" for it in ("execv", "fork")]
     return (said.returncode, sorted(said.stderr.splitlines())), (0, wanted)
@@ -139,25 +78,21 @@ def warns_once(room):
 
 def visible(room):
     """C++ sees what it sees on Linux."""
-    write_file(f"{room}/visible.cc", VISIBLE)
     return status(room, "visible.cc"), 7
 
 
 def models(room):
     """Any model of thread-local storage may be asked for."""
-    write_file(f"{room}/local.c", LOCAL)
     every = ("global-dynamic", "local-dynamic", "initial-exec", "local-exec")
     return [status(room, f"-ftls-model={it}", "-fPIC", "local.c") for it in every], [7] * 4
 
 
 def instructions(trace):
-    with open(trace, encoding="utf-8") as lines:
-        return sum(int(it) for it in re.findall(r"ran=(\d+)", lines.read()))
+    return sum(int(it) for it in re.findall(r"ran=(\d+)", read_text(trace)))
 
 
 def quantum(room):
     """dthreads-exec has a quantum, so that a sleep ends soon beside a thread that computes, or none, and says what a used-up bound is."""
-    write_file(f"{room}/beside.c", BESIDE)
     call(["-O2", "beside.c", "-o", "beside.elf"], room)
     ways = [["--trace", f"{room}/trace"], ["--bound", "100000000", "--quantum", "100000"], ["--bound", "3000000", "--quantum", "none"]]
     runs = [executed(room, "beside", *it) for it in ways]
@@ -168,7 +103,6 @@ def quantum(room):
 
 def before(room):
     """dthreads-exec may be put before a program and its words."""
-    write_file(f"{room}/words.c", WORDS)
     call(["-rdynamic", "words.c", "-o", "words.elf", "-lutil"], room)
     ran = performed("dthreads-exec", "--env", "WORD=two", "--workers=4", "--run", f"{room}/words.elf", "--", "one", "--run")
     others = [performed("dthreads-exec", *it).returncode for it in (["--run"], ["--seed", "1", "--"], [f"{room}/words.elf", "word"])]
@@ -177,7 +111,6 @@ def before(room):
 
 def clock(room):
     """The clock of the day begins when the link, dthreads-exec or dthreads-gdb says."""
-    write_file(f"{room}/day.c", DAY)
     call(["-O2", "day.c", "-o", "day.elf"], room)
     call(["-O2", "--clock=2026-11-30", "day.c", "-o", "linked.elf"], room)
     runs = [with_workers(room, "day"), with_workers(room, "day", "--clock", "2026-11-30T17:45:09Z"), with_workers(room, "linked"),
@@ -191,7 +124,6 @@ def clock(room):
 
 def files(room):
     """Files of dthreads-exec may be larger than the input, and may be written."""
-    write_file(f"{room}/whole.c", WHOLE)
     call(["-O2", "whole.c", "-o", "whole.elf"], room)
     total = 0
     with open(f"{room}/large", "wb") as file:
@@ -206,7 +138,6 @@ def files(room):
 
 def full(room):
     """At the output's end dthreads-exec says so, and keeps texts apart."""
-    write_file(f"{room}/full.c", FULL)
     call(["-O2", "full.c", "-o", "full.elf"], room)
     said = "279, No space left on device\ndthreads-exec: the output's limit of 16,777,216 bytes was reached: writes beyond it fail with ENOSPC\n"
     return with_workers(room, "full"), {(5, "\0" * 60000 * 279, said)}
@@ -222,6 +153,7 @@ def test(_):
     with Progress("cases", len(CASES)) as progress:
         for case in progress.each(CASES, lambda it: it.__name__):
             with tempfile.TemporaryDirectory() as room:
+                shutil.copytree(SOURCES, room, dirs_exist_ok=True)
                 found, wanted = case(room)
             if found != wanted:
                 tally.fail(f"{case.__name__}: {found}, wanted {wanted}")

@@ -9,6 +9,7 @@ import sys
 import tempfile
 
 from dt_commands import guest_runs, rust_tests
+from dt_commands.texts import read_text, write_file
 
 MODULE = f"{guest_runs.KIT}/rust/libc.rs"
 HEADERS = """dirent dlfcn errno fcntl limits locale netdb poll pthread pwd semaphore signal stdio stdlib termios time unistd arpa/inet
@@ -59,8 +60,8 @@ def is_constant(text):
 
 def known_to_c(lines, room):
     """Returns the lines whose expressions the kit's compiler of C knows, and the constants."""
-    with open(f"{room}/try.c", "w", encoding="utf-8") as it:
-        it.write(HEAD + "".join(f"long at_{at} = {'0' if is_constant(text) else of_c};\n" for at, (text, of_c, _) in enumerate(lines)))
+    tried = "".join(f"long at_{at} = {'0' if is_constant(text) else of_c};\n" for at, (text, of_c, _) in enumerate(lines))
+    write_file(f"{room}/try.c", HEAD + tried)
     how = {"stdout": subprocess.PIPE, "stderr": subprocess.STDOUT, "text": True}
     said = subprocess.run([f"{guest_runs.KIT}/dthreads-cc", "-fsyntax-only", "-fmax-errors=0", "-c", f"{room}/try.c"], **how).stdout
     first = HEAD.count("\n") + 1
@@ -83,8 +84,7 @@ def in_rust(lines):
 
 def printed(room, name, text, does):
     """Builds and runs a program; returns what it printed, by the text of each line."""
-    with open(f"{room}/{name}", "w", encoding="utf-8") as it:
-        it.write(text)
+    write_file(f"{room}/{name}", text)
     said = does(f"{room}/{name}", f"{room}/{name}.elf")
     if said is not None:
         raise SystemExit(f"{said}{name}: doesn't build")
@@ -107,8 +107,7 @@ def check(options):
     if not rust_tests.has_rust():
         print(f"the crate libc: left out, {rust_tests.why_not()}")
         return 1
-    with open(MODULE, encoding="utf-8") as it:
-        module = Module(it.read())
+    module = Module(read_text(MODULE))
     with tempfile.TemporaryDirectory() as room:
         lines = known_to_c(list(candidates(module)), room)
         of_c = printed(room, "values.c", in_c(lines), lambda source, out: guest_runs.compiled([source], out, room))

@@ -90,8 +90,7 @@ class Sweep:
             sys.exit(f"{self.words} with {settings}: it didn't end within {self.seconds} seconds")
         if ran.returncode < 0:
             sys.exit(f"{self.words} with {settings}: a crash, signal {-ran.returncode}")
-        with open(f"{self.room}/requests", encoding="ascii") as it:
-            requests, refusals = (int(word) for word in it.read().split())
+        requests, refusals = (int(word) for word in contents(f"{self.room}/requests").split())
         files = [contents(it) or b"" for it in self.records]
         return Answer(ran.returncode, ran.stdout, ran.stderr, files, requests, refusals)
 

@@ -6,6 +6,7 @@ trace by Python's hashlib.
 import sys
 
 from dt_commands.law_model import memory, shown
+from dt_commands.texts import contents
 
 
 def arguments(parser):
@@ -16,8 +17,7 @@ def arguments(parser):
 
 
 def run(options):
-    with open(options.elf, "rb") as it:
-        shared = memory.Shared(memory.pages_of(it.read()))
+    shared = memory.Shared(memory.pages_of(contents(options.elf)))
     shared.write({int(address, 16): int(byte, 16) for address, byte in (it.split("=") for it in options.changes)})
     text = shown.digest_of(options.outcome, bytes.fromhex(options.output), shared.pages, sys.stdin.buffer.read())
     sys.stdout.write(text.decode())

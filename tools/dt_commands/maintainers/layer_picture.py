@@ -10,6 +10,7 @@ import re
 
 from dt_commands import layers
 from dt_commands.repository import TOP
+from dt_commands.texts import read_text
 
 PAGE = "docs/ARCHITECTURE.md"
 
@@ -48,6 +49,5 @@ def complaints(page, text):
 
 def found():
     """Returns in what the picture differs from crates.txt, each with the page."""
-    with open(f"{TOP}/{PAGE}", encoding="utf-8") as page, open(f"{TOP}/crates.txt", encoding="utf-8") as text:
-        wrong = complaints(page.read(), text.read())
+    wrong = complaints(read_text(f"{TOP}/{PAGE}"), read_text(f"{TOP}/crates.txt"))
     return [f"{PAGE}: the picture of the layers: {it}" for it in wrong]

@@ -10,6 +10,7 @@ import tempfile
 from dt_commands import guest_runs, guest_tests, rust_tests
 from dt_commands.progress import Progress
 from dt_commands.repository import TOP
+from dt_commands.texts import read_text, write_file
 
 SOURCE = f"{TOP}/tools/guests/operations.rs"
 TIMES = 100
@@ -28,15 +29,13 @@ def counted(elf, words, room):
     trace = f"{room}/trace"
     command = [f"{guest_runs.KIT}/dthreads-exec", elf, "--quantum", "none", "--trace", trace, "--", *words]
     subprocess.run(command, stdin=subprocess.DEVNULL, stdout=subprocess.DEVNULL, env=rust_tests.environment(), check=True)
-    with open(trace, encoding="utf-8") as it:
-        lines = it.read().splitlines()
+    lines = read_text(trace).splitlines()
     return len(lines), sum(int(it.rpartition("ran=")[2]) for it in lines)
 
 
 def hello(name, text, does, room):
     """Prints what a program takes in all that prints a line."""
-    with open(f"{room}/{name}", "w", encoding="utf-8") as it:
-        it.write(text)
+    write_file(f"{room}/{name}", text)
     said = does(f"{room}/{name}", f"{room}/hello.elf")
     if said is not None:
         raise SystemExit(said)

@@ -3,7 +3,7 @@
 By hand, and only with a network, unless --sources has glibc's archive: it takes Debian's sources of glibc, builds glibc's own support for
 tests, and each test that applies to this machine, unchanged, and runs it by guest/dthreads-exec with 1 and 4 workers. A test applies unless its
 source names what a reason of REASONS looks for. It prints each test that fails, with what it said, how many pass, and how many don't apply, by
-reason. What fails must be what FAILING lists. DTHREADS names the program to run the tests with, or else ./dthreads.
+reason. What fails must be what docs/C-REFERENCE.md lists. DTHREADS names the program to run the tests with, or else ./dthreads.
 """
 import glob
 import os
@@ -42,47 +42,9 @@ REASONS = {
     "processors of a thread": r"affinity|sched_getcpu|rseq",
     "locales and other files of the host": r"/proc/|/usr/|newlocale|setlocale *\([^)]*\"\w\w_",
 }
-# The tests that fail, and why.
-STREAMS = "the functions of stdio.h are no cancellation points"
-COMPUTING = "nothing interrupts a thread that computes or waits for a mutex"
-TRAPS = "a trap can't be caught"
-SHARED = "it needs a shared library"
-STACKS = "100 stacks of 1 MiB are more than the heap has"
-UNKNOWN = "not explained"
-FAILING = {
-    "tst-cancel-self": STREAMS,
-    "tst-cancel-self-cancelstate": STREAMS,
-    "tst-cancel1": COMPUTING,
-    "tst-cancel30": COMPUTING,
-    "tst-cancel6": STREAMS,
-    "tst-cancel9": STREAMS,
-    "tst-cancelx6": STREAMS,
-    "tst-cancelx9": STREAMS,
-    "tst-cleanup2": TRAPS,
-    "tst-cleanupx2": TRAPS,
-    "tst-eintr5": "it waits for a condition without its mutex, which is EPERM here",
-    "tst-execstack": SHARED,
-    "tst-fini1": SHARED,
-    "tst-initializers1": "it names fields of glibc's own mutex",
-    "tst-kill6": UNKNOWN,
-    "tst-locale1": UNKNOWN,
-    "tst-locale2": UNKNOWN,
-    "tst-memstream": UNKNOWN,
-    "tst-minstack-exit": UNKNOWN,
-    "tst-mutex7": STACKS,
-    "tst-mutex7a": STACKS,
-    "tst-mutexpi10": UNKNOWN,
-    "tst-mutexpi7": STACKS,
-    "tst-mutexpi7a": STACKS,
-    "tst-once2": STACKS,
-    "tst-pt-sysconf": "the number of threads has a limit",
-    "tst-pt-tls1": "a stack of the program begins at a multiple of 16",
-    "tst-pt-tls2": UNKNOWN,
-    "tst-pthread-attr-sigmask": "there is no pthread_attr_setsigmask_np",
-    "tst-signal3": COMPUTING,
-    "tst-umask1": "there are no named pipes",
-    "tst-unwind-thread": "functions in C have no tables of unwinding",
-}
+# The page with the table of the tests that fail, and why; and a row of it.
+PAGE, SECTION = f"{TOP}/docs/C-REFERENCE.md", "## glibc's tests of threads"
+ROW = re.compile(r"^\| (`.*`) \| (.*) \|$", re.M)
 
 Test = namedtuple("Test", "name file text")
 
@@ -107,6 +69,12 @@ def with_included(file, folder):
         found = [it for it in places if os.path.exists(it)]
         text += with_included(found[0], folder) if found else ""
     return text
+
+
+def failing():
+    """Returns why each of the tests fails that the page names, by their names."""
+    rows = ROW.findall(read(PAGE).partition(SECTION)[2])
+    return {f"tst-{name}": why for names, why in rows for name in re.findall(r"`([\w-]+)`", names)}
 
 
 def tests(folder):
@@ -200,7 +168,7 @@ def unpacked(sources, room):
 
 def test(options):
     """Builds and runs glibc's own tests of threads, as far as they apply, with 1 and 4 workers."""
-    tally, failing = guest_runs.Tally(), []
+    tally, told, failed = guest_runs.Tally(), failing(), []
     with tempfile.TemporaryDirectory() as room:
         folder = unpacked(os.path.abspath(options.sources or f"{room}/sources"), room)
         archive, every = support(folder), tests(folder)
@@ -212,13 +180,13 @@ def test(options):
                 progress.done += 1
                 tally.tried += 1
                 if wrong:
-                    failing.append(one.name)
-                    print(f"{one.name}: {FAILING.get(one.name, '')}: {wrong}", flush=True)
-                if bool(wrong) != (one.name in FAILING):
-                    tally.fail(f"{one.name}: {'fails, and FAILING lacks it' if wrong else 'passes, and FAILING has it'}")
+                    failed.append(one.name)
+                    print(f"{one.name}: {told.get(one.name, '')}: {wrong}", flush=True)
+                if bool(wrong) != (one.name in told):
+                    tally.fail(f"{one.name}: {'fails, and the page lacks it' if wrong else 'passes, and the page has it'}")
                 return []
 
             lanes.tasks_in_lanes(options.lanes, [(it, lambda it=it: tried(it, folder, archive)) for it in chosen], ended)
     for why, count in Counter(reason(it) for it in every if reason(it)).most_common():
         print(f"{count} don't apply: {why}")
-    return tally.status("tests of glibc that apply", f", {tally.tried - len(failing)} of which pass with 1 and 4 workers")
+    return tally.status("tests of glibc that apply", f", {tally.tried - len(failed)} of which pass with 1 and 4 workers")

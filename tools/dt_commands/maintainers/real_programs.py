@@ -19,7 +19,7 @@ import tempfile
 from dt_commands import guest_tests
 from dt_commands.real_list import PROGRAMS
 from dt_commands.repository import TOP
-from dt_commands.texts import contents
+from dt_commands.texts import contents, write_file
 
 WORKERS = (1, 4, 64)
 GUESTS = f"{TOP}/tools/guests"
@@ -61,8 +61,7 @@ class Archives:
         self.folder, self.is_listed = folder, False
         os.makedirs(f"{folder}/lists/partial", exist_ok=True)
         os.makedirs(f"{folder}/cache/archives/partial", exist_ok=True)
-        with open(f"{folder}/sources.list", "w", encoding="utf-8") as file:
-            file.writelines(LIST.format(suite) for suite in SUITES)
+        write_file(f"{folder}/sources.list", "".join(LIST.format(suite) for suite in SUITES))
 
     def apt(self, *words):
         options = {"Dir::Etc::sourcelist": "sources.list", "Dir::Etc::sourceparts": "none", "Dir::State::lists": "lists",
@@ -148,8 +147,7 @@ def run_native(program, run, path):
     """Runs the host's build in a folder of its own, in the locale of the guest. Returns output, status and the wanted files."""
     with tempfile.TemporaryDirectory() as here:
         for name, made in run.files.items():
-            with open(f"{here}/{name}", "wb") as file:
-                file.write(made())
+            write_file(f"{here}/{name}", made())
         name = program.name.split()[0]
         done = subprocess.run([name, *run.arguments], executable=path, input=run.given(), cwd=here, stdout=subprocess.PIPE,
                               stderr=subprocess.DEVNULL, env={**os.environ, "LC_ALL": "C"})
@@ -160,8 +158,7 @@ def run_guest(run, path, room, workers):
     """Returns what `run_native` does, and the digest of a run, or None if it left none. Its trace is in the folder."""
     words = []
     for name, made in run.files.items():
-        with open(f"{room}/given-{name}", "wb") as file:
-            file.write(made())
+        write_file(f"{room}/given-{name}", made())
         words += ["--file", f"{name}={room}/given-{name}"]
     for name in ("digest", "trace", *(f"got-{it}" for it in run.wanted)):
         if os.path.exists(f"{room}/{name}"):

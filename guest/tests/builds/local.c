@@ -1,0 +1,2 @@
+static __thread int local = 6;
+int main(void) { return ++local; }
