@@ -1,7 +1,7 @@
 /* The fifteen calls of the machine as C functions, and hints for tools that look for races.
  *
  * Each is one turn, and a full barrier for the compiler: what the thread stored before it is written to the memory that all
- * threads share, and what it loads after it comes from there. A function returns the call's code; a value, where the call
+ * threads share, and what it loads after it comes from there. A function returns the call's code; a value, if the call
  * has one, goes to the place that the last argument names.
  *
  * Programs that use pthread.h need none of these. The library behind pthread.h holds mutex 63 and waits on all conditions,
@@ -48,7 +48,7 @@ enum dthreads_number {
     DTHREADS_RELEASE
 };
 
-/* A call by its number; `value` gets x11, which stays `second` where the call has no value. */
+/* A call by its number; `value` gets x11, which stays `second` if the call has no value. */
 static inline uint32_t dthreads_call(uint32_t number, uint32_t first, uint32_t second, uint32_t third, uint32_t *value)
 {
     register uint32_t x10 __asm__("a0") = first;
@@ -81,32 +81,32 @@ __attribute__((noreturn)) static inline void dthreads_thread_exit(uint32_t value
 uint32_t dthreads_create(void (*entry)(void *), void *argument, void *stack_top, uint32_t *number);
 
 /* Waits until thread `number` has ended; `value` gets what it ended with. DTHREADS_NO_SUCH_THREAD for an unknown number and
- * for the caller's own, DTHREADS_HOLDS_A_LOCK where the caller would wait and holds a mutex. */
+ * for the caller's own, DTHREADS_HOLDS_A_LOCK if the caller would wait and holds a mutex. */
 static inline uint32_t dthreads_join(uint32_t number, uint32_t *value)
 {
     return dthreads_call(DTHREADS_JOIN, number, 0, 0, value);
 }
 
-/* Takes mutex 0 to 63. DTHREADS_BAD_ARGUMENT over 63, DTHREADS_ALREADY_HELD where the caller holds it. */
+/* Takes mutex 0 to 63. DTHREADS_BAD_ARGUMENT over 63, DTHREADS_ALREADY_HELD if the caller holds it. */
 static inline uint32_t dthreads_lock(uint32_t mutex)
 {
     return dthreads_call(DTHREADS_LOCK, mutex, 0, 0, 0);
 }
 
-/* Frees mutex 0 to 63. DTHREADS_BAD_ARGUMENT over 63, DTHREADS_NOT_HOLDER where the caller doesn't hold it. */
+/* Frees mutex 0 to 63. DTHREADS_BAD_ARGUMENT over 63, DTHREADS_NOT_HOLDER if the caller doesn't hold it. */
 static inline uint32_t dthreads_unlock(uint32_t mutex)
 {
     return dthreads_call(DTHREADS_UNLOCK, mutex, 0, 0, 0);
 }
 
 /* Frees the mutex, waits until the condition is signalled, and takes the mutex again. DTHREADS_BAD_ARGUMENT for a number over
- * 63, DTHREADS_NOT_HOLDER where the caller doesn't hold the mutex, DTHREADS_HOLDS_A_LOCK where it holds another one too. */
+ * 63, DTHREADS_NOT_HOLDER if the caller doesn't hold the mutex, DTHREADS_HOLDS_A_LOCK if it holds another one too. */
 static inline uint32_t dthreads_wait(uint32_t condition, uint32_t mutex)
 {
     return dthreads_call(DTHREADS_WAIT, condition, mutex, 0, 0);
 }
 
-/* Wakes the first thread that waits for the condition; `woken` gets 1, or 0 where none waits. */
+/* Wakes the first thread that waits for the condition; `woken` gets 1, or 0 if none waits. */
 static inline uint32_t dthreads_signal(uint32_t condition, uint32_t *woken)
 {
     return dthreads_call(DTHREADS_SIGNAL, condition, 0, 0, woken);
@@ -119,29 +119,29 @@ static inline uint32_t dthreads_broadcast(uint32_t condition, uint32_t *woken)
 }
 
 /* Waits at barrier 0 to 63 until `count` threads, 1 to 256, are there; `last` gets 1 in the one that came last, else 0.
- * DTHREADS_BAD_ARGUMENT for numbers outside these, DTHREADS_HOLDS_A_LOCK where the caller holds a mutex,
- * DTHREADS_ANOTHER_COUNT where those who wait there named another count. */
+ * DTHREADS_BAD_ARGUMENT for numbers outside these, DTHREADS_HOLDS_A_LOCK if the caller holds a mutex,
+ * DTHREADS_ANOTHER_COUNT if those who wait there named another count. */
 static inline uint32_t dthreads_barrier(uint32_t barrier, uint32_t count, uint32_t *last)
 {
     return dthreads_call(DTHREADS_BARRIER, barrier, count, 0, last);
 }
 
-/* Appends up to 65,536 bytes to the output. DTHREADS_BAD_ARGUMENT for more, DTHREADS_BAD_ADDRESS where one of them can't be
- * read, DTHREADS_LIMIT where the output would pass 16,777,216 bytes. */
+/* Appends up to 65,536 bytes to the output. DTHREADS_BAD_ARGUMENT for more, DTHREADS_BAD_ADDRESS if one of them can't be
+ * read, DTHREADS_LIMIT if the output would pass 16,777,216 bytes. */
 static inline uint32_t dthreads_write(const void *bytes, uint32_t length)
 {
     return dthreads_call(DTHREADS_WRITE, (uint32_t)(uintptr_t)bytes, length, 0, 0);
 }
 
 /* Reads up to `length` bytes of the input, at most 65,536; `got` gets how many, 0 at its end. DTHREADS_BAD_ARGUMENT for more,
- * DTHREADS_BAD_ADDRESS where one of `length` bytes can't be written. */
+ * DTHREADS_BAD_ADDRESS if one of `length` bytes can't be written. */
 static inline uint32_t dthreads_read(void *bytes, uint32_t length, uint32_t *got)
 {
     return dthreads_call(DTHREADS_READ, (uint32_t)(uintptr_t)bytes, length, 0, got);
 }
 
 /* Gives `pages` more pages of zeros, 1 to 1024; `address` gets the first one's. DTHREADS_BAD_ARGUMENT for other counts,
- * DTHREADS_LIMIT where more than 16,384 pages would have been given. */
+ * DTHREADS_LIMIT if more than 16,384 pages would have been given. */
 static inline uint32_t dthreads_memory(uint32_t pages, uint32_t *address)
 {
     return dthreads_call(DTHREADS_MEMORY, pages, 0, 0, address);

@@ -2,7 +2,7 @@
 #include <stdlib.h>
 #include "stream.h"
 
-/* Keeps a character and a zero behind it; false where memory is out. */
+/* Keeps a character and a zero behind it; false if out of memory. */
 static bool add(char **line, size_t *room, size_t length, int character)
 {
     if (length + 2 > *room) {

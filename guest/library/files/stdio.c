@@ -64,7 +64,7 @@ static void fail(FILE *file)
     hint_leave();
 }
 
-/* Writes whole; false where the output is full. */
+/* Writes whole; false if the output is full. */
 static __attribute__((noinline)) bool write_all(int descriptor, const char *bytes, uint32_t length)
 {
     int console = files_console ? files_console(descriptor) : descriptor;

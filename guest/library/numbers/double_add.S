@@ -9,7 +9,7 @@
 
     .cfi_sections .debug_frame
 
-/* Puts the larger operand into a0 and a1 where the smaller one is. */
+/* Exchanges the operands, so that a0 and a1 have the larger one. */
     .macro exchange is_exchanged
     .if \is_exchanged
     mv t1, a0

@@ -44,7 +44,7 @@ struct result {
     bool is_out_of_range;
 };
 
-/* Mantissa * 2^exponent, and a bit of it that isn't zero below where `has_more`: rounded to what the type has. */
+/* Mantissa * 2^exponent, and a bit of it that isn't zero below if `has_more`: rounded to what the type has. */
 static void round_to(struct result *result, const struct shape *shape, struct wide mantissa, int32_t exponent, bool has_more)
 {
     int32_t length = (int32_t)wide_length(mantissa), shift = length - shape->bits;
@@ -78,7 +78,7 @@ static void round_to(struct result *result, const struct shape *shape, struct wi
     result->is_out_of_range = result->is_infinite || (has_more && (int32_t)wide_length(mantissa) < shape->bits);
 }
 
-/* An exponent after its letter; `text` stays where none follows. */
+/* An exponent after its letter; `text` stays if none follows. */
 static int32_t read_power(const char **text)
 {
     const char *place = *text + 1;
@@ -100,7 +100,7 @@ static int hexadecimal_value(char digit)
     return digit <= '9' ? digit - '0' : (digit | 0x20) - 'a' + 10;
 }
 
-/* Digits behind 0x; NULL where there are none. */
+/* Digits behind 0x; NULL if there are none. */
 static const char *read_hexadecimal(const char *text, const struct shape *shape, struct result *result)
 {
     struct wide mantissa = {0, 0};
@@ -138,7 +138,7 @@ struct spelled {
     bool has_more;
 };
 
-/* NULL where there are no digits. */
+/* NULL if there are no digits. */
 static const char *read_spelled(const char *text, const struct shape *shape, struct spelled *spelled)
 {
     const char *place = text, *last = NULL;
@@ -300,7 +300,7 @@ static const char *read_decimal(const char *text, const struct shape *shape, str
     return end;
 }
 
-/* "inf", "infinity", "nan" or "nan(letters)"; NULL where it is none of these. */
+/* "inf", "infinity", "nan" or "nan(letters)"; NULL if it is none of these. */
 static const char *read_name(const char *text, struct result *result)
 {
     if (strncasecmp(text, "inf", 3) == 0) {

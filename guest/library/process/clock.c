@@ -1,4 +1,4 @@
-/* The clock: each operation moves it on, and where all threads wait it jumps to the next deadline. */
+/* The clock: each operation moves it on, and if all threads wait it jumps to the next deadline. */
 #include "../threads/monitor.h"
 
 bool deadline_of(clockid_t clock, const struct timespec *time, uint64_t *deadline)

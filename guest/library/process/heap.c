@@ -256,7 +256,7 @@ static uint32_t batch(uint32_t index)
     return count < 2 ? 2 : count;
 }
 
-/* Cuts fresh pages into blocks; false where there is no memory. */
+/* Cuts fresh pages into blocks; false if out of memory. */
 static bool cut(uint32_t index)
 {
     uint32_t pages = sizes[index] > 512 ? 2 : 1;

@@ -1,4 +1,4 @@
-/* Signals. One is delivered at the next call of the library that is a place for it, or at once where a thread sends itself one;
+/* Signals. One is delivered at the next call of the library that is a place for it, or at once if a thread sends itself one;
  * a thread that sleeps lightly is woken for it. */
 #include <setjmp.h>
 #include <signal.h>
@@ -71,7 +71,7 @@ void signal_send(struct dthreads_thread *thread, int signal, const siginfo_t *in
         monitor_wake(thread, INTERRUPTED);
 }
 
-/* Takes the lowest signal that came and isn't blocked, and blocks what its action says; false where there is none. */
+/* Takes the lowest signal that came and isn't blocked, and blocks what its action says; false if there is none. */
 static bool take_due(int *signal, struct sigaction *action, siginfo_t *info)
 {
     struct dthreads_thread *thread = self();

@@ -7,7 +7,7 @@
 
 extern const char *dthreads_program_name;
 
-/* One line: the program, the message, and what the error means where there is one. */
+/* One line: the program, the message, and what the error means, if there is one. */
 static void say(int code, const char *format, va_list arguments)
 {
     char *text = NULL;

@@ -164,7 +164,7 @@ static void put_string(struct output *output, const struct directive *directive,
     put_field(output, directive, text, (int)strnlen(text, most));
 }
 
-/* The bytes of a wide character, and how many places it takes; fewer than 0 where it has none. */
+/* The bytes of a wide character, and how many places it takes; fewer than 0 if it has none. */
 static int wide_bytes(const struct output *output, wchar_t character, char *bytes, int *length)
 {
     mbstate_t state = {0};
@@ -259,7 +259,7 @@ static void put_powers(struct output *output, const struct decimal *number, int3
         put(output, decimal_digit(number, power));
 }
 
-/* Digits from a power of ten on, a point, and so many places, with an exponent where there is one. */
+/* Digits from a power of ten on, a point, and so many places, with an exponent if there is one. */
 static void put_decimal(struct output *output, const struct directive *directive, const char *prefix, const struct decimal *number,
                         int32_t first, int32_t unit, int places, bool has_exponent)
 {
@@ -482,7 +482,7 @@ static const char *read_size(const char *format, enum size *size)
     }
 }
 
-/* The arguments: one after the other, or by their numbers where the format has them. */
+/* The arguments: one after the other, or by their numbers if the format has them. */
 struct arguments {
     va_list *list;
     union value *numbered;
@@ -693,7 +693,7 @@ static bool convert(struct output *output, struct directive *directive, union va
     }
 }
 
-/* Fetches all numbered arguments, in their order; false where the format has none. */
+/* Fetches all numbered arguments, in their order; false if the format has none. */
 static bool fetch_numbered(const char *format, va_list *list, union value *values)
 {
     enum fetched kinds[MOST_NUMBERED] = {NOTHING};

@@ -1,4 +1,4 @@
-/* Copying, filling and comparing by words, where the C library has loops over bytes. No byte outside the ranges is loaded. */
+/* Copying, filling and comparing by words, in place of the C library's loops over bytes. No byte outside the ranges is loaded. */
 #include <stdint.h>
 #include <string.h>
 
@@ -8,7 +8,7 @@ typedef uint32_t __attribute__((may_alias)) word;
 enum {
     WORD = sizeof(word),
     BITS = 8,
-    /* Words of a round: of plain copies and fills, and where each word takes more work. */
+    /* Words of a round: of plain copies and fills, and if each word takes more work. */
     LONG_ROUND = 8,
     ROUND = 4,
     /* Shorter ranges aren't worth the tests. */
@@ -208,7 +208,7 @@ INLINE size_t equal_words(const word *one, const word *other, size_t count)
     return (size_t)(one - start) * WORD;
 }
 
-/* The same where the other range isn't aligned. */
+/* The same if the other range isn't aligned. */
 INLINE size_t equal_shifted(const word *one, const char *from, size_t count)
 {
     uint32_t right = offset_of(from) * BITS, left = WORD * BITS - right;

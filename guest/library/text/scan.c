@@ -1,4 +1,4 @@
-/* scanf and its kin: characters come from the stream one by one, and the last one goes back where it doesn't belong. */
+/* scanf and its kin: characters come from the stream one by one, and the last one goes back if it doesn't belong. */
 #include <ctype.h>
 #include <stdarg.h>
 #include <stdbool.h>
@@ -108,7 +108,7 @@ static void field_end(struct field *field)
         free(field->bytes);
 }
 
-/* Keeps one character, and a zero behind it; false where memory is out. */
+/* Keeps one character, and a zero behind it; false if out of memory. */
 static bool field_add(struct field *field, int character)
 {
     if (field->length + 2 > field->size) {
@@ -126,7 +126,7 @@ static bool field_add(struct field *field, int character)
     return true;
 }
 
-/* Takes a character of the input into the field where it is one of `characters`. */
+/* Takes a character of the input into the field if it is one of `characters`. */
 static bool take(struct source *source, struct field *field, const char *characters)
 {
     int character = next(source);
@@ -158,7 +158,7 @@ static bool take_word(struct source *source, struct field *field, const char *wo
 static const char decimals[] = "0123456789";
 static const char hexadecimals[] = "0123456789abcdefABCDEF";
 
-/* An integer's characters; the base is found out where it is 0. */
+/* An integer's characters; the base is found out if it is 0. */
 static bool take_integer(struct source *source, struct field *field, int *base)
 {
     bool has_digits = false;
@@ -360,7 +360,7 @@ static void target_add(struct target *target, int character)
         target->length++;
 }
 
-/* Ends the text, with a zero where it is a string. */
+/* Ends the text, with a zero if it is a string. */
 static enum outcome target_end(struct target *target, bool has_zero)
 {
     if (target->has_failed) {

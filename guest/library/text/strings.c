@@ -1,4 +1,4 @@
-/* Searching and comparing texts by words, where the C library has loops over bytes. The word in which a text ends may hold bytes of
+/* Searching and comparing texts by words, in place of the C library's loops over bytes. The word in which a text ends may hold bytes of
  * others, which are no part of the access: words are looked at as the library's own, and those that lie within the text are loaded
  * once more, so that a list of races has each byte of it and no other. */
 #include <stdbool.h>

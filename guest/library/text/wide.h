@@ -15,7 +15,7 @@ struct utf8 {
 
 /* The bytes of a character, up to four. */
 int utf8_put(char *bytes, wchar_t character);
-/* Takes one byte more; true where it ends a character. */
+/* Takes one byte more; true if it ends a character. */
 bool utf8_take(struct utf8 *state, unsigned char byte, wchar_t *character);
 /* A string as UTF-8, in memory of its own, or NULL. */
 char *utf8_of(const wchar_t *text);

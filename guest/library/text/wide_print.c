@@ -68,7 +68,7 @@ int vswprintf(wchar_t *restrict text, size_t size, const wchar_t *restrict forma
     return count;
 }
 
-/* Wide text as bytes of the locale, in memory of its own; NULL where it has a character without bytes. */
+/* Wide text as bytes of the locale, in memory of its own; NULL if it has a character without bytes. */
 static char *bytes_of(const struct target *target, size_t *length)
 {
     char *bytes = malloc(target->length * MB_LEN_MAX + MB_LEN_MAX);

@@ -67,7 +67,7 @@ int pthread_setspecific(pthread_key_t key, const void *value)
     return 0;
 }
 
-/* One round of destructors; false where none was called. */
+/* One round of destructors; false if none was called. */
 static bool destroy_round(void)
 {
     bool was_any = false;

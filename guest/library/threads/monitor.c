@@ -188,7 +188,7 @@ static void mark(struct dthreads_thread *thread, enum wake wake)
     monitor.awake++;
 }
 
-/* Wakes who waits for a condition of the machine: each looks at its flag and waits again where it is not meant. */
+/* Wakes who waits for a condition of the machine: each looks at its flag and waits again if it is not meant. */
 static void ring(uint32_t condition)
 {
     uint32_t count = monitor.waiting[condition];

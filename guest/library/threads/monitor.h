@@ -168,7 +168,7 @@ static inline struct dthreads_thread *self(void)
     return own.thread;
 }
 
-/* True where no other thread can run. */
+/* True if no other thread can run. */
 static inline bool alone(void)
 {
     return monitor.living == 1 && !monitor.others;
@@ -181,7 +181,7 @@ void monitor_leave(void);
 void monitor_finish(void);
 /* Makes sure that the machine's mutex is held, for a thread in the monitor that is no longer alone, or sleeps. */
 void monitor_hold(void);
-/* Lets others have their turns, also where mutexes are held. */
+/* Lets others have their turns, also if mutexes are held. */
 void monitor_breathe(void);
 
 /* Sleeps in a queue, or in none, until another thread wakes this one or the clock reaches the deadline. */
@@ -231,7 +231,7 @@ static inline struct dthreads_thread *monitor_hand(struct dthreads_queue *queue)
 }
 
 void monitor_wake_all(struct dthreads_queue *queue);
-/* One thread sleeps or has ended: where nobody is awake, the clock jumps to the next deadline. */
+/* One thread sleeps or has ended: if nobody is awake, the clock jumps to the next deadline. */
 void monitor_one_less(void);
 /* A thread that has ended gets something to run. */
 void monitor_rouse(struct dthreads_thread *thread);
@@ -243,7 +243,7 @@ uint64_t read_clock(void);
 /* Deadlines as the clock counts them, from times of a clock of time.h; false for times that are none. */
 bool deadline_of(clockid_t clock, const struct timespec *time, uint64_t *deadline);
 
-/* Ends this thread where it was asked to. */
+/* Ends this thread if it was asked to. */
 void cancel_here(enum wake wake);
 /* Whether it was asked to, as far as the thread knows: it learns of it by its calls. */
 bool cancel_is_due(void);
@@ -302,7 +302,7 @@ struct dthreads_thread *thread_of(pthread_t name);
 /* Where a thread's thread-local block lies below `top`; its stack begins below it. */
 char *block_below(char *top);
 void tls_fill(char *block);
-/* Gives a thread the stack that its attributes name; false where there is no memory. */
+/* Gives a thread the stack that its attributes name; false if out of memory. */
 bool stack_attach(struct dthreads_thread *thread, const pthread_attr_t *attributes);
 void stack_give(struct stack *stack);
 

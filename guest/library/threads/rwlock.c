@@ -33,7 +33,7 @@ static struct reading *reading_of(const pthread_rwlock_t *lock)
     return NULL;
 }
 
-/* Makes room for one more; false where memory is out. */
+/* Makes room for one more; false if out of memory. */
 static bool readings_grow(void)
 {
     uint32_t room = readings.all ? readings.room : FEW;

@@ -46,7 +46,7 @@ def symbols():
 
 
 def macros(header):
-    """Returns the macros of a header, or none where it isn't there."""
+    """Returns the macros of a header, or none if it isn't there."""
     done = subprocess.run([f"{KIT}/dthreads-cc", "-D_GNU_SOURCE", "-E", "-dM", "-include", header, "-x", "c", "/dev/null"],
                           stdout=subprocess.PIPE, stderr=subprocess.DEVNULL, text=True)
     lines = done.stdout.splitlines() if done.returncode == 0 else []
