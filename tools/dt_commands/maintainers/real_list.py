@@ -7,6 +7,7 @@ is tools/guests. They run in a folder with one folder for each package. No sourc
 import glob
 
 from dt_commands.repository import TOP
+from dt_commands.texts import contents, read_text
 
 INPUT_BYTES = 1300000
 # What `configure` of GNU's packages gets besides.
@@ -15,62 +16,15 @@ GNU = "--disable-nls --disable-dependency-tracking"
 ZLIB = "adler32 crc32 deflate infback inffast inflate inftrees trees zutil compress uncompr"
 BZIP2 = "blocksort huffman crctable randtable compress decompress bzlib"
 ZOPFLI = "deflate blocksplitter katajainen squeeze lz77 hash cache tree util symbols"
-
-LUA_TEXT = """
-local counts, names = {}, {}
-for line in io.lines() do
-    for word in line:gmatch("%a+") do counts[word] = (counts[word] or 0) + 1 end
-end
-for name in pairs(counts) do names[#names + 1] = name end
-table.sort(names, function(a, b) return counts[a] > counts[b] or counts[a] == counts[b] and a < b end)
-for i = 1, 50 do print(names[i], counts[names[i]], string.format("%.17g", math.sqrt(counts[names[i]]))) end
-"""
-
-SQL_TEXT = """
-create table numbers(number integer primary key, square integer, text text);
-with recursive counted(n) as (select 1 union all select n + 1 from counted where n < 5000)
-    insert into numbers select n, n * n, printf('%06d', n * 7919 % 5000) from counted;
-create index texts on numbers(text);
-select count(*), sum(square), min(text), max(text) from numbers;
-select number, text from numbers order by text desc limit 20;
-select substr(text, 1, 3) as start, count(*), avg(square) from numbers group by start order by start limit 30;
-"""
-
-# Four threads of JavaScript sort and add numbers.
-WORKER_TEXT = """
-import * as os from "os";
-const parent = os.Worker.parent;
-parent.onmessage = event => {
-    const numbers = [];
-    for (let at = event.data.from; at < event.data.to; at++) numbers.push(at * 7919 % 10007);
-    numbers.sort((one, other) => one - other);
-    parent.postMessage({ number: event.data.number, median: numbers[numbers.length >> 1], root: numbers.reduce((a, b) => a + Math.sqrt(b), 0) });
-    parent.onmessage = null;
-};
-"""
-SCRIPT_TEXT = """
-import * as os from "os";
-const answers = [];
-for (let number = 0; number < 4; number++) {
-    const worker = new os.Worker("./worker.js");
-    worker.onmessage = event => {
-        answers.push(event.data);
-        worker.onmessage = null;
-        if (answers.length === 4)
-            for (const it of answers.sort((one, other) => one.number - other.number)) console.log(it.number, it.median, it.root);
-    };
-    worker.postMessage({ number, from: number * 3000, to: number * 3000 + 3000 });
-}
-console.log(JSON.stringify([0.1, 1e300, 2 ** -1074, 123456789012345680000]), 10n ** 40n, "a,b;c".split(/[,;]/), new Date(0).toISOString());
-"""
+# Scripts and statements that programs are given.
+GIVEN = f"{TOP}/tools/guests/real"
 
 
 def own_text():
     """Some of the repository's own text, the same in every call."""
     text = b""
     for path in sorted(glob.glob(f"{TOP}/docs/*.md") + glob.glob(f"{TOP}/crates/*/*/*.rt") + glob.glob(f"{TOP}/crates/*/*/*.antt")):
-        with open(path, "rb") as file:
-            text += file.read()
+        text += contents(path)
         if len(text) >= INPUT_BYTES:
             break
     return text[:INPUT_BYTES]
@@ -103,6 +57,11 @@ def files(folder, names, suffix=".c"):
 
 def nothing():
     return b""
+
+
+def given(name):
+    """Returns what makes the bytes of a file."""
+    return lambda: contents(f"{GIVEN}/{name}")
 
 
 def gnu(package, program):
@@ -142,10 +101,10 @@ PROGRAMS = [
     Program("sqlite3", ["sqlite3"], [
         "mkdir -p built && cd built && CC=gcc ../sqlite3/configure -q --disable-tcl --disable-readline > /dev/null && make -s CC=gcc sqlite3.c shell.c",
         "$CC $FLAGS -w -DSQLITE_THREADSAFE=1 -DSQLITE_OMIT_LOAD_EXTENSION -DSQLITE_MAX_MMAP_SIZE=0 -o $OUT built/sqlite3.c built/shell.c "
-        "-lm -lpthread"], [Run(["-batch", "numbers.db"], SQL_TEXT.encode)]),
+        "-lm -lpthread"], [Run(["-batch", "numbers.db"], given("numbers.sql"))]),
     Program("quickjs", ["quickjs"], [
         "cp -r quickjs built && make -s -C built -j$JOBS $CROSS CC=\"$CC\" CONFIG_LTO= qjs && cp built/qjs $OUT"],
-        [Run(["script.js"], nothing, {"script.js": SCRIPT_TEXT.encode, "worker.js": WORKER_TEXT.encode})],
+        [Run(["script.js"], nothing, {it: given(it) for it in ("script.js", "worker.js")})],
         variables={"native": {"CROSS": ""}, "elf": {"CROSS": "CROSS_PREFIX=riscv64-unknown-elf-"}}),
     Program("oneTBB", ["onetbb"], [
         # (the host's C++ library does the same algorithms one after the other)
@@ -169,5 +128,5 @@ PROGRAMS = [
     Program("lz4", ["lz4"], ["make -s -C lz4/programs -j$JOBS lz4 CC=\"$CC\" CFLAGS=\"$FLAGS\"", "cp lz4/programs/lz4 $OUT"],
             [Run(["-9", "-c"])]),
     Program("lua", ["lua5.4"], [
-        "$CC $FLAGS -w -DLUA_USE_POSIX -o $OUT $(ls lua5.4/src/*.c | grep -v luac.c) -lm"], [Run(["-e", LUA_TEXT])]),
+        "$CC $FLAGS -w -DLUA_USE_POSIX -o $OUT $(ls lua5.4/src/*.c | grep -v luac.c) -lm"], [Run(["-e", read_text(f"{GIVEN}/words.lua")])]),
 ]
