@@ -2,6 +2,7 @@
 import contextlib
 import io
 import os
+import re
 import unittest
 from unittest import mock
 
@@ -9,7 +10,7 @@ from dt_commands import guest_runs, number_tests, run_rows, shuffles, written_gu
 from dt_commands.law_model import instructions, memory, runs, shown
 from dt_commands.row_texts import listed, text_at
 from dt_commands.texts import write_file
-from rooms import WithRoom
+from rooms import WithRoom, data
 
 # funct7, funct3, two registers, and what the operation gives.
 OPERATIONS = [
@@ -36,86 +37,8 @@ WORDS = [
     (0x00501463, "pc", 0x10008), (0x00500463, "pc", 0x10004), (0x0F00000F, "pc", 0x10004), (0x00500013, "x0", 0),
 ]
 
-OF_ONE = ["1 0 lock 00000000 00000000 00000000 -> 0 changed=0 ran=8", "1 0 create 0001004c 00000000 00000000 -> 0 00000001 changed=0 ran=3",
-          "1 0 create 0001004c 00000001 00000000 -> 0 00000002 changed=0 ran=2", "1 0 unlock 00000000 00000002 00000000 -> 0 changed=0 ran=2"]
-# The number 39 draws for phases 2 and 3: all take part, 2 before 1 before 0; lengths of 7349, 26305 and 88 in phase 2. So the byte is 1's.
-ALL_IN_REVERSE = [
-    *OF_ONE,
-    "2 2 thread_exit 00000001 00000002 00000000 -> end changed=1 ran=4",
-    "2 1 thread_exit 00000000 00000001 00000000 -> end changed=1 ran=4",
-    "2 0 join 00000001 00000002 00000000 -> 0 00000000 changed=0 ran=3",
-    "3 0 join 00000002 00000000 00000000 -> 0 00000001 changed=0 ran=2",
-    "4 0 exit 00000001 00000001 00000000 -> end changed=0 ran=4",
-]
-# The number 12 draws one thread a phase: 2 in phase 2, of at most 69 instructions; of 0 and 1 then 0 in phase 3, of at most 2, and 1 in phase
-# 4, of at most 254. From phase 5 on one thread is alone, which has no length.
-ONE_A_PHASE = [
-    *OF_ONE,
-    "2 2 thread_exit 00000001 00000002 00000000 -> end changed=1 ran=4",
-    "3 0 quantum 00010030 changed=0 ran=2",
-    "4 1 thread_exit 00000000 00000001 00000000 -> end changed=1 ran=4",
-    "5 0 join 00000001 00000002 00000000 -> 0 00000000 changed=0 ran=1",
-    "6 0 join 00000002 00000000 00000000 -> 0 00000001 changed=0 ran=2",
-    "7 0 exit 00000001 00000001 00000000 -> end changed=0 ran=4",
-]
-# The same up to phase 3; phase 4 has both threads.
-UP_TO_THE_THIRD = [
-    *ONE_A_PHASE[:6],
-    "4 0 join 00000001 00000002 00000000 -> wait changed=0 ran=1",
-    "4 1 thread_exit 00000000 00000001 00000000 -> end changed=1 ran=4",
-    "5 0 join 00000002 00000000 00000000 -> 0 00000001 changed=0 ran=2",
-    "6 0 exit 00000001 00000001 00000000 -> end changed=0 ran=4",
-]
-# Shuffled in phase 3 alone, in which thread 0 is alone.
-FROM_THE_THIRD = [
-    *OF_ONE,
-    "2 0 join 00000001 00000002 00000000 -> wait changed=0 ran=3",
-    "2 1 thread_exit 00000000 00000001 00000000 -> end changed=1 ran=4",
-    "2 2 thread_exit 00000001 00000002 00000000 -> end changed=1 ran=4",
-    "3 0 join 00000002 00000000 00000000 -> 0 00000001 changed=0 ran=2",
-    "4 0 exit 00000002 00000001 00000000 -> end changed=0 ran=4",
-]
-# No phase is shuffled. The mutex 39 is locked, 0 unlocked, and each join is refused to the holder.
-START_ALONE = [
-    "1 0 lock 00000027 00000005 00000000 -> 0 changed=0 ran=3",
-    "1 0 create 0001004c 00000005 00000000 -> 0 00000001 changed=0 ran=3",
-    "1 0 create 0001004c 00000001 00000000 -> 0 00000002 changed=0 ran=2",
-    "1 0 unlock 00000000 00000002 00000000 -> 5 changed=0 ran=2",
-    "1 0 join 00000001 00000002 00000000 -> 6 changed=0 ran=3",
-    "1 0 join 00000002 00000002 00000000 -> 6 changed=0 ran=2",
-    "1 0 exit 00000000 00000002 00000000 -> end changed=0 ran=4",
-]
-# The number 14 draws thread 1 alone in phases 2 to 7, and of 0 and 1 thread 0 in phases 8 to 11. Lengths of thread 1 are 3 in phase 2, which
-# its lock needs, and 3 in phase 6; what it executes as the keeper is cut nowhere. In phases 3 and 4 thread 0 is alone: no length.
-OF_A_WAIT = [
-    "1 0 create 00010038 00000000 00000000 -> 0 00000001 changed=0 ran=4",
-    "2 1 lock 00000002 00000001 00000000 -> 0 changed=0 ran=3",
-    "2 1 wait 00000001 00000002 00000000 -> wait changed=0 ran=4",
-    "3 0 sync 00000000 00000001 00000000 -> 0 changed=0 ran=2",
-    "4 0 signal 00000001 00000001 00000000 -> 0 00000001 changed=0 ran=3",
-    "5 1 wake 2 changed=0 ran=0",
-    "5 1 unlock 00000002 00000002 00000000 -> 0 changed=0 ran=3",
-    "6 1 thread_exit 00000000 00000002 00000000 -> end changed=0 ran=2",
-    "7 0 join 00000001 00000001 00000000 -> 0 00000000 changed=0 ran=3",
-    "8 0 exit 00000000 00000000 00000000 -> end changed=0 ran=2",
-]
-# The quantum is less than each length. In phase 8 thread 0 has its turn, and thread 1 stays woken until phase 10.
-BESIDE_A_QUANTUM = [
-    "1 0 quantum 00010008 changed=0 ran=2",
-    "2 0 create 00010038 00000000 00000000 -> 0 00000001 changed=0 ran=2",
-    "3 1 quantum 00010040 changed=0 ran=2",
-    "4 1 lock 00000002 00000001 00000000 -> 0 changed=0 ran=1",
-    "4 1 wait 00000001 00000002 00000000 -> wait changed=0 ran=4",
-    "5 0 sync 00000000 00000001 00000000 -> 0 changed=0 ran=2",
-    "6 0 quantum 00010020 changed=0 ran=2",
-    "7 0 signal 00000001 00000001 00000000 -> 0 00000001 changed=0 ran=1",
-    "8 0 quantum 0001002c changed=0 ran=2",
-    "9 0 join 00000001 00000001 00000000 -> wait changed=0 ran=1",
-    "10 1 wake 2 changed=0 ran=0",
-    "10 1 unlock 00000002 00000002 00000000 -> 0 changed=0 ran=3",
-    "11 1 thread_exit 00000000 00000002 00000000 -> end changed=0 ran=2",
-    "12 0 exit 00000000 00000000 00000000 -> end changed=0 ran=2",
-]
+# Traces of runs with numbers by their names. The lines between them that begin with # say how they were worked out.
+TRACES = dict(re.findall(r"^trace (\S+)\n((?:\d.*\n)+)", data("numbered.traces"), re.M))
 
 
 class Instructions(unittest.TestCase):
@@ -178,33 +101,33 @@ class Rows(unittest.TestCase):
 class Numbered(unittest.TestCase):
     """Runs with a number, by hand."""
 
-    def compare(self, elf, ending, lines, **setup):
+    def compare(self, elf, ending, trace, **setup):
         run = runs.Run(runs.Setup(elf, **setup))
-        self.assertEqual((run.outcome.text, shown.trace(run).decode().splitlines()), (ending, lines))
+        self.assertEqual((run.outcome.text, shown.trace(run).decode()), (ending, TRACES[trace]))
 
     def test_all_in_another_order(self):
         race = number_tests.cleared(written_guests.elf("race"))
-        self.compare(race, "exit 1", ALL_IN_REVERSE, number=39)
-        self.compare(race, "exit 1", ALL_IN_REVERSE, number=39, first=2, last=2)
+        self.compare(race, "exit 1", "all-in-reverse", number=39)
+        self.compare(race, "exit 1", "all-in-reverse", number=39, first=2, last=2)
 
     def test_one_a_phase(self):
         race = number_tests.cleared(written_guests.elf("race"))
-        self.compare(race, "exit 1", ONE_A_PHASE, number=12)
+        self.compare(race, "exit 1", "one-a-phase", number=12)
 
     def test_from_a_phase_and_up_to_one(self):
         race = number_tests.cleared(written_guests.elf("race"))
-        self.compare(race, "exit 1", UP_TO_THE_THIRD, number=12, last=3)
-        self.compare(race, "exit 2", FROM_THE_THIRD, number=12, first=3, last=3)
-        self.compare(race, "exit 2", FROM_THE_THIRD, number=12, last=0)
+        self.compare(race, "exit 1", "up-to-the-third", number=12, last=3)
+        self.compare(race, "exit 2", "from-the-third", number=12, first=3, last=3)
+        self.compare(race, "exit 2", "from-the-third", number=12, last=0)
 
     def test_the_start_alone(self):
-        self.compare(written_guests.elf("race"), "exit 0", START_ALONE, number=39, last=0, choices=5)
+        self.compare(written_guests.elf("race"), "exit 0", "start-alone", number=39, last=0, choices=5)
 
     def test_a_keeper_is_never_cut(self):
-        self.compare(written_guests.elf("signal-of-one"), "exit 0", OF_A_WAIT, number=14)
+        self.compare(written_guests.elf("signal-of-one"), "exit 0", "of-a-wait", number=14)
 
     def test_the_lesser_of_quantum_and_length(self):
-        self.compare(written_guests.elf("signal-of-one"), "exit 0", BESIDE_A_QUANTUM, number=14, quantum=2)
+        self.compare(written_guests.elf("signal-of-one"), "exit 0", "beside-a-quantum", number=14, quantum=2)
 
 
 LIST_OF, LENGTH_OF, TURN, LENGTH = runs.Run.list_of, runs.Run.length_of, runs.Run.turn, shuffles.length

@@ -4,30 +4,9 @@ import unittest
 
 from dt_commands import completions, options
 from dt_commands.repository import TOP
+from rooms import data
 
-TABLE = '''
-const FILE: Parameter = Parameter {
-    name: "FILE",
-    form: Form::Placed,
-    need: Need::Required,
-    help: "The program",
-};
-pub(crate) const COUNT: Parameter = Parameter {
-    name: "count",
-    form: Form::Count,
-    need: Need::Default("1000"),
-    help: "How many there are",
-};
-const TRACE: Parameter = Parameter {
-    name: "trace",
-    form: Form::Text(Text::Trace),
-    need: Need::Optional,
-    help: "Write it, to this file, or to standard output where it is -",
-};
-static RUN: [Parameter; 3] = [FILE, COUNT, TRACE];
-static LIST: [Parameter; 1] =
-    [FILE];
-'''
+TABLE = data("options-table.txt")
 COMMANDS = 'let run = command(alloc, "run", "Run it", &RUN)?; let list = command(\n    alloc,\n    "list",\n    "List it",\n    &LIST,\n)?;'
 
 # What bash says to the words before the cursor, of which the last one is completed.

@@ -2,74 +2,10 @@
 import unittest
 
 from dt_commands import uncalled
+from rooms import data
 
-UPPER = """
-use lower::{Table, sum};
-mod print;
-
-fn main() {
-    let table = Table::new(..3);
-    show(table.rows(), print::words);
-}
-
-fn show(rows: u32) {
-    sum(rows)
-}
-
-fn first() {
-    second()
-}
-
-fn second() {
-    second()
-}
-"""
-LOWER = """
-#[derive(Error)]
-pub enum Fault {
-    #[error("fault {}", .number())]
-    Inner,
-}
-
-impl Table {
-    pub fn new(count: u32) -> Self {
-        Table { rows: count, seen: 0..count_of(count) }
-    }
-
-    pub fn rows(&self) -> u32 {
-        self.rows
-    }
-
-    /// Only `seen()` is named here, and self.seen is a field.
-    pub fn seen(&self) -> u32 {
-        self.seen
-    }
-
-    pub fn number(&self) -> u32 {
-        7
-    }
-}
-
-impl Drop for Table {
-    fn drop(&mut self) {
-        clear()
-    }
-}
-
-fn count_of(count: u32) -> u32 {
-    count
-}
-
-fn clear() {}
-
-pub fn sum(rows: u32) -> u32 {
-    rows
-}
-
-pub fn show(rows: u32) {
-    first()
-}
-"""
+UPPER = data("uncalled-upper.txt")
+LOWER = data("uncalled-lower.txt")
 SEES = {"lower": {"lower"}, "upper": {"lower", "upper"}}
 
 
