@@ -1,12 +1,13 @@
-//! Guest programs that proved tests name, as listings, and the writer of guest files. The listings were assembled by hand from the
-//! RISC-V Unprivileged ISA, document version 20191213. What whole runs of these and of further programs must give stands in the
-//! data of `test_guest_runs`, which compares its listings with these.
+//! Guest programs that proved tests name, as listings, the writer of guest files, and written schedules. The listings were assembled
+//! by hand from the RISC-V Unprivileged ISA, document version 20191213. What whole runs of these and of further programs must give
+//! stands in the data of `test_guest_runs`; `tools/dt test rows` compares its listings with these.
 #![tactic(auto)]
 
 mod elf_file;
 mod instructions;
 mod one_thread;
 mod program;
+pub mod schedules;
 mod shared_bytes;
 mod threads;
 

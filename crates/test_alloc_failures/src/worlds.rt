@@ -6,7 +6,7 @@ use crate::picture::Picture;
 use crate::programs::image_of;
 use crate::retry::again;
 use crate::runs::BOUND;
-use data_written_schedules::Schedule;
+use data_guest_programs::schedules::Schedule;
 use elf32_reader::Image;
 use schedule::Event;
 use schedule_core::{EventFault, RefusedEvent, World};

@@ -2,7 +2,7 @@
 //! byte: thread N does so by its second instruction.
 
 use data_guest_programs::RACE;
-use data_written_schedules::{EARLY_TURN, Schedule, THREE_WORKERS};
+use data_guest_programs::schedules::{EARLY_TURN, Schedule, THREE_WORKERS};
 use elf32_reader::read;
 use guest_memory::GuestMemory;
 use schedule::Event;

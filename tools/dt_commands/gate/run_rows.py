@@ -173,10 +173,10 @@ def listing_of(name):
     return "".join(f"{it[2:]}\n" for it in found[1].splitlines()) if found else text_at(f"{DATA}/{name}.listing")
 
 
-def sources_of(crate):
-    """Returns the sources of a crate of data as one text, and in it the constants that are texts."""
-    folder = f"{TOP}/crates/{crate}/src"
-    text = "".join(text_at(f"{folder}/{it}") for it in sorted(os.listdir(folder)))
+def sources_in(folder):
+    """Returns the sources in a folder of data_guest_programs as one text, and in it the constants that are texts."""
+    folder = f"{TOP}/crates/data_guest_programs/{folder}"
+    text = "".join(text_at(f"{folder}/{it}") for it in sorted(os.listdir(folder)) if it.endswith(".rt"))
     return text, dict(re.findall(r'const (\w+): &str = ("\\\n.*?");', text, re.S))
 
 
@@ -188,7 +188,7 @@ def text_in(parts, constants):
 
 def kept_programs():
     """Returns the programs that proved tests name, by their names: of each its listing and its segments of zeros; and traces of runs."""
-    text, constants = sources_of("data_guest_programs")
+    text, constants = sources_in("src")
     page = re.search(r"const PAGE: .*? = (\[.*?\]);", text)[1]
     found = re.findall(r'name: "([^"]+)",\s+listing: &\[(.*?)\],\s+zeros: &(PAGE|\[.*?\]),\n', text, re.S)
     places = {"DATA": 0x20000}
@@ -257,7 +257,7 @@ def replays():
 
 def kept_schedules():
     """Returns the schedules that proved tests name, by their names."""
-    text, constants = sources_of("data_written_schedules")
+    text, constants = sources_in("src/schedules")
     found = re.findall(r'name: "([^"]+)",\s+program: [\w:]+,\s+text: &\[(.*?)\],\n', text, re.S)
     return {name: text_in(parts, constants).encode() for name, parts in found}
 
@@ -266,7 +266,7 @@ def compare_replay(row, run, kept):
     """Compares what the replay of a schedule gives with its end, or with the run that it is for."""
     found = Differences()
     if row.name in kept:
-        found.expect(kept[row.name], row.text, "text of data_written_schedules")
+        found.expect(kept[row.name], row.text, "text of data_guest_programs")
     turns, status, line = row.end or (None, run.status, run.message())
     with tempfile.TemporaryDirectory(prefix="row-") as room:
         for name, data in (("a.elf", run.file), ("schedule", row.text)):

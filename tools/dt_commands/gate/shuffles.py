@@ -1,13 +1,15 @@
 """What a schedule's number draws, worked out from the law's words: lists and lengths of phases.
 
-`tools/dt write shuffles` writes what the program crates/test_shuffles must write.
+The program crates/test_texts writes it last. `tools/dt write shuffles` writes that end of what the program must write.
 """
 import os
 
 from dt_commands.repository import TOP
 from dt_commands.texts import contents, write_file
 
-FILE = f"{TOP}/crates/test_shuffles/stdout"
+FILE = f"{TOP}/crates/test_texts/stdout"
+# How the first of its lines begins.
+FIRST = b"mix "
 WORD = 2**64
 LONGEST = [0, 0, 0, 8, 12, 16]
 # What the program is asked: it has the same three lists.
@@ -68,18 +70,25 @@ def phase_line(number, phase):
 
 
 def made():
-    """Returns what the program must write."""
+    """Returns what the program must write of numbers."""
     lines = [f"mix {it} {mix(it)}" for it in WORDS] + [phase_line(number, phase) for number in NUMBERS for phase in PHASES]
     return "".join(f"{it}\n" for it in lines)
 
 
+def split(text):
+    """Returns what the program must write before the numbers, and what it must write of them."""
+    lines = text.splitlines(keepends=True)
+    first = next((place for place, it in enumerate(lines) if it.startswith(FIRST)), len(lines))
+    return b"".join(lines[:first]), b"".join(lines[first:])
+
+
 def check(options):
-    """Compares what the program must write with what the numbers draw by the law's words."""
-    same = contents(FILE) == made().encode()
-    print(f"{os.path.relpath(FILE, TOP)}: {'as' if same else 'not as'} worked out")
+    """Compares what the program must write of numbers with what they draw by the law's words."""
+    same = split(contents(FILE))[1] == made().encode()
+    print(f"{os.path.relpath(FILE, TOP)}: its draws are {'as' if same else 'not as'} worked out")
     return 0 if same else 1
 
 
 def write(options):
-    """Writes what the program must write."""
-    write_file(FILE, made().encode())
+    """Writes what the program must write of numbers."""
+    write_file(FILE, split(contents(FILE))[0] + made().encode())

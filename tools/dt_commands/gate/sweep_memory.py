@@ -3,8 +3,8 @@
 `alloc_failures` must print the same text whichever of its allocations is refused. It has calls that allocate nothing, between two
 allocations. If all are refused from the first of these two on, it must report both as refused, and print of the calls what it prints
 otherwise. `dthreads` runs, lists and records small guests, replays schedules, and debugs. Each answer must be the true one or out of memory
-(125); then standard output has a prefix of the true output, and no file was written after the first that is missing. `phase_failures` runs
-phases of these guests: each of its lines must be the true one or say out of memory, and its draws must allocate nothing.
+(125); then standard output has a prefix of the true output, and no file was written after the first that is missing. `host_threads failures`
+runs phases of these guests: each of its lines must be the true one or say out of memory, and its draws must allocate nothing.
 
 A sweep counts only if its refusals reached the program: at least one answer is out of memory, and of the requests of an undisturbed run
 all were refused in turn but for SPREAD, if it has several host threads, and nine tenths of those of the longest run. A run that doesn't
@@ -159,11 +159,12 @@ def is_line_of(line, wanted):
 
 def phases(room, program):
     """Tries phases of the guests by one worker and by four, and the draws, which take no memory."""
-    sweep = Sweep(room, [program])
+    sweep = Sweep(room, [program, "failures"])
     wanted = sweep.run(REFUSE=0)
-    lines = contents(f"{TOP}/crates/test_phase_failures/stdout").splitlines()
+    every = contents(f"{TOP}/crates/test_host_threads/stdout").splitlines()
+    lines = every[every.index(b"a request before them: given") :]
     if wanted.said[1].splitlines() != lines:
-        sys.exit("phase_failures: another text than its file stdout")
+        sys.exit("host_threads: another text than the end of its file stdout")
     longest, refusals, short, before = wanted.requests, 0, 0, None
     for number, answer in sweep.in_turn(wanted):
         longest, refusals = max(longest, answer.requests), refusals + answer.refusals
@@ -173,17 +174,17 @@ def phases(room, program):
         if text[0] == b"draws: out of memory":
             text[0:1] = lines[0:3]
         if answer.said[0] != 0 or len(text) != len(lines) or not all(map(is_line_of, text, lines)):
-            sys.exit(f"phase_failures: another text with request {number} refused: {answer.said}")
+            sys.exit(f"host_threads: another text with request {number} refused: {answer.said}")
         short += text != lines
-    see_swept("phase_failures", refusals, wanted.requests - SPREAD, longest, short)
+    see_swept("host_threads", refusals, wanted.requests - SPREAD, longest, short)
     if before is None:
-        sys.exit("phase_failures: the request before the draws was never refused")
+        sys.exit("host_threads: the request before the draws was never refused")
     quiet = sweep.run(REFUSE_FROM=before).said[1].splitlines()
     if quiet[:3] != [lines[0].replace(b"given", b"refused"), lines[1], lines[2].replace(b"given", b"refused")]:
-        sys.exit(f"phase_failures: the draws answer otherwise, or take memory: {quiet[:3]}")
+        sys.exit(f"host_threads: the draws answer otherwise, or take memory: {quiet[:3]}")
     if not all(it.endswith(b": out of memory") for it in quiet[3:]):
-        sys.exit(f"phase_failures: an answer without memory: {quiet[3:]}")
-    print(f"phase_failures: {refusals} requests refused in turn, {short} times out of memory, and all from {before} on at once", flush=True)
+        sys.exit(f"host_threads: an answer without memory: {quiet[3:]}")
+    print(f"host_threads: {refusals} requests refused in turn, {short} times out of memory, and all from {before} on at once", flush=True)
 
 
 def runs(room, program):
@@ -260,7 +261,7 @@ def sweep(options):
     """Refuses each request for memory of some programs, one after another, and looks at what they answer."""
     with tempfile.TemporaryDirectory(prefix="sweep-memory-") as room, Progress("lines") as progress:
         library(room)
-        for name, does in () if options.gate else (("test_alloc_failures", calls), ("test_phase_failures", phases)):
+        for name, does in () if options.gate else (("test_alloc_failures", calls), ("test_host_threads", phases)):
             if options.word in name:
                 progress.at = name
                 does(room, built(name))

@@ -1,0 +1,267 @@
+//! The histories of the rows: small ones, whose races are worked out by hand.
+use crate::of_races::rows::Row;
+use crate::of_races::told::Told;
+use races::{Access, ByteSet, Site};
+
+const WHOLE: ByteSet = ByteSet {
+    first: true,
+    second: true,
+    third: true,
+    fourth: true,
+};
+
+const FIRST: ByteSet = ByteSet {
+    first: true,
+    second: false,
+    third: false,
+    fourth: false,
+};
+
+const SECOND: ByteSet = ByteSet {
+    first: false,
+    second: true,
+    third: false,
+    fourth: false,
+};
+
+/// An access of bytes of a word.
+macro_rules! access {
+    ($thread:expr, $turn:expr, $pc:expr, $address:expr, $bytes:expr, $is_store:expr) => {
+        Told::Access(Access {
+            site: Site {
+                thread: $thread,
+                turn: $turn,
+                pc: $pc,
+                is_store: $is_store,
+            },
+            word: $address / 4,
+            bytes: $bytes,
+        })
+    };
+}
+
+/// A load of a word.
+macro_rules! load {
+    ($thread:expr, $turn:expr, $pc:expr, $address:expr) => {
+        access!($thread, $turn, $pc, $address, WHOLE, false)
+    };
+}
+
+/// A store of a word.
+macro_rules! store {
+    ($thread:expr, $turn:expr, $pc:expr, $address:expr) => {
+        access!($thread, $turn, $pc, $address, WHOLE, true)
+    };
+}
+
+/// The rows.
+pub static ROWS: [Row; 16] = [
+    // Two threads add to a counter without a mutex.
+    Row {
+        name: "lost update",
+        history: &[
+            Told::Create(0, 1),
+            Told::Create(0, 2),
+            load!(1, 15, 0x1_0180, 0x1_6038),
+            store!(1, 15, 0x1_0188, 0x1_6038),
+            load!(2, 17, 0x1_0180, 0x1_6038),
+            store!(2, 17, 0x1_0188, 0x1_6038),
+        ],
+        text: "race address=00016038 bytes=4 store thread=1 turn=15 pc=00010188 load thread=2 turn=17 pc=00010180\nrace address=00016038 bytes=4 store thread=1 turn=15 pc=00010188 store thread=2 turn=17 pc=00010188\n",
+    },
+    // They do so under a mutex.
+    Row {
+        name: "the same under a mutex",
+        history: &[
+            Told::Lock(1, 7),
+            load!(1, 15, 0x1_0180, 0x1_6038),
+            store!(1, 15, 0x1_0188, 0x1_6038),
+            Told::Unlock(1, 7),
+            Told::Lock(2, 7),
+            load!(2, 17, 0x1_0180, 0x1_6038),
+            store!(2, 17, 0x1_0188, 0x1_6038),
+            Told::Unlock(2, 7),
+        ],
+        text: "",
+    },
+    // A reader takes no mutex beside a writer that does.
+    Row {
+        name: "a reader without the mutex",
+        history: &[
+            Told::Lock(1, 7),
+            store!(1, 3, 0x1_0100, 0x2_0000),
+            Told::Unlock(1, 7),
+            load!(2, 4, 0x1_0200, 0x2_0000),
+        ],
+        text: "race address=00020000 bytes=4 store thread=1 turn=3 pc=00010100 load thread=2 turn=4 pc=00010200\n",
+    },
+    // Two threads write neighbouring bytes.
+    Row {
+        name: "neighbouring bytes",
+        history: &[
+            access!(1, 3, 0x1_0100, 0x2_0000, FIRST, true),
+            access!(2, 4, 0x1_0100, 0x2_0000, SECOND, true),
+        ],
+        text: "",
+    },
+    // A plain flag publishes data.
+    Row {
+        name: "a plain flag",
+        history: &[
+            store!(1, 3, 0x1_0100, 0x2_0000),
+            store!(1, 3, 0x1_0104, 0x2_0010),
+            load!(2, 4, 0x1_0200, 0x2_0010),
+            load!(2, 4, 0x1_0204, 0x2_0000),
+        ],
+        text: "race address=00020010 bytes=4 store thread=1 turn=3 pc=00010104 load thread=2 turn=4 pc=00010200\nrace address=00020000 bytes=4 store thread=1 turn=3 pc=00010100 load thread=2 turn=4 pc=00010204\n",
+    },
+    // A flag in an object of hints publishes data.
+    Row {
+        name: "a flag in an object",
+        history: &[
+            store!(1, 3, 0x1_0100, 0x2_0000),
+            Told::Enter(1),
+            Told::Release(1, 0x2_0010),
+            store!(1, 3, 0x1_0104, 0x2_0010),
+            Told::Leave(1),
+            Told::Enter(2),
+            load!(2, 4, 0x1_0200, 0x2_0010),
+            Told::Acquire(2, 0x2_0010),
+            Told::Leave(2),
+            load!(2, 4, 0x1_0204, 0x2_0000),
+        ],
+        text: "",
+    },
+    // Two accesses are many turns apart, with nothing between them that orders them.
+    Row {
+        name: "many turns apart",
+        history: &[
+            store!(1, 2, 0x1_0100, 0x2_0000),
+            Told::Lock(1, 7),
+            Told::Unlock(1, 7),
+            store!(3, 400, 0x1_0300, 0x2_0020),
+            Told::Lock(2, 8),
+            Told::Unlock(2, 8),
+            store!(2, 900, 0x1_0200, 0x2_0000),
+        ],
+        text: "race address=00020000 bytes=4 store thread=1 turn=2 pc=00010100 store thread=2 turn=900 pc=00010200\n",
+    },
+    // Two accesses before and after a barrier.
+    Row {
+        name: "a barrier",
+        history: &[
+            store!(1, 2, 0x1_0100, 0x2_0000),
+            store!(2, 3, 0x1_0200, 0x2_0010),
+            store!(3, 3, 0x1_0200, 0x2_0020),
+            Told::Round(1, 2),
+            load!(1, 4, 0x1_0104, 0x2_0010),
+            load!(2, 5, 0x1_0204, 0x2_0000),
+            load!(2, 5, 0x1_0208, 0x2_0020),
+        ],
+        text: "race address=00020020 bytes=4 store thread=3 turn=3 pc=00010200 load thread=2 turn=5 pc=00010208\n",
+    },
+    // A block is freed by one thread and given to another.
+    Row {
+        name: "a freed block",
+        history: &[
+            store!(1, 2, 0x1_0100, 0x2_0000),
+            store!(1, 2, 0x1_0104, 0x2_0008),
+            Told::Fresh(0x2_0000, 8),
+            store!(2, 3, 0x1_0200, 0x2_0000),
+            store!(2, 3, 0x1_0204, 0x2_0008),
+        ],
+        text: "race address=00020008 bytes=4 store thread=1 turn=2 pc=00010104 store thread=2 turn=3 pc=00010204\n",
+    },
+    // A mutex is taken on one of two paths, and another mutex is taken by both.
+    Row {
+        name: "a mutex on one path",
+        history: &[
+            store!(1, 2, 0x1_0100, 0x2_0000),
+            Told::Lock(2, 8),
+            Told::Unlock(2, 8),
+            Told::Lock(1, 8),
+            Told::Unlock(1, 8),
+            Told::Lock(2, 7),
+            store!(2, 3, 0x1_0200, 0x2_0000),
+            Told::Unlock(2, 7),
+        ],
+        text: "race address=00020000 bytes=4 store thread=1 turn=2 pc=00010100 store thread=2 turn=3 pc=00010200\n",
+    },
+    // What the first thread does before and after it made another.
+    Row {
+        name: "beside a created thread",
+        history: &[
+            store!(0, 1, 0x1_0100, 0x2_0000),
+            Told::Create(0, 1),
+            store!(0, 2, 0x1_0104, 0x2_0010),
+            load!(1, 3, 0x1_0200, 0x2_0000),
+            load!(1, 3, 0x1_0204, 0x2_0010),
+        ],
+        text: "race address=00020010 bytes=4 store thread=0 turn=2 pc=00010104 load thread=1 turn=3 pc=00010204\n",
+    },
+    // What a thread did before its end, seen by a join and by no join.
+    Row {
+        name: "a join",
+        history: &[
+            store!(1, 2, 0x1_0100, 0x2_0000),
+            Told::End(1),
+            Told::Join(0, 1),
+            load!(0, 3, 0x1_0200, 0x2_0000),
+            load!(2, 4, 0x1_0204, 0x2_0000),
+        ],
+        text: "race address=00020000 bytes=4 store thread=1 turn=2 pc=00010100 load thread=2 turn=4 pc=00010204\n",
+    },
+    // What a thread did before it let another go.
+    Row {
+        name: "a signal",
+        history: &[
+            store!(1, 2, 0x1_0100, 0x2_0000),
+            Told::LetGo(1, 2),
+            store!(1, 2, 0x1_0104, 0x2_0010),
+            load!(2, 3, 0x1_0200, 0x2_0000),
+            load!(2, 3, 0x1_0204, 0x2_0010),
+        ],
+        text: "race address=00020010 bytes=4 store thread=1 turn=2 pc=00010104 load thread=2 turn=3 pc=00010204\n",
+    },
+    // Accesses and calls of a library.
+    Row {
+        name: "a library",
+        history: &[
+            store!(1, 2, 0x1_0100, 0x2_0000),
+            Told::Enter(1),
+            Told::Enter(1),
+            Told::Leave(1),
+            store!(1, 2, 0x1_0104, 0x2_0010),
+            Told::Unlock(1, 7),
+            Told::Leave(1),
+            Told::Lock(2, 7),
+            load!(2, 3, 0x1_0200, 0x2_0000),
+            load!(2, 3, 0x1_0204, 0x2_0010),
+        ],
+        text: "race address=00020000 bytes=4 store thread=1 turn=2 pc=00010100 load thread=2 turn=3 pc=00010200\n",
+    },
+    // Two threads read, and a third one writes.
+    Row {
+        name: "readers, then a writer",
+        history: &[
+            load!(1, 2, 0x1_0100, 0x2_0000),
+            load!(2, 3, 0x1_0100, 0x2_0000),
+            Told::Unlock(2, 7),
+            Told::Lock(3, 7),
+            store!(3, 4, 0x1_0300, 0x2_0000),
+            store!(3, 4, 0x1_0300, 0x2_0000),
+        ],
+        text: "race address=00020000 bytes=4 load thread=1 turn=2 pc=00010100 store thread=3 turn=4 pc=00010300\n",
+    },
+    // Two threads write bytes of a word, one after another.
+    Row {
+        name: "byte by byte",
+        history: &[
+            access!(1, 2, 0x1_0100, 0x2_0000, SECOND, true),
+            access!(1, 2, 0x1_0100, 0x2_0000, FIRST, true),
+            access!(2, 3, 0x1_0200, 0x2_0000, FIRST, true),
+            access!(2, 3, 0x1_0200, 0x2_0000, SECOND, true),
+        ],
+        text: "race address=00020000 bytes=2 store thread=1 turn=2 pc=00010100 store thread=2 turn=3 pc=00010200\n",
+    },
+];
