@@ -1,4 +1,4 @@
-pub mod Opened
+pub mod OpenedSession
 pub mod Quantum
 pub mod Replayed
 pub mod Replays

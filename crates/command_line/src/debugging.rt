@@ -37,7 +37,7 @@ pub(crate) struct Debugging<'a> {
 
 /// Debugs the program of a file: answers gdb, which speaks on `stdin`, on `stdout`, until it ends the session or the input
 /// ends.
-#[tactic(auto, using(crate::proofs::Opened::is_debugged))]
+#[tactic(auto, using(crate::proofs::OpenedSession::is_debugged))]
 pub(crate) fn debug_file<'a, H: Threads + Wait + Sync, F: Files, R: Read + Send, W: Write>(
     rt: &H,
     alloc: Global,
