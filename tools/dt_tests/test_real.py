@@ -36,10 +36,10 @@ class Built(unittest.TestCase):
             with open(path, "w", encoding="utf-8") as it:
                 it.write("#!/bin/sh\necho 'tool (a package) 1.2'\n")
             os.chmod(path, 0o755)
-            program = real_list.Program("tool", ["tool"], [], [], host=path)
+            program = real_list.Program("tool", host=path)
             self.assertEqual(real_programs.of_host(program, "1.2"), path)
             self.assertIsNone(real_programs.of_host(program, "1.3"))
-            self.assertIsNone(real_programs.of_host(real_list.Program("other", ["other"], [], []), "1.2"))
+            self.assertIsNone(real_programs.of_host(real_list.Program("other"), "1.2"))
 
     def test_an_archive_is_found_with_its_version(self):
         with tempfile.TemporaryDirectory() as room:

@@ -1,11 +1,11 @@
 """Real programs: Debian's sources, built unchanged for the guest machine, and compared with the host's build.
 
 By hand, and only with a network: it fetches sources by `apt-get source`, with lists of its own (no root, no change to the host's lists). It
-builds each program by dthreads-cc and natively, if the host hasn't its command in the same version, runs both on the same input, compares output, files and status byte for byte, and the
-digests of runs by guest/dthreads-exec with 1, 4 and 64 workers. It prints a table, each row once it is known: version, whether the program
-builds, whether each run gives what the host's build gives, whether the digests are one, and turns and instructions of the first run.
-Programs in C++ need guest/build-libstdcxx first, SQLite needs tclsh. All take a processor some half an hour. DTHREADS names the program
-to run the guests with, or else ./dthreads.
+builds each program of tools/guests/real/list by dthreads-cc and natively, if the host hasn't its command in the same version. It runs both on
+the same input, and compares output and status byte for byte, and the digests of runs by guest/dthreads-exec with 1, 4 and 64 workers. It prints
+a table, each row once it is known: version, whether the program builds, whether each run gives what the host's build gives, whether the digests
+are one, and turns and instructions of the first run. Programs in C++ need guest/build-libstdcxx first, SQLite needs tclsh. All take a processor
+some half an hour. DTHREADS names the program to run the guests with, or else ./dthreads.
 """
 import glob
 import os
@@ -144,14 +144,14 @@ class Builds:
 
 
 def run_native(program, run, path):
-    """Runs the host's build in a folder of its own, in the locale of the guest. Returns output, status and the wanted files."""
+    """Runs the host's build in a folder of its own, in the locale of the guest. Returns output and status."""
     with tempfile.TemporaryDirectory() as here:
         for name, made in run.files.items():
             write_file(f"{here}/{name}", made())
         name = program.name.split()[0]
         done = subprocess.run([name, *run.arguments], executable=path, input=run.given(), cwd=here, stdout=subprocess.PIPE,
                               stderr=subprocess.DEVNULL, env={**os.environ, "LC_ALL": "C"})
-        return done.stdout, done.returncode, [contents(f"{here}/{name}") for name in run.wanted]
+        return done.stdout, done.returncode
 
 
 def run_guest(run, path, room, workers):
@@ -160,14 +160,13 @@ def run_guest(run, path, room, workers):
     for name, made in run.files.items():
         write_file(f"{room}/given-{name}", made())
         words += ["--file", f"{name}={room}/given-{name}"]
-    for name in ("digest", "trace", *(f"got-{it}" for it in run.wanted)):
+    for name in ("digest", "trace"):
         if os.path.exists(f"{room}/{name}"):
             os.remove(f"{room}/{name}")
-    words += [word for name in run.wanted for word in ("--out", f"{name}={room}/got-{name}")]
     command = [kit("dthreads-exec"), path, *words, "--workers", str(workers), "--bound", BOUND, "--digest", f"{room}/digest",
                "--trace", f"{room}/trace", "--", *run.arguments]
     done = subprocess.run(command, input=run.given(), stdout=subprocess.PIPE, stderr=subprocess.DEVNULL)
-    return (done.stdout, done.returncode, [contents(f"{room}/got-{name}") for name in run.wanted]), contents(f"{room}/digest")
+    return (done.stdout, done.returncode), contents(f"{room}/digest")
 
 
 def count(trace):
