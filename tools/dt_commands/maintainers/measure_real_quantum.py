@@ -13,8 +13,9 @@ from dt_commands.measuring import BOUND, seconds_of, table
 from dt_commands.real_list import PROGRAMS, own_text
 from dt_commands.texts import write_file
 
-# The programs of real_list that are measured, each with its words here.
-WORDS = {"pigz": ["-p4", "-n", "-c"], "lbzip2": ["-n", "4", "-1", "-c"], "sort": ["--parallel=4", "-S", "40M", "-o", "/tmp/sorted"]}
+# The programs of tools/guests/real/list that are measured, each with its words here.
+WORDS = {"pigz": ["-p4", "-n", "-c"], "lbzip2": ["-n", "4", "-1", "-c"],
+         "sort of coreutils": ["--parallel=4", "-S", "40M", "-o", "/tmp/sorted"]}
 # Of each program, its input: sort shares its work if there are more than 131,072 lines for a thread.
 TEXT_BYTES, LINES = 600000, 530000
 
@@ -39,7 +40,7 @@ def measure(options):
     def rows(program, room):
         archives = real_programs.Archives(os.path.abspath(options.sources) if options.sources else f"{room}/sources")
         elf = real_programs.Builds(archives, f"{room}/built", 2).build(program, "elf")[0]
-        write_file(f"{room}/input", lines() if program.name == "sort" else own_text()[:TEXT_BYTES])
+        write_file(f"{room}/input", lines() if program.host == "sort" else own_text()[:TEXT_BYTES])
         cells = []
         for quantum in QUANTA:
             words = ["--bound", BOUND, "--quantum", str(quantum or "none"), "--trace", f"{room}/trace"]
