@@ -7,44 +7,17 @@ import re
 import shutil
 import subprocess
 
-from dt_commands.changes import PROGRAMS
+from dt_commands.changes import FOLDER, PROGRAMS
 from dt_commands.repository import TOP
 from dt_commands.texts import read_text, write_file
 
+# The crate of the switch, whose sources are the files switch.text and switch.c of tools/changes.
 SWITCH = "tried_change"
-
-SOURCE = """//! Which change is tried.
-#![tactic(auto)]
-
-unsafe extern "C" {
-    safe fn tried_change_is(number: u32) -> bool;
-    safe fn tried_change_set(number: u32);
-}
-
-/// Whether this change is tried.
-pub fn is(number: u32) -> bool {
-    tried_change_is(number)
-}
-
-/// Tries a change from here on.
-pub fn set(number: u32) {
-    tried_change_set(number);
-}
-"""
-
 # What a program of the copy does first: the number of the change is its standard input.
 SET_BY_INPUT = f"""    for line in rt.lines(rt.alloc()) {{
         {SWITCH}::set(test_guest_rows::decimal(line?.as_str()) as u32);
     }}
 """
-
-SOURCE_IN_C = """#include <stdbool.h>
-#include <stdint.h>
-static uint32_t tried;
-bool tried_change_is(uint32_t number) { return tried == number; }
-void tried_change_set(uint32_t number) { tried = number; }
-"""
-
 
 # The places that are no expression and no statements: the heads of an `if` or a `while`, arms, fields, and bindings. Of each what is
 # before its expression, the expression, and what is behind it; the first is the same in the changed text.
@@ -96,8 +69,8 @@ def copy(found, folder):
     subprocess.run(["git", "init", "-q", folder], check=True)
     listed = re.sub(r"^(\w+:)", rf"\1 {SWITCH}", read_text(f"{TOP}/crates.txt"), flags=re.M)
     write_file(f"{folder}/crates.txt", f"{SWITCH}:\n{listed}")
-    write_file(f"{folder}/crates/{SWITCH}/src/lib.rt", SOURCE)
-    write_file(f"{folder}/crates/{SWITCH}/c/{SWITCH}.c", SOURCE_IN_C)
+    write_file(f"{folder}/crates/{SWITCH}/src/lib.rt", read_text(f"{FOLDER}/switch.text"))
+    write_file(f"{folder}/crates/{SWITCH}/c/{SWITCH}.c", read_text(f"{FOLDER}/switch.c"))
     places, tests = {}, {}
     for number, change in enumerate(found, 1):
         for file, old, new in change.edits:
