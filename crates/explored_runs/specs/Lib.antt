@@ -1,0 +1,5 @@
+pub mod Batch
+pub mod Explored
+pub mod LastLine
+pub mod Rows
+pub mod Runs

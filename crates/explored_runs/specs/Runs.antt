@@ -1,0 +1,54 @@
+-- The run of a number, and how it ends.
+use Rattle.std.specs.Prelude.{◌≡◌, ℕ, ◌-◌, ◌^◌, ◌<◌, Some, List, Option, Result, Vec, IfSome, MatchResult, All, length, slice_index_or}
+use Rattle.std.specs.declared.alloc.Global.{Global}
+use Rattle.elf32_reader.specs.LoadImage.{LoadImage}
+use Rattle.runtime.specs.Answer.{HasAnswer}
+use Rattle.runtime.specs.declared.config.Config.{Config}
+use Rattle.runtime.specs.declared.open_fault.OpenFault.{OpenFault}
+use Rattle.runtime.specs.declared.open_fault.OpenFault.TheVariants.{OutOfMemory}
+use Rattle.sha2.specs.Sha256.{sha256}
+use Rattle.shuffled_phases.specs.declared.shuffle.Shuffle.{Shuffle}
+use Rattle.token.specs.History.{History, outcome, present}
+use Rattle.token.specs.Setup.{Setup, setup_of}
+use Rattle.explored_runs.specs.Batch.{number_at}
+use Rattle.explored_runs.specs.LastLine.{last_line}
+use Rattle.explored_runs.specs.Rows.{Telling}
+use Rattle.explored_runs.specs.declared.batch.Batch.{Batch}
+use Rattle.explored_runs.specs.declared.ending.Ending.{Ending}
+use Rattle.explored_runs.specs.declared.seen.Seen.{Seen}
+
+-- a number by which all phases are shuffled, without a limit for the program's choices
+abbrev pub whole : (number : ℕ) → Shuffle
+whole number = record { number = number; first = 1; last = 2 ^ 64 - 1; choices = 0 }
+
+-- what the run of a number is given
+abbrev pub setup_at : LoadImage → (input : List ℕ) → Config → (number : ℕ) → Setup
+setup_at image input config number = setup_of image input config.bound config.quantum (Some (whole number))
+
+-- A history ends so, its output has this SHA-256, and this is the output's last line.
+pub record EndsAs (setup : Setup) (ending : Ending) (last : List ℕ) (history : History) : Type 0 where
+  pub ends : outcome setup history ≡ Some ending.outcome
+  pub digest : sha256 (present setup history).output ≡ ending.digest
+  pub line : last_line (present setup history).output ≡ last
+
+-- Some complete history of what the run of a number is given ends so, and so does every one.
+abbrev pub IsRun : LoadImage → (input : List ℕ) → Config → Telling
+IsRun image input config number ending line =
+    let setup : Setup = setup_at image input config number in HasAnswer setup (EndsAs setup ending line)
+
+-- the run of its number was seen
+abbrev pub IsSeen : LoadImage → (input : List ℕ) → Config → Seen → Type 0
+IsSeen image input config seen = IsRun image input config seen.number seen.ending seen.line.items
+
+-- the runs of their numbers were seen
+abbrev pub AllSeen : LoadImage → (input : List ℕ) → Config → List Seen → Type 0
+AllSeen image input config seen = All (IsSeen image input config) seen
+
+-- what a host thread saw of the runs that it made, unless memory ran out
+abbrev pub IsPart : LoadImage → (input : List ℕ) → Config → Result (Vec Seen Global) OpenFault → Type 0
+IsPart image input config part = MatchResult part (λ seen. AllSeen image input config seen.items) (λ fault. fault ≡ OutOfMemory)
+
+-- in each slot of a batch, if anything, is what was seen of the run of its number
+abbrev pub AreSlots : LoadImage → (input : List ℕ) → Config → Batch → List (Option Seen) → Type 0
+AreSlots image input config batch slots = (place : ℕ) (d : Option Seen) → place < length slots
+    → IfSome (slice_index_or slots place d) (λ seen. (seen.number ≡ number_at batch place) × IsSeen image input config seen)

@@ -1,0 +1,114 @@
+//! Runs the numbers of a batch by several host threads. Each draws the next number, runs it, and keeps what it saw.
+ghost use Rattle.std.specs.Prelude.{◌≡◌, ℕ, ◌^◌, ◌<◌, ◌++◌, ◌∷◌, [], List, true, All, IfErr, IfOk, OnOk, vec_len};
+ghost use Rattle.runtime.specs.Config.{is_valid};
+ghost use Rattle.explored_runs.specs.Batch.{IsInRange, number_at};
+ghost use Rattle.explored_runs.specs.Runs.{AllSeen, AreSlots, IsPart};
+ghost use Rattle.elf32_reader.specs.LoadImage.{LoadImage};
+ghost use Rattle.runtime.specs.declared.config.Config.{Config as ConfigOf};
+ghost use denote.Param.Send.{IsSync};
+
+use crate::batch::Batch;
+use crate::numbered::run_number;
+use crate::progress::Progress;
+use crate::seen::Seen;
+use crate::slots::{empty_slots, put};
+use elf32_reader::Image;
+use runtime::{Config, OpenFault};
+use std::alloc::{AllocError, Global};
+use std::sync::Wait;
+use std::sync::atomic::{AtomicU64, Ordering};
+use std::thread;
+use std::thread::Threads;
+
+/// What was seen of the runs of a batch, as far as it is known: in the slots of their numbers.
+pub(crate) fn run_batch<R: Threads + Wait + Sync, P: Progress + Sync>(
+    rt: &R,
+    alloc: Global,
+    image: &Image,
+    input: &[u8],
+    config: &Config,
+    batch: Batch,
+    progress: &P,
+) -> Result<Vec<Option<Seen>>, OpenFault>
+    requires valid { is_valid config.now ≡ true }
+    requires range { IsInRange batch }
+    ensures len { IfOk result (λ slots. vec_len slots ≡ batch.count) }
+    ensures slots { IfOk result (λ slots. AreSlots image.now input.now config.now batch slots.items) }
+    ensures fault { IfErr result (λ fault. fault ≡ OpenFault.OutOfMemory) }
+{
+    let mut parts = draw_all(rt, alloc, image, input, config, batch, progress)?;
+    let mut slots = empty_slots(alloc, batch.count)?;
+    while let Some(part) = parts.pop() {
+        put_all(&mut slots, batch, part?);
+    }
+    Ok(slots)
+}
+
+/// Puts what was seen of runs into the slots of their numbers.
+fn put_all(slots: &mut [Option<Seen>], batch: Batch, mut seen: Vec<Seen>)
+    requires { number_at batch 0 < 2 ^ 32 }
+    ensures { (image : LoadImage) (input : List ℕ) (config : ConfigOf) → AllSeen image input config seen.items
+        → AreSlots image input config batch slots.old → AreSlots image input config batch slots.new }
+{
+    while let Some(run) = seen.pop() {
+        put(slots, batch, run);
+    }
+}
+
+/// What each of the host threads saw.
+fn draw_all<R: Threads + Wait + Sync, P: Progress + Sync>(
+    rt: &R,
+    alloc: Global,
+    image: &Image,
+    input: &[u8],
+    config: &Config,
+    batch: Batch,
+    progress: &P,
+) -> Result<Vec<Result<Vec<Seen>, OpenFault>>, AllocError>
+    requires valid { is_valid config.now ≡ true }
+    requires range { IsInRange batch }
+    ensures { IfOk result (λ parts. All (IsPart image.now input.now config.now) parts.items) }
+{
+    let next = AtomicU64::new(0);
+    let part = |_: usize| -> Result<Vec<Seen>, OpenFault>
+        requires { IsSync R.row × IsSync P.row × (is_valid config.now ≡ true) × IsInRange batch }
+        ensures { IsPart image.entry.now input.entry.now config.entry.now result }
+    { draw_runs(rt, alloc, image, input, config, batch, &next, progress) };
+    thread::map_indices(rt, alloc, config.workers as usize, &part)
+}
+
+/// Runs the numbers that are drawn, until none is left.
+fn draw_runs<R: Threads + Wait + Sync, P: Progress>(
+    rt: &R,
+    alloc: Global,
+    image: &Image,
+    input: &[u8],
+    config: &Config,
+    batch: Batch,
+    next: &AtomicU64,
+    progress: &P,
+) -> Result<Vec<Seen>, OpenFault>
+    requires valid { is_valid config.now ≡ true }
+    requires range { IsInRange batch }
+    ensures { IsPart image.now input.now config.now result }
+{
+    let mut seen = Vec::new(alloc);
+    for _ in 0..batch.count {
+        let place = next.fetch_add(1, Ordering::SeqCst);
+        if place >= u64::from(batch.count) {
+            break;
+        }
+        let run = run_number(rt, alloc, image, input, config, batch.number(place as u32))?;
+        progress.ran(&run.ending);
+        keep(&mut seen, run)?;
+    }
+    Ok(seen)
+}
+
+/// Keeps what was seen of a run.
+fn keep(seen: &mut Vec<Seen>, run: Seen) -> Result<(), AllocError>
+    ensures { OnOk result (seen.new.items ≡ seen.old.items ++ run ∷ []) }
+{
+    seen.push(run)?;
+    Ok(())
+}
