@@ -1,17 +1,13 @@
 -- What an exploration answers.
-use Rattle.std.specs.Prelude.{ℕ, Some, List, Result, Vec, Ok, Err}
+use Rattle.std.specs.Prelude.{ℕ, List, Result, Vec, Ok, Err}
 use Rattle.std.specs.declared.alloc.Global.{Global}
 use Rattle.elf32_reader.specs.Segments.{image_of}
 use Rattle.runtime.specs.Run.{IsAccepted, IsUnopenedBy}
 use Rattle.runtime.specs.declared.config.Config.{Config}
 use Rattle.runtime.specs.declared.open_fault.OpenFault.{OpenFault}
 use Rattle.explored_runs.specs.Rows.{AreRowsOf}
-use Rattle.explored_runs.specs.Runs.{IsRun, whole}
+use Rattle.explored_runs.specs.Runs.{IsRun}
 use Rattle.explored_runs.specs.declared.row.Row.{Row}
-
--- a configuration with a number, by one host thread
-abbrev pub numbered : Config → (number : ℕ) → Config
-numbered config number = record config { shuffle = Some (whole number); workers = 1 }
 
 -- What an exploration answers: the rows of the runs of a range of numbers. Neither the number of host threads nor what is told of the
 -- progress is in it. Or it is refused as a run would be, or memory ran out.

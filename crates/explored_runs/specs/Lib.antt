@@ -1,5 +1,6 @@
 pub mod Batch
 pub mod Explored
+pub mod Failing
 pub mod LastLine
 pub mod Rows
 pub mod Runs

@@ -1,11 +1,12 @@
 -- The run of a number, and how it ends.
-use Rattle.std.specs.Prelude.{◌≡◌, ℕ, ◌-◌, ◌^◌, ◌<◌, Some, List, Option, Result, Vec, IfSome, MatchResult, All, length, slice_index_or}
+use Rattle.std.specs.Prelude.{◌≡◌, ℕ, ◌-◌, ◌^◌, ◌<◌, Some, List, Option, Result, Vec, IfOk, IfSome, All, length, slice_index_or}
+use Rattle.std.specs.declared.alloc.AllocError.{AllocError}
 use Rattle.std.specs.declared.alloc.Global.{Global}
 use Rattle.elf32_reader.specs.LoadImage.{LoadImage}
 use Rattle.runtime.specs.Answer.{HasAnswer}
 use Rattle.runtime.specs.declared.config.Config.{Config}
-use Rattle.runtime.specs.declared.open_fault.OpenFault.{OpenFault}
-use Rattle.runtime.specs.declared.open_fault.OpenFault.TheVariants.{OutOfMemory}
+use Rattle.runtime.specs.Recorded.{Ends}
+use Rattle.runtime.specs.declared.run_end.RunEnd.{RunEnd}
 use Rattle.sha2.specs.Sha256.{sha256}
 use Rattle.shuffled_phases.specs.declared.shuffle.Shuffle.{Shuffle}
 use Rattle.token.specs.History.{History, outcome, present}
@@ -21,9 +22,13 @@ use Rattle.explored_runs.specs.declared.seen.Seen.{Seen}
 abbrev pub whole : (number : ℕ) → Shuffle
 whole number = record { number = number; first = 1; last = 2 ^ 64 - 1; choices = 0 }
 
--- what the run of a number is given
-abbrev pub setup_at : LoadImage → (input : List ℕ) → Config → (number : ℕ) → Setup
-setup_at image input config number = setup_of image input config.bound config.quantum (Some (whole number))
+-- what the run of a schedule is given
+abbrev pub setup_by : LoadImage → (input : List ℕ) → Config → Shuffle → Setup
+setup_by image input config shuffle = setup_of image input config.bound config.quantum (Some shuffle)
+
+-- The end is that of some complete history of what a run is given, and of every one. Nothing is recorded.
+abbrev pub HasEnd : Setup → RunEnd → Type 0
+HasEnd setup end = Ends {R = Unit {0}} (λ _ turns changes. Unit {0}) setup end tt
 
 -- A history ends so, its output has this SHA-256, and this is the output's last line.
 pub record EndsAs (setup : Setup) (ending : Ending) (last : List ℕ) (history : History) : Type 0 where
@@ -34,7 +39,7 @@ pub record EndsAs (setup : Setup) (ending : Ending) (last : List ℕ) (history :
 -- Some complete history of what the run of a number is given ends so, and so does every one.
 abbrev pub IsRun : LoadImage → (input : List ℕ) → Config → Telling
 IsRun image input config number ending line =
-    let setup : Setup = setup_at image input config number in HasAnswer setup (EndsAs setup ending line)
+    let setup : Setup = setup_by image input config (whole number) in HasAnswer setup (EndsAs setup ending line)
 
 -- the run of its number was seen
 abbrev pub IsSeen : LoadImage → (input : List ℕ) → Config → Seen → Type 0
@@ -45,8 +50,8 @@ abbrev pub AllSeen : LoadImage → (input : List ℕ) → Config → List Seen �
 AllSeen image input config seen = All (IsSeen image input config) seen
 
 -- what a host thread saw of the runs that it made, unless memory ran out
-abbrev pub IsPart : LoadImage → (input : List ℕ) → Config → Result (Vec Seen Global) OpenFault → Type 0
-IsPart image input config part = MatchResult part (λ seen. AllSeen image input config seen.items) (λ fault. fault ≡ OutOfMemory)
+abbrev pub IsPart : LoadImage → (input : List ℕ) → Config → Result (Vec Seen Global) AllocError → Type 0
+IsPart image input config part = IfOk part (λ seen. AllSeen image input config seen.items)
 
 -- in each slot of a batch, if anything, is what was seen of the run of its number
 abbrev pub AreSlots : LoadImage → (input : List ℕ) → Config → Batch → List (Option Seen) → Type 0

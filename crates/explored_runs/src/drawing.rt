@@ -1,5 +1,5 @@
 //! Runs the numbers of a batch by several host threads. Each draws the next number, runs it, and keeps what it saw.
-ghost use Rattle.std.specs.Prelude.{◌≡◌, ℕ, ◌^◌, ◌<◌, ◌++◌, ◌∷◌, [], List, true, All, IfErr, IfOk, OnOk, vec_len};
+ghost use Rattle.std.specs.Prelude.{◌≡◌, ℕ, ◌^◌, ◌<◌, ◌++◌, ◌∷◌, [], List, true, All, IfOk, OnOk, vec_len};
 ghost use Rattle.runtime.specs.Config.{is_valid};
 ghost use Rattle.explored_runs.specs.Batch.{IsInRange, number_at};
 ghost use Rattle.explored_runs.specs.Runs.{AllSeen, AreSlots, IsPart};
@@ -13,7 +13,7 @@ use crate::progress::Progress;
 use crate::seen::Seen;
 use crate::slots::{empty_slots, put};
 use elf32_reader::Image;
-use runtime::{Config, OpenFault};
+use runtime::Config;
 use std::alloc::{AllocError, Global};
 use std::sync::Wait;
 use std::sync::atomic::{AtomicU64, Ordering};
@@ -29,12 +29,11 @@ pub(crate) fn run_batch<R: Threads + Wait + Sync, P: Progress + Sync>(
     config: &Config,
     batch: Batch,
     progress: &P,
-) -> Result<Vec<Option<Seen>>, OpenFault>
+) -> Result<Vec<Option<Seen>>, AllocError>
     requires valid { is_valid config.now ≡ true }
     requires range { IsInRange batch }
     ensures len { IfOk result (λ slots. vec_len slots ≡ batch.count) }
     ensures slots { IfOk result (λ slots. AreSlots image.now input.now config.now batch slots.items) }
-    ensures fault { IfErr result (λ fault. fault ≡ OpenFault.OutOfMemory) }
 {
     let mut parts = draw_all(rt, alloc, image, input, config, batch, progress)?;
     let mut slots = empty_slots(alloc, batch.count)?;
@@ -64,13 +63,13 @@ fn draw_all<R: Threads + Wait + Sync, P: Progress + Sync>(
     config: &Config,
     batch: Batch,
     progress: &P,
-) -> Result<Vec<Result<Vec<Seen>, OpenFault>>, AllocError>
+) -> Result<Vec<Result<Vec<Seen>, AllocError>>, AllocError>
     requires valid { is_valid config.now ≡ true }
     requires range { IsInRange batch }
     ensures { IfOk result (λ parts. All (IsPart image.now input.now config.now) parts.items) }
 {
     let next = AtomicU64::new(0);
-    let part = |_: usize| -> Result<Vec<Seen>, OpenFault>
+    let part = |_: usize| -> Result<Vec<Seen>, AllocError>
         requires { IsSync R.row × IsSync P.row × (is_valid config.now ≡ true) × IsInRange batch }
         ensures { IsPart image.entry.now input.entry.now config.entry.now result }
     { draw_runs(rt, alloc, image, input, config, batch, &next, progress) };
@@ -87,7 +86,7 @@ fn draw_runs<R: Threads + Wait + Sync, P: Progress>(
     batch: Batch,
     next: &AtomicU64,
     progress: &P,
-) -> Result<Vec<Seen>, OpenFault>
+) -> Result<Vec<Seen>, AllocError>
     requires valid { is_valid config.now ≡ true }
     requires range { IsInRange batch }
     ensures { IsPart image.now input.now config.now result }

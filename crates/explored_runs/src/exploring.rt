@@ -1,5 +1,5 @@
 //! The call `explore`: a file, its input and a range of numbers go in, the rows of their runs come out.
-ghost use Rattle.std.specs.Prelude.{◌≡◌, ◌+◌, ◌^◌, ◌<◌, ◌≤◌, true, IfErr, IfOk, IfSome, OnOk, vec_len};
+ghost use Rattle.std.specs.Prelude.{◌≡◌, ◌+◌, ◌^◌, ◌<◌, ◌≤◌, true, IfOk, IfSome, OnOk, vec_len};
 ghost use Rattle.runtime.specs.Config.{is_valid};
 ghost use Rattle.explored_runs.specs.Batch.{IsInRange};
 ghost use Rattle.explored_runs.specs.Explored.{Explores};
@@ -16,7 +16,7 @@ use crate::seen::Seen;
 use crate::slots::take_at;
 use elf32_reader::Image;
 use runtime::{Config, OpenFault, open_image};
-use std::alloc::Global;
+use std::alloc::{AllocError, Global};
 use std::sync::Wait;
 use std::thread::Threads;
 
@@ -65,14 +65,13 @@ fn count_all<R: Threads + Wait + Sync>(
     batch: Batch,
     mut slots: Vec<Option<Seen>>,
     rows: &mut Vec<Row>,
-) -> Result<(), OpenFault>
+) -> Result<(), AllocError>
     requires valid { is_valid config.now ≡ true }
     requires range { IsInRange batch }
     requires len { vec_len slots ≡ batch.count }
     requires slots { AreSlots image.now input.now config.now batch slots.items }
     requires rows { AreRowsOf (IsRun image.now input.now config.now) batch.from batch.done rows.old.items }
-    ensures rows { OnOk result (AreRowsOf (IsRun image.now input.now config.now) batch.from (batch.done + batch.count) rows.new.items) }
-    ensures fault { IfErr result (λ fault. fault ≡ OpenFault.OutOfMemory) }
+    ensures { OnOk result (AreRowsOf (IsRun image.now input.now config.now) batch.from (batch.done + batch.count) rows.new.items) }
 {
     for place in 0..batch.count {
         let known = take_at(&mut slots, place as usize);
@@ -92,12 +91,11 @@ fn known_or_run<R: Threads + Wait + Sync>(
     config: &Config,
     number: u32,
     known: Option<Seen>,
-) -> Result<Seen, OpenFault>
+) -> Result<Seen, AllocError>
     requires valid { is_valid config.now ≡ true }
     requires known { IfSome known (λ seen. (seen.number ≡ number) × IsSeen image.now input.now config.now seen) }
     ensures seen { IfOk result (IsSeen image.now input.now config.now) }
     ensures number { IfOk result (λ seen. seen.number ≡ number) }
-    ensures fault { IfErr result (λ fault. fault ≡ OpenFault.OutOfMemory) }
 {
     match known {
         Some(run) => Ok(run),

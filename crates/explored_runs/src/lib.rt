@@ -21,4 +21,4 @@ pub use failing::fails;
 pub use progress::Progress;
 pub use row::Row;
 pub use runtime::{Config, OpenFault, RunEnd, RunOutcome, Shuffle};
-pub use shuffled::run_shuffled;
+pub use shuffled::{run_shuffled, whole};

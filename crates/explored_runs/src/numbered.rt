@@ -1,7 +1,6 @@
 //! The run of one number.
-ghost use Rattle.std.specs.Prelude.{◌≡◌, true, IfErr, IfOk};
+ghost use Rattle.std.specs.Prelude.{◌≡◌, true, IfOk};
 ghost use Rattle.runtime.specs.Config.{is_valid};
-ghost use Rattle.explored_runs.specs.Runs as spec;
 ghost use Rattle.explored_runs.specs.Runs.{IsSeen};
 ghost use Rattle.explored_runs.specs.LastLine.{last_line as last_line_of};
 ghost use Rattle.sha2.specs.Sha256.{sha256};
@@ -9,11 +8,10 @@ ghost use Rattle.sha2.specs.Sha256.{sha256};
 use crate::ending::Ending;
 use crate::last_line::last_line;
 use crate::seen::Seen;
-use crate::unheard::Unheard;
+use crate::shuffled::{run_shuffled, whole};
 use elf32_reader::Image;
-use runtime::{Config, Interruption, NoRecord, OpenFault, OpenGate, RunEnd, Start, run_opened};
+use runtime::{Config, RunEnd};
 use sha2::{Digest, Sha256};
-use shuffled_phases::Shuffle;
 use std::alloc::{AllocError, Global};
 use std::sync::Wait;
 use std::thread::Threads;
@@ -26,48 +24,13 @@ pub(crate) fn run_number<R: Threads + Wait + Sync>(
     input: &[u8],
     config: &Config,
     number: u32,
-) -> Result<Seen, OpenFault>
+) -> Result<Seen, AllocError>
     requires { is_valid config.now ≡ true }
     ensures seen { IfOk result (IsSeen image.now input.now config.now) }
     ensures number { IfOk result (λ seen. seen.number ≡ number) }
-    ensures fault { IfErr result (λ fault. fault ≡ OpenFault.OutOfMemory) }
 {
-    let start = Start::open(
-        alloc,
-        image,
-        input,
-        config.bound,
-        config.quantum,
-        Some(whole(number)),
-    )?;
-    let run = run_opened(rt, alloc, start, 1, &OpenGate, &mut Unheard, NoRecord);
-    match run.result {
-        Ok(end) => Ok(seen_of(alloc, number, &end)?),
-        Err(interruption) => Err(fault_of(interruption)),
-    }
-}
-
-/// The fault of an exploration in which a run that writes nothing was stopped so.
-fn fault_of(interruption: Interruption) -> OpenFault
-    requires { interruption ≡ Interruption.OutOfMemory }
-    ensures { result ≡ OpenFault.OutOfMemory }
-{
-    match interruption {
-        Interruption::OutOfMemory => OpenFault::OutOfMemory,
-        Interruption::WriteFailed | Interruption::RecordFailed => unreachable!(),
-    }
-}
-
-/// All phases, shuffled by a number.
-fn whole(number: u32) -> Shuffle
-    ensures { result ≡ spec.whole number }
-{
-    Shuffle {
-        number,
-        first: 1,
-        last: u64::MAX,
-        choices: 0,
-    }
+    let end = run_shuffled(rt, alloc, image, input, config, whole(number))?;
+    seen_of(alloc, number, &end)
 }
 
 /// What is seen of the run of a number that ended so.

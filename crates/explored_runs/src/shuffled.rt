@@ -1,12 +1,13 @@
 //! The run of one schedule.
-ghost use Rattle.std.specs.Prelude.{◌≡◌, true, IfErr, IfOk};
+ghost use Rattle.std.specs.Prelude.{◌≡◌, true, IfOk};
 ghost use Rattle.runtime.specs.Config.{is_valid};
+ghost use Rattle.explored_runs.specs.Runs as spec;
 ghost use Rattle.explored_runs.specs.Runs.{HasEnd, setup_by};
 
 use elf32_reader::Image;
-use runtime::{AllTaken, Config, Interruption, NoRecord, OpenFault, OpenGate, RunEnd, Start, run_opened};
+use runtime::{AllTaken, Config, Interruption, NoRecord, OpenGate, RunEnd, Start, run_opened};
 use shuffled_phases::Shuffle;
-use std::alloc::Global;
+use std::alloc::{AllocError, Global};
 use std::sync::Wait;
 use std::thread::Threads;
 
@@ -18,10 +19,9 @@ pub fn run_shuffled<R: Threads + Wait + Sync>(
     input: &[u8],
     config: &Config,
     shuffle: Shuffle,
-) -> Result<RunEnd, OpenFault>
+) -> Result<RunEnd, AllocError>
     requires { is_valid config.now ≡ true }
-    ensures end { IfOk result (HasEnd (setup_by image.now input.now config.now shuffle)) }
-    ensures fault { IfErr result (λ fault. fault ≡ OpenFault.OutOfMemory) }
+    ensures { IfOk result (HasEnd (setup_by image.now input.now config.now shuffle)) }
 {
     let start = Start::open(
         alloc,
@@ -38,13 +38,24 @@ pub fn run_shuffled<R: Threads + Wait + Sync>(
     }
 }
 
-/// The fault of an exploration in which a run that writes nothing was stopped so.
-fn fault_of(interruption: Interruption) -> OpenFault
+/// The fault of a run that writes nothing and was stopped so.
+fn fault_of(interruption: Interruption) -> AllocError
     requires { interruption ≡ Interruption.OutOfMemory }
-    ensures { result ≡ OpenFault.OutOfMemory }
 {
     match interruption {
-        Interruption::OutOfMemory => OpenFault::OutOfMemory,
+        Interruption::OutOfMemory => AllocError,
         Interruption::WriteFailed | Interruption::RecordFailed => unreachable!(),
+    }
+}
+
+/// All phases, shuffled by a number. The program's choices have no limit.
+pub fn whole(number: u32) -> Shuffle
+    ensures { result ≡ spec.whole number }
+{
+    Shuffle {
+        number,
+        first: 1,
+        last: u64::MAX,
+        choices: 0,
     }
 }

@@ -1,7 +1,7 @@
 use Rattle.runtime.specs.declared.run_end.RunEnd.{RunEnd}
 use Rattle.runtime.proofs.Valid.{in_range}
 use Rattle.explored_runs.proofs.Ends.{only_memory}
-use Rattle.explored_runs.proofs.numbered.run_number.Goals as goal
+use Rattle.explored_runs.proofs.shuffled.run_shuffled.Goals as goal
 
 pub open-requires : goal.open-requires
 open-requires g c =

@@ -1,0 +1,6 @@
+pub mod Differences
+pub mod Measures
+pub mod Outcomes
+pub mod Searches
+pub mod Small
+pub mod Walks
