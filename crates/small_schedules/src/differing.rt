@@ -7,7 +7,7 @@ ghost use Rattle.small_schedules.specs.Walks.{IsShared};
 ghost use Rattle.token.specs.RunInTurn.{point_of};
 
 use crate::phase_difference::PhaseDifference;
-use crate::walking::{first_shared, go_to};
+use crate::walking::{first_shared, go_to, stands};
 use elf32_reader::Image;
 use runtime::{Config, NoRecord, Start};
 use shuffled_phases::{Shuffle, fill_list};
@@ -36,7 +36,9 @@ fn open(
         config.quantum,
         Some(shuffle),
     )?;
-    Ok(start.recorded_by(NoRecord))
+    let serial = start.recorded_by(NoRecord);
+    stands(&serial);
+    Ok(serial)
 }
 
 /// The number of the first phase of the run of a schedule in which more than one thread has a turn, or of the one in which the run ends if
@@ -68,7 +70,6 @@ pub(crate) fn difference_of<R: Wait>(
     requires { is_valid config.now ≡ true }
     ensures { IfOk result (IsDifference (setup_by image.now input.now config.now shuffle) shuffle.last) }
 {
-    one_history();
     if shuffle.last == 0 {
         return Ok(None);
     }
@@ -86,6 +87,7 @@ fn difference_at(serial: &Serial<NoRecord>, shuffle: Shuffle) -> PhaseDifference
     ensures { DiffersAt (point_of serial.now).setup (point_of serial.now).phase result }
 {
     one_history();
+    stands(serial);
     let phase = serial.phase();
     let mut drawn = ThreadNumbers::new();
     fill_list(Some(shuffle), phase, serial.base_threads(), &mut drawn);

@@ -110,5 +110,10 @@ pub(crate) fn shrink_last<T: Trial>(
             return Ok(small);
         }
     }
-    shrink_above(trial, Measure::Last, shuffle, from.saturating_add(TRIED - 1))
+    shrink_above(
+        trial,
+        Measure::Last,
+        shuffle,
+        from.saturating_add(TRIED - 1),
+    )
 }

@@ -1,11 +1,13 @@
 //! Walks along a run to one of its phases.
-ghost use Rattle.std.specs.Prelude.{◌≡◌, ◌+◌, ◌<◌, ◌≤◌, Some, IfOk, IsSome, OnOk};
-ghost use Rattle.small_schedules.specs.Walks.{Goes, IsShared};
+ghost use Rattle.std.specs.Prelude.{◌≡◌, ◌<◌, ◌≤◌, true, false, IfOk, OnOk};
+ghost use Rattle.runtime.specs.Answer.{HasAnswer};
+ghost use Rattle.small_schedules.specs.Walks.{Goes, IsShared, Stands};
+ghost use Rattle.token.specs.History.{phase_of};
 ghost use Rattle.token.specs.RunInTurn.{point_of};
 
 use std::alloc::AllocError;
 use std::sync::Wait;
-use token::{Next, NoRecord, Serial, TurnFault, next_turn};
+use token::{Next, NoRecord, Serial, TurnFault, next_turn, one_history};
 
 /// The number of the first phase in which more than one thread has a turn, or of the one in which the run ended if there is none.
 pub(crate) fn first_shared<R: Wait>(
@@ -15,6 +17,7 @@ pub(crate) fn first_shared<R: Wait>(
     ensures { IfOk result (IsShared (point_of serial.old).setup) }
 {
     for _ in rt.forever() {
+        stands(serial);
         if serial.base_threads().serial_list().len() > 1 || !go_on(serial)? {
             return Ok(serial.phase());
         }
@@ -31,12 +34,15 @@ pub(crate) fn go_to<R: Wait>(
     requires { (point_of serial.old).phase ≤ phase }
     ensures setup { OnOk result ((point_of serial.new).setup ≡ (point_of serial.old).setup) }
     ensures came { IfOk result (λ came. came ≡ true → (point_of serial.new).phase ≡ phase) }
-    ensures ended { IfOk result (λ came. came ≡ false → (point_of serial.new).phase < phase × IsSome (point_of serial.new).ended) }
+    ensures ended { IfOk result (λ came. came ≡ false
+        → HasAnswer (point_of serial.old).setup (λ history. phase_of history < phase)) }
 {
+    one_history();
     for _ in rt.forever() {
         if serial.phase() == phase {
             return Ok(true);
         }
+        stands(serial);
         if !go_on(serial)? {
             return Ok(false);
         }
@@ -46,7 +52,7 @@ pub(crate) fn go_to<R: Wait>(
 
 /// Does the next turn of a run, and answers whether there was one.
 fn go_on(serial: &mut Serial<NoRecord>) -> Result<bool, AllocError>
-    ensures setup { OnOk result ((point_of serial.new).setup ≡ (point_of serial.old).setup) }
+    ensures setup { (point_of serial.new).setup ≡ (point_of serial.old).setup }
     ensures goes { IfOk result (λ went. Goes went (point_of serial.old) (point_of serial.new)) }
 {
     match next_turn(serial)? {
@@ -56,4 +62,11 @@ fn go_on(serial: &mut Serial<NoRecord>) -> Result<bool, AllocError>
         },
         Next::Ended(_) => Ok(false),
     }
+}
+
+/// A run stands after a legal history.
+pub(crate) fn stands(serial: &Serial<NoRecord>)
+    ensures { Stands serial.now }
+{
+    let _need = serial.need();
 }
