@@ -24,7 +24,7 @@ loop-done-preserved g c = record {
   within = omega arith;
   rows = subst
       (λ (image : LoadImage). AreRowsOf (IsRun image c.args.input.now c.args.config.now) c.args.from (c.loop-done.done + c.min.result) c.count_all.new.rows.items)
-      c.in_ok-image.ensures.1 c.in_ok-count_all.ensures.rows;
+      c.in_ok-image.ensures.1 c.in_ok-count_all.ensures;
 }
 
 pub returns : goal.returns
