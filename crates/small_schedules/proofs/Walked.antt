@@ -1,27 +1,19 @@
 -- Where a walk along a run leads.
-use Rattle.std.proofs.Common.{◌≡◌, ◌∙◌, ◌+◌, ◌<◌, ◌≤◌, ◌||◌, ◌==◌, ◌⊎◌, inl, inr, ℕ, suc, Bool, true, false, if◌then◌else◌, nat_lt, Option, Some, None, is_some, IsSome, List, [], ◌∷◌, length, refl, sym, ap, subst, arith}
+use Rattle.std.proofs.Common.{◌≡◌, ◌∙◌, ◌+◌, ◌<◌, ◌≤◌, ◌||◌, ◌==◌, inl, inr, ℕ, Bool, true, false, if◌then◌else◌, nat_lt, Option, Some, None, is_some, IsSome, List, [], ◌∷◌, length, refl, ap, arith}
 use Rattle.std.proofs.lemmas.Bool.{eqb-false, ne_eqb}
-use Rattle.call_table.specs.State.{State}
 use Rattle.runtime.proofs.OneReport.{one_answer}
 use Rattle.runtime.specs.Answer.{HasAnswer}
 use Rattle.shuffled_phases.proofs.Lists.{length-part}
-use Rattle.shuffled_phases.specs.Phases as phases
-use Rattle.shuffled_phases.specs.declared.shuffle.Shuffle.{Shuffle}
 use Rattle.thread_table.specs.Threads.{numbers_where, serial_list}
-use Rattle.thread_table.specs.declared.thread.Thread.{Thread}
 use Rattle.token.proofs.SerialList.{listed_part}
-use Rattle.token.specs.History.{History, IsNextPhase, first_version, heads, keeps, list_of, outcome, phase_of, version}
-use Rattle.token.specs.Law.{Determinism, OneBeginning, Progress}
+use Rattle.token.specs.History.{History, IsNextPhase, first_version, heads, list_of, outcome, phase_of, version}
+use Rattle.token.specs.Law.{Determinism, Progress}
 use Rattle.token.specs.Legal.{IsLegal}
-use Rattle.token.specs.Outcome.{quiet_outcome}
 use Rattle.token.specs.Point.{Point, after_step, counted, moved, next_phase, passed_on}
 use Rattle.token.specs.Serial.{StandsAfter}
 use Rattle.token.specs.Setup.{Setup, first_state, list_in}
 use Rattle.token.specs.Turns.{Step}
 use Rattle.token.specs.declared.outcome.RunOutcome.{RunOutcome}
-use Rattle.small_schedules.specs.Differences.{AreListsOf, DiffersAt, threads_at}
-use Rattle.small_schedules.specs.Walks.{IsShared}
-use Rattle.small_schedules.specs.declared.phase_difference.PhaseDifference.{PhaseDifference}
 
 -- ---- a turn leads to the same phase or to the next
 
@@ -70,45 +62,6 @@ at_start point (step ∷ before) none next = absurd (omega arith)
 pub begins_at : (point : Point) (history : History) → StandsAfter point history → point.done ≡ 0 → point.phase ≡ 1
 begins_at point history stands done = at_start point history (stands.done ∙ done) stands.phase
 
--- ---- the threads with which a phase begins
-
-threads_of : (point : Point) (history : History) → StandsAfter point history → threads_at point.setup history point.phase ≡ point.base_threads
-threads_of point history stands =
-    ap (λ (first : ℕ). (version point.setup history first).threads) stands.first ∙ stands.base_threads
-
-pub differs_at : (point : Point) (history : History) (shuffle : Shuffle) (difference : PhaseDifference) → OneBeginning → StandsAfter point history
-    → point.setup.shuffle ≡ Some shuffle → difference.phase ≡ point.phase → difference.drawn.items ≡ phases.list_of (Some shuffle) point.phase point.base_threads
-    → difference.plain.items ≡ phases.list_of None point.phase point.base_threads → DiffersAt point.setup point.phase difference
-differs_at point history shuffle difference one stands given at drawn plain = record {
-  phase = at;
-  some = (history, stands.legal, stands.phase);
-  every = λ other legal next.
-      let begun : threads_at point.setup other point.phase ≡ point.base_threads =
-      ap (λ (state : State). state.threads) (one.begins point.setup other history point.phase legal stands.legal next stands.phase) ∙ threads_of point history stands in
-      subst (λ (threads : List Thread). AreListsOf point.setup difference threads) (sym begun) (record {
-        drawn = drawn ∙ ap (λ (s : Option Shuffle). phases.list_of s point.phase point.base_threads) (sym given)
-            ∙ ap (λ (n : ℕ). phases.list_of point.setup.shuffle n point.base_threads) (sym at);
-        plain = plain ∙ ap (λ (n : ℕ). phases.list_of None n point.base_threads) (sym at);
-      });
-}
-
-pub shared_at : (point : Point) (history : History) (phase : ℕ) → StandsAfter point history → point.phase ≡ phase
-    → (1 < length (serial_list point.base_threads)) ⊎ IsSome point.ended → IsShared point.setup phase
-shared_at point history phase stands at shared = record {
-  history = history;
-  legal = stands.legal;
-  next = subst (IsNextPhase point.setup history) at stands.phase;
-  shared = told shared;
-}
-  where
-    told : (1 < length (serial_list point.base_threads)) ⊎ IsSome point.ended
-        → (1 < length (serial_list (threads_at point.setup history phase))) ⊎ IsSome (outcome point.setup history)
-    told (inl several) =
-        let same : threads_at point.setup history phase ≡ point.base_threads =
-        ap (λ (n : ℕ). threads_at point.setup history n) (sym at) ∙ threads_of point history stands in
-        inl (subst (λ (threads : List Thread). 1 < length (serial_list threads)) (sym same) several)
-    told (inr ended) = inr (subst (λ (found : Option RunOutcome). IsSome found) (sym stands.ended) ended)
-
 -- ---- a run that ends before a phase
 
 phase_before : (setup : Setup) (history : History) (phase : ℕ) → IsNextPhase setup history phase → phase_of history ≤ phase
@@ -118,7 +71,7 @@ phase_before setup history phase (inr next) = let is = next.0 in omega arith
 ends_before : (setup : Setup) (history : History) (last : ℕ) (found : Option RunOutcome) → Determinism → Progress → IsLegal setup history
     → outcome setup history ≡ found → IsSome found → phase_of history < last → HasAnswer setup (λ other. phase_of other < last)
 ends_before setup history last (Some ends) one goes legal is some before = one_answer setup history ends (λ other. phase_of other < last) one goes legal is before
-ends_before setup history last None one goes legal is some before = absurd some
+ends_before setup history last None one goes legal is some before = absurd (let no : false ≡ true = some in cc no)
 
 pub ended_before : (point : Point) (history : History) (last : ℕ) → Determinism → Progress → StandsAfter point history → IsSome point.ended → point.phase < last
     → HasAnswer point.setup (λ other. phase_of other < last)

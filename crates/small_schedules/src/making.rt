@@ -32,14 +32,13 @@ pub fn make_small<R: Threads + Wait + Sync>(
     }
     let from = first_shared_phase(rt, alloc, &image, input, config, all)?;
     let trial = RunTrial {
-        rt,
         alloc,
         image: &image,
         input,
         config,
         outcome: end.outcome,
     };
-    let shuffle = small_of(&trial, all, from)?;
+    let shuffle = small_of(rt, &trial, all, from)?;
     let difference = difference_of(rt, alloc, &image, input, config, shuffle)?;
     Ok(Some(Small {
         shuffle,

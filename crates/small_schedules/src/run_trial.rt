@@ -1,5 +1,5 @@
 //! Tries schedules by running a program.
-ghost use Rattle.std.specs.Prelude.{◌≡◌, true};
+ghost use Rattle.std.specs.Prelude.{◌≡◌, ◌≢◌, true, false};
 ghost use Rattle.explored_runs.specs.Runs.{setup_by};
 ghost use Rattle.runtime.specs.Config.{is_valid};
 ghost use Rattle.small_schedules.specs.Outcomes.{EndsOrNot};
@@ -15,8 +15,7 @@ use std::thread::Threads;
 
 /// Tries schedules by running a program on an input, on the calling host thread.
 #[derive(Drop)]
-pub(crate) struct RunTrial<'a, R> {
-    pub(crate) rt: &'a R,
+pub(crate) struct RunTrial<'a> {
     pub(crate) alloc: Global,
     pub(crate) image: &'a Image,
     pub(crate) input: &'a [u8],
@@ -26,19 +25,23 @@ pub(crate) struct RunTrial<'a, R> {
     ghost valid: { is_valid config.now ≡ true },
 }
 
-impl<R: Threads + Wait + Sync> Trial for RunTrial<'_, R> {
+/// Whether two runs ended alike.
+fn is_same(one: RunOutcome, other: RunOutcome) -> bool
+    ensures same { result ≡ true → one ≡ other }
+    ensures other { result ≡ false → one ≢ other }
+{
+    one == other
+}
+
+impl Trial for RunTrial<'_> {
     ghost tells = { λ trial shuffle. EndsOrNot (setup_by trial.image.now trial.input.now trial.config.now shuffle) trial.outcome };
 
-    #[tactic(auto, using(crate::proofs::Ended::ends_or_not))]
-    fn fails(&self, shuffle: Shuffle) -> Result<bool, AllocError> {
-        let end = run_shuffled(
-            self.rt,
-            self.alloc,
-            self.image,
-            self.input,
-            self.config,
-            shuffle,
-        )?;
-        Ok(end.outcome == self.outcome)
+    fn fails<R: Threads + Wait + Sync>(
+        &self,
+        rt: &R,
+        shuffle: Shuffle,
+    ) -> Result<bool, AllocError> {
+        let end = run_shuffled(rt, self.alloc, self.image, self.input, self.config, shuffle)?;
+        Ok(is_same(end.outcome, self.outcome))
     }
 }

@@ -7,13 +7,16 @@ use crate::measure::{Measure, until};
 use crate::trial::Trial;
 use shuffled_phases::Shuffle;
 use std::alloc::AllocError;
+use std::sync::Wait;
+use std::thread::Threads;
 
 /// How many last phases are tried one after another.
 const TRIED: u64 = 64;
 
 /// An amount by which the run fails, between one that is known to be too small and one by which it is known to fail. Half of what is
 /// between them is left out at each step.
-pub(crate) fn halve<T: Trial>(
+pub(crate) fn halve<R: Threads + Wait + Sync, T: Trial>(
+    rt: &R,
     trial: &T,
     measure: Measure,
     shuffle: Shuffle,
@@ -28,7 +31,7 @@ pub(crate) fn halve<T: Trial>(
     let mut high = most;
     while high - low > 1 {
         let middle = low + (high - low) / 2;
-        if trial.fails(measure.set(shuffle, middle))? {
+        if trial.fails(rt, measure.set(shuffle, middle))? {
             high = middle;
         } else {
             low = middle;
@@ -38,7 +41,8 @@ pub(crate) fn halve<T: Trial>(
 }
 
 /// The first amount above one by which the run fails, of those that are 1, 2, 4 and so on above it, or else none.
-fn double<T: Trial>(
+fn double<R: Threads + Wait + Sync, T: Trial>(
+    rt: &R,
     trial: &T,
     measure: Measure,
     shuffle: Shuffle,
@@ -49,7 +53,7 @@ fn double<T: Trial>(
 {
     for step in 0..64u32 {
         let amount = least.saturating_add(1 << step);
-        if amount > least && trial.fails(measure.set(shuffle, amount))? {
+        if amount > least && trial.fails(rt, measure.set(shuffle, amount))? {
             return Ok(Some(amount));
         }
     }
@@ -57,7 +61,8 @@ fn double<T: Trial>(
 }
 
 /// The schedule with an amount above the least one by which the run still fails, or as it is if none was found.
-pub(crate) fn shrink_above<T: Trial>(
+pub(crate) fn shrink_above<R: Threads + Wait + Sync, T: Trial>(
+    rt: &R,
     trial: &T,
     measure: Measure,
     shuffle: Shuffle,
@@ -67,9 +72,9 @@ pub(crate) fn shrink_above<T: Trial>(
     ensures fails { IfOk result (λ small. T.tells trial.now small true) }
     ensures number { IfOk result (λ small. small.number ≡ shuffle.number) }
 {
-    match double(trial, measure, shuffle, least)? {
+    match double(rt, trial, measure, shuffle, least)? {
         Some(most) => {
-            let amount = halve(trial, measure, shuffle, least, most)?;
+            let amount = halve(rt, trial, measure, shuffle, least, most)?;
             Ok(measure.set(shuffle, amount))
         }
         None => Ok(shuffle),
@@ -77,7 +82,8 @@ pub(crate) fn shrink_above<T: Trial>(
 }
 
 /// The schedule with the least amount, or else with one above it, by which the run still fails, or as it is if none was found.
-pub(crate) fn shrink<T: Trial>(
+pub(crate) fn shrink<R: Threads + Wait + Sync, T: Trial>(
+    rt: &R,
     trial: &T,
     measure: Measure,
     shuffle: Shuffle,
@@ -88,14 +94,15 @@ pub(crate) fn shrink<T: Trial>(
     ensures number { IfOk result (λ small. small.number ≡ shuffle.number) }
 {
     let small = measure.set(shuffle, least);
-    if trial.fails(small)? {
+    if trial.fails(rt, small)? {
         return Ok(small);
     }
-    shrink_above(trial, measure, shuffle, least)
+    shrink_above(rt, trial, measure, shuffle, least)
 }
 
 /// The schedule with a smaller last phase by which the run still fails: with the first one of 64 from a phase on, or else with a later one.
-pub(crate) fn shrink_last<T: Trial>(
+pub(crate) fn shrink_last<R: Threads + Wait + Sync, T: Trial>(
+    rt: &R,
     trial: &T,
     shuffle: Shuffle,
     from: u64,
@@ -106,11 +113,12 @@ pub(crate) fn shrink_last<T: Trial>(
 {
     for step in 0..TRIED {
         let small = until(shuffle, from.saturating_add(step));
-        if trial.fails(small)? {
+        if trial.fails(rt, small)? {
             return Ok(small);
         }
     }
     shrink_above(
+        rt,
         trial,
         Measure::Last,
         shuffle,
