@@ -17,7 +17,7 @@ use Rattle.clap.specs.Walk.{Row, Rule, Text, answers_to, finished, nothing_held,
 use Rattle.clap.specs.declared.builder.value_parser.ValueParser.TheVariants.{Signed}
 use Rattle.command_requests.proofs.Held.{IsPlain, IsRowOf, is_there, no_check_fails}
 use Rattle.command_requests.proofs.Kept.{first_none, holds_of_found, then_none}
-use Rattle.command_requests.specs.Asked.{IsNumber}
+use Rattle.command_requests.specs.Asked.{IsNumber, IsScheduleNumber}
 use Rattle.command_requests.specs.Commands as spec
 use Rattle.command_requests.specs.Needed.{IsComplete, IsFound}
 
@@ -27,11 +27,11 @@ text_of : (a : Rule) (row : Option Row) → IsSomeAnd row (IsRowOf a) → is_som
 text_of a None is = absurd is
 text_of a (Some r) is = rw is.values_are refl
 
-number_of : (bits : ℕ) (a : Rule) (row : Option Row)
-    → ((text : Text) → accepts a.ignore_case (parser_of_value a.parser) text ≡ true → IsNumber bits (read_as (reading_by a) text))
-    → IsSomeAnd row (IsRowOf a) → IsSomeAnd (option_and_then row_text row) (IsNumber bits)
-number_of bits a None reads is = absurd is
-number_of bits a (Some r) reads is = rw (is.values_are, is.reading_is) (reads is.first is.passed)
+number_of : (Is : Text → Type 0) (a : Rule) (row : Option Row)
+    → ((text : Text) → accepts a.ignore_case (parser_of_value a.parser) text ≡ true → Is (read_as (reading_by a) text))
+    → IsSomeAnd row (IsRowOf a) → IsSomeAnd (option_and_then row_text row) Is
+number_of Is a None reads is = absurd is
+number_of Is a (Some r) reads is = rw (is.values_are, is.reading_is) (reads is.first is.passed)
 
 no_minus : (text : List ℕ) → starts_with_minus text ≡ false → without_minus text ≡ text
 no_minus [] e = refl
@@ -41,22 +41,29 @@ no_minus (x ∷ xs) e = go (x == 45) e
     go true e = cc
     go false e = refl
 
--- a number of workers, 64 at most, is a number of 32 bits
-few : (text : Text) → IsSignedIn (pos 1) (pos 64) text → IsNumber 32 (without_minus text)
-few text is = go (starts_with_minus text) refl
+-- a number of 32 bits that isn't 0
+few : (most : ℕ) (text : Text) → most < 2 ^ 32 → IsSignedIn (pos 1) (pos most) text → IsScheduleNumber (without_minus text)
+few most text within is = go (starts_with_minus text) refl
   where
-    go : (t : Bool) → starts_with_minus text ≡ t → IsNumber 32 (without_minus text)
+    go : (t : Bool) → starts_with_minus text ≡ t → IsScheduleNumber (without_minus text)
     go true minus =
         let low = rw minus at is.2 in
         absurd (omega (arith, ints))
     go false minus =
+        let low = rw minus at is.2 in
         let high = rw minus at is.3 in
         let numeral : IsNumeral 10 (without_leading_plus text) = rw minus at is.0 in
         let small : digits_value 10 (without_leading_plus text) < 2 ^ 32 = omega (arith, ints) in
-        rw (no_minus text minus) (numeral, small)
+        let some : 0 < digits_value 10 (without_leading_plus text) = omega (arith, ints) in
+        rw (no_minus text minus) ((numeral, small), some)
 
+-- a number of workers, 64 at most
 few_passed : (text : Text) → accepts false (Signed (pos 1) (pos 64)) text ≡ true → IsNumber 32 (without_minus text)
-few_passed text e = few text (accepts-Accepts false (Signed (pos 1) (pos 64)) text e)
+few_passed text e = (few 64 text (omega arith) (accepts-Accepts false (Signed (pos 1) (pos 64)) text e)).0
+
+-- a schedule's number, or how many there are
+schedule_passed : (text : Text) → accepts false (Signed (pos 1) (pos 4294967295)) text ≡ true → IsScheduleNumber (without_minus text)
+schedule_passed text e = few 4294967295 text (omega arith) (accepts-Accepts false (Signed (pos 1) (pos 4294967295)) text e)
 
 count_passed : (text : Text) → accepts false spec.count text ≡ true → IsNumber 64 text
 count_passed text e = let is = accepts-Accepts false spec.count text e in (is.0, is.1)
@@ -85,11 +92,20 @@ turn = filled spec.turn
 abbrev four_workers : Rule
 four_workers = filled (record spec.workers { defaults = codes "4" ∷ [] })
 
+abbrev runs : Rule
+runs = filled spec.runs
+
+abbrev from : Rule
+from = filled spec.from
+
 abbrev given_workers : Rule
 given_workers = filled (record spec.workers { required = true })
 
 run_is_plain : IsPlain (leaf spec.run)
 run_is_plain = record { single = search (inl, inr); again = refl; negates = refl }
+
+explore_is_plain : IsPlain (leaf spec.explore)
+explore_is_plain = record { single = search (inl, inr); again = refl; negates = refl }
 
 debug_is_plain : IsPlain (leaf spec.debug)
 debug_is_plain = record { single = search (inl, inr); again = refl; negates = refl }
@@ -107,10 +123,24 @@ run_completes words e =
       refl,
       (
         text_of file _ (there file refl (inl refl)),
-        number_of 32 four_workers _ few_passed (there four_workers refl (inr refl)),
-        number_of 64 bound _ count_passed (there bound refl (inr refl)),
+        number_of (IsNumber 32) four_workers _ few_passed (there four_workers refl (inr refl)),
+        number_of (IsNumber 64) bound _ count_passed (there bound refl (inr refl)),
       ),
     )
+
+explore_completes : Completes (leaf spec.explore)
+explore_completes words e =
+    let there = is_there (leaf spec.explore) explore_is_plain words e in
+    inr (inr (inr (inr (
+      refl,
+      (
+        text_of file _ (there file refl (inl refl)),
+        number_of IsScheduleNumber runs _ schedule_passed (there runs refl (inr refl)),
+        number_of IsScheduleNumber from _ schedule_passed (there from refl (inr refl)),
+        number_of (IsNumber 32) four_workers _ few_passed (there four_workers refl (inr refl)),
+        number_of (IsNumber 64) bound _ count_passed (there bound refl (inr refl)),
+      ),
+    ))))
 
 debug_completes : Completes (leaf spec.debug)
 debug_completes words e =
@@ -119,8 +149,8 @@ debug_completes words e =
       refl,
       (
         text_of file _ (there file refl (inl refl)),
-        number_of 64 turn _ count_passed (there turn refl (inr refl)),
-        number_of 64 bound _ count_passed (there bound refl (inr refl)),
+        number_of (IsNumber 64) turn _ count_passed (there turn refl (inr refl)),
+        number_of (IsNumber 64) bound _ count_passed (there bound refl (inr refl)),
       ),
     ))
 
@@ -131,15 +161,15 @@ disasm_completes words e =
 replay_completes : Completes (leaf spec.replay)
 replay_completes words e =
     let there = is_there (leaf spec.replay) replay_is_plain words e in
-    inr (inr (inr (
+    inr (inr (inr (inl (
       refl,
       (
         text_of file _ (there file refl (inl refl)),
         text_of schedule _ (there schedule refl (inl refl)),
-        number_of 32 given_workers _ few_passed (there given_workers refl (inl refl)),
-        number_of 64 bound _ count_passed (there bound refl (inr refl)),
+        number_of (IsNumber 32) given_workers _ few_passed (there given_workers refl (inl refl)),
+        number_of (IsNumber 64) bound _ count_passed (there bound refl (inr refl)),
       ),
-    )))
+    ))))
 
 -- ---- the program
 
@@ -177,4 +207,4 @@ built_completes a words required all e =
 pub is_found : (words : List Text) → fault_of spec.program words ≡ [] → IsFound (subcommand_of spec.program words)
 is_found words e =
     built_completes (built spec.program) (argument_words spec.program words) refl
-    (run_completes, (debug_completes, (disasm_completes, (replay_completes, tt)))) e
+    (run_completes, (explore_completes, (debug_completes, (disasm_completes, (replay_completes, tt))))) e

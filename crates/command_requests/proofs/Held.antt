@@ -1,5 +1,5 @@
 -- What the rows are that the parser makes of a command's words, if no word is refused.
-use Rattle.std.proofs.Common.{◌≡◌, ◌∙◌, ◌⊎◌, Bool, true, false, not, List, [], ◌∷◌, ◌++◌, Option, Some, None, ap, arith, inl, inr, length, refl, subst, sym}
+use Rattle.std.proofs.Common.{◌≡◌, ◌∙◌, ◌⊎◌, Bool, true, false, not, List, [], ◌∷◌, ◌++◌, Option, Some, None, ap, arith, codes, inl, inr, length, refl, subst, sym}
 use Rattle.std.specs.Prelude.{◌&&◌, ◌||◌, IfSome, cond, find, fold, if◌then◌else◌}
 use Rattle.std.specs.List.{AllByRecursion, list_any}
 use Rattle.std.specs.Option.{IsSomeAnd, option_map_or}
@@ -9,14 +9,14 @@ use Rattle.std.proofs.lemmas.List.{append-nil}
 use Rattle.std.proofs.lemmas.List.Folds.{list_any-append}
 use Rattle.std.proofs.lemmas.Slice.Eq.{bytes_eq-Decides}
 use Rattle.clap.specs.Facts.{explicit_source, parser_of_value, unwrap_or_range}
-use Rattle.clap.specs.Faults.{action_fault, check_fault, defaults_fault, given_default_fault, level_fault, settle_fault, use_fault, values_fault, walk_fault}
+use Rattle.clap.specs.Faults.{action_fault, check_fault, defaults_fault, given_default_fault, level_fault, set_fault, settle_fault, use_fault, values_fault, walk_fault}
 use Rattle.clap.specs.Kinds.{Kinds, check_kinds, or_else, range_kinds, request_kinds, value_kinds, values_kinds}
 use Rattle.clap.specs.Simple.{Shape}
 use Rattle.clap.specs.Takes.{is_given}
 use Rattle.clap.specs.ValueTests.{accepts}
 use Rattle.clap.specs.Values.{refused_kind}
 use Rattle.clap.specs.Walk.{Held, Row, Rule, Text, action_of, arg_by_id, at_row, default_rows, has_row, is_empty, more_values, most_values, nothing_held, reading_by, rows_after, settled, used, walk, walk_from, with_default, with_values, without}
-use Rattle.clap.specs.declared.builder.action.ArgAction.TheVariants.{Help, Set}
+use Rattle.clap.specs.declared.builder.action.ArgAction.TheVariants.{Help, Set, SetTrue}
 use Rattle.clap.specs.declared.builder.value_parser.ValueParser.{ValueParser}
 use Rattle.clap.specs.declared.error.kind.ErrorKind.TheVariants as kind
 use Rattle.clap.specs.declared.parser.matches.ValueSource.{ValueSource}
@@ -39,9 +39,13 @@ IsOf c r = IsSomeAnd (arg_by_id c r.id) (λ a. IsRowOf a r)
 abbrev pub TakesOne : Rule → Type 0
 TakesOne a = (a.action ≡ Some Set) × (a.range ≡ Some (record { start_inclusive = 1; end_inclusive = 1 }))
 
--- the argument is the only one with its id, and takes one value or asks for help
+-- an option without a value
+abbrev pub IsFlag : Rule → Type 0
+IsFlag a = (a.action ≡ Some SetTrue) × (a.missing ≡ codes "true" ∷ [])
+
+-- the argument is the only one with its id, and takes one value or none, or asks for help
 abbrev pub IsSingle : List Rule → Rule → Type 0
-IsSingle c a = (arg_by_id c a.id ≡ Some a) × (TakesOne a ⊎ (a.action ≡ Some Help))
+IsSingle c a = (arg_by_id c a.id ≡ Some a) × (TakesOne a ⊎ (IsFlag a ⊎ (a.action ≡ Some Help)))
 
 -- ---- rows that change
 
@@ -91,6 +95,18 @@ module _ (c : List Rule) (a : Rule) (single : IsSingle c a) where
       let of : IsOf c row = rw single.0 is in
       rw (added_last a.id (more_values source (v ∷ vs)) (row ∷ []) rows none) (all_of_both (IsOf c) rows (row ∷ []) held (of, tt))
 
+  -- values that the words give, in place of those that were there
+  given_keeps : (v : Text) (vs : List Text) (rows : List Row) → set_fault false a (v ∷ vs) rows ≡ [] → AllByRecursion (IsOf c) rows
+      → AllByRecursion (IsOf c) (with_values a.id (reading_by a) CommandLine (v ∷ vs) (without a.id rows))
+  given_keeps v vs rows e held = go (has_row a.id rows) refl e
+    where
+      go : (t : Bool) → has_row a.id rows ≡ t → or_else (if t && not false then kind.ArgumentConflict ∷ [] else []) (values_fault a (v ∷ vs)) ≡ []
+          → AllByRecursion (IsOf c) (with_values a.id (reading_by a) CommandLine (v ∷ vs) (without a.id rows))
+      go true none e = cc
+      go false none e =
+          let same : without a.id rows ≡ rows = added_last a.id (λ _. []) [] rows none ∙ append-nil rows in
+          rw same (row_added CommandLine v vs rows e none held)
+
   set_keeps : (values : List Text) (rows : List Row) → TakesOne a → use_fault false a values rows ≡ [] → AllByRecursion (IsOf c) rows
       → AllByRecursion (IsOf c) (used a values rows)
   set_keeps [] rows takes e held =
@@ -99,14 +115,18 @@ module _ (c : List Rule) (a : Rule) (single : IsSingle c a) where
   set_keeps (v ∷ vs) rows takes e held =
       let ranging = range_kinds (unwrap_or_range a.range).start_inclusive (most_values a) (length (v ∷ vs)) in
       let using : action_fault (action_of a) false a (v ∷ vs) rows ≡ [] = then_none ranging (action_fault (action_of a) false a (v ∷ vs) rows) e in
-      go (has_row a.id rows) refl (rw takes.0 at using)
-    where
-      go : (t : Bool) → has_row a.id rows ≡ t → or_else (if t && not false then kind.ArgumentConflict ∷ [] else []) (values_fault a (v ∷ vs)) ≡ []
-          → AllByRecursion (IsOf c) (used a (v ∷ vs) rows)
-      go true none e = cc
-      go false none e =
-          let same : without a.id rows ≡ rows = added_last a.id (λ _. []) [] rows none ∙ append-nil rows in
-          rw (takes.0, same) (row_added CommandLine v vs rows e none held)
+      rw takes.0 (given_keeps v vs rows (rw takes.0 at using) held)
+
+  flag_keeps : (values : List Text) (rows : List Row) → IsFlag a → use_fault false a values rows ≡ [] → AllByRecursion (IsOf c) rows
+      → AllByRecursion (IsOf c) (used a values rows)
+  flag_keeps [] rows flag e held =
+      let ranging = range_kinds (unwrap_or_range a.range).start_inclusive (most_values a) 0 in
+      let using : action_fault (action_of a) false a a.missing rows ≡ [] = then_none ranging (action_fault (action_of a) false a a.missing rows) e in
+      rw (flag.0, flag.1) (given_keeps (codes "true") [] rows (rw (flag.0, flag.1) at using) held)
+  flag_keeps (v ∷ vs) rows flag e held =
+      let ranging = range_kinds (unwrap_or_range a.range).start_inclusive (most_values a) (length (v ∷ vs)) in
+      let using : action_fault (action_of a) false a (v ∷ vs) rows ≡ [] = then_none ranging (action_fault (action_of a) false a (v ∷ vs) rows) e in
+      rw flag.0 (given_keeps v vs rows (rw flag.0 at using) held)
 
   help_keeps : (values : List Text) (rows : List Row) → a.action ≡ Some Help → AllByRecursion (IsOf c) rows
       → AllByRecursion (IsOf c) (used a values rows)
@@ -115,7 +135,8 @@ module _ (c : List Rule) (a : Rule) (single : IsSingle c a) where
   pub keeps_rows : Keeps (IsOf c) false a
   keeps_rows values rows e held = elim single.1 [
     | inl takes ↦ set_keeps values rows takes e held
-    | inr help ↦ help_keeps values rows help held
+    | inr (inl flag) ↦ flag_keeps values rows flag e held
+    | inr (inr help) ↦ help_keeps values rows help held
   ]
 
   pub keeps_default : KeepsDefault (IsOf c) a
@@ -199,7 +220,7 @@ row_there c a (r ∷ rs) only held there = go (bytes_eq r.id a.id) refl there (r
 
 -- ---- a command
 
--- each argument takes one value or asks for help, and may be given once
+-- each argument takes one value or none, or asks for help, and may be given once
 pub record IsPlain (s : Shape) : Type 0 where
   pub single : AllByRecursion (IsSingle s.rules) s.rules
   pub again : s.args_override_self ≡ false

@@ -1,14 +1,24 @@
 -- What the values that the parser found are, by its rows.
-use Rattle.std.proofs.Common.{◌≡◌, ℕ, List, Option, Some, None, Result, Ok, Err, refl, sym, subst}
+use Rattle.std.proofs.Common.{◌≡◌, ◌∙◌, ℕ, Bool, true, false, List, Option, Some, None, Result, Ok, Err, ap, codes, refl, sym, subst}
 use Rattle.std.specs.Str.Parse.{ParsesUnsigned}
 use Rattle.clap.proofs.WalkLemmas.{first_value-rows, one_text-rows}
 use Rattle.clap.specs.Words.{ReadsOne, Text, first_of, first_value, one_of, one_text, rows_of}
 use Rattle.clap.specs.declared.parser.matches.Found.{Found}
-use Rattle.command_requests.specs.Asked.{IsRead}
+use Rattle.command_requests.specs.Asked.{IsFlag, IsRead}
 
 -- the first text
 pub is_first : (found : Found) (id : Text) → first_value found id ≡ first_of id (rows_of found)
 is_first = first_value-rows
+
+-- whether an option without a value is given
+pub is_flag : (found : Found) (id : Text) (given : Bool) → (one_text found id ≡ None → given ≡ false)
+    → (one_text found id ≡ Some (codes "true") → given ≡ true) → (one_text found id ≡ Some (codes "false") → given ≡ false)
+    → IsFlag (one_of id (rows_of found)) given
+is_flag found id given none when_true when_false = subst (λ (text : Option Text). IsFlag text given) (one_text-rows found id) (go (one_text found id) refl)
+  where
+    go : (text : Option Text) → one_text found id ≡ text → IsFlag text given
+    go None is = none is
+    go (Some text) is = (λ same. when_true (is ∙ ap (λ (t : Text). Some t) same), λ same. when_false (is ∙ ap (λ (t : Text). Some t) same))
 
 -- the number that the first text says
 pub is_read : {E : Type 0} (gives : List ℕ → Result ℕ E → Type 0) (bits : ℕ) (found : Found) (id : Text) (given : Option ℕ)

@@ -1,5 +1,5 @@
 -- What the words of a command line ask for, by the values that the parser finds for the arguments of a command.
-use Rattle.std.specs.Prelude.{◌≡◌, ◌^◌, ◌<◌, ℕ, List, [], ◌∷◌, ◌++◌, Option, Some, None, IsSome, codes, option_map}
+use Rattle.std.specs.Prelude.{◌≡◌, ◌^◌, ◌<◌, ℕ, Bool, true, false, List, [], ◌∷◌, ◌++◌, Option, Some, None, IsSome, codes, option_map}
 use Rattle.std.specs.Borrow.{Bor}
 use Rattle.std.specs.Str.Parse.{IsNumeral, digits_value, without_leading_plus}
 use Rattle.clap.specs.Faults.{fault_of}
@@ -7,9 +7,10 @@ use Rattle.clap.specs.Words.{Row, Text, first_of, one_of, subcommand_of}
 use Rattle.command_requests.specs.Commands.{program}
 use Rattle.command_requests.specs.Destination.{destination_of}
 use Rattle.command_requests.specs.declared.destination.Destination.{Destination}
+use Rattle.command_requests.specs.declared.number_range.NumberRange.{NumberRange}
 use Rattle.command_requests.specs.declared.numbers.Numbers.{Numbers}
 use Rattle.command_requests.specs.declared.request.Request.{Request}
-use Rattle.command_requests.specs.declared.request.Request.TheVariants.{Run, Debug, Disasm, Replay}
+use Rattle.command_requests.specs.declared.request.Request.TheVariants.{Run, Explore, Debug, Disasm, Replay}
 use Rattle.command_requests.specs.declared.text.Text.{Text as RunText}
 use Rattle.command_requests.specs.declared.wanted.Wanted.{Wanted}
 use Rattle.command_requests.specs.Shuffles.{shuffle_of}
@@ -19,6 +20,10 @@ use Rattle.shuffled_phases.specs.declared.shuffle.Shuffle.{Shuffle}
 -- the text is a number of so many bits in decimal digits
 abbrev pub IsNumber : ℕ → Text → Type 0
 IsNumber bits text = IsNumeral 10 (without_leading_plus text) × (digits_value 10 (without_leading_plus text) < 2 ^ bits)
+
+-- the text is a number of 32 bits that isn't 0
+abbrev pub IsScheduleNumber : Text → Type 0
+IsScheduleNumber text = IsNumber 32 text × (0 < digits_value 10 (without_leading_plus text))
 
 -- the number that a text says, where there is one that says one
 abbrev pub IsRead : ℕ → Option Text → Option ℕ → Type 0
@@ -69,11 +74,24 @@ pub record AreFiles (rows : List Row) (file : Bor (List ℕ)) (input : Option (B
   pub file_is : IsText rows (codes "FILE") (Some file)
   pub input_is : IsText rows (codes "input") input
 
+-- an option without a value is given, by what the parser says of it
+abbrev pub IsFlag : Option Text → Bool → Type 0
+IsFlag None given = given ≡ false
+IsFlag (Some text) given = (text ≡ codes "true" → given ≡ true) × (text ≡ codes "false" → given ≡ false)
+
+-- the numbers of schedules
+pub record AreRange (rows : List Row) (range : NumberRange) : Type 0 where
+  pub from_is : IsRead 32 (one_of (codes "from") rows) (Some range.from)
+  pub count_is : IsRead 32 (one_of (codes "runs") rows) (Some range.count)
+
 -- a command of this name that was given these values is this request
 abbrev pub Asks : Text → List Row → Request → Type 0
 Asks name rows (Run file input numbers wanted) =
     (name ≡ codes "run") × AreFiles rows file input × AreNumbers rows numbers × IsRead 32 (one_of (codes "workers") rows) (Some numbers.workers)
     × AreWanted rows texts wanted.items
+Asks name rows (Explore file input numbers range same) =
+    (name ≡ codes "explore") × AreFiles rows file input × AreNumbers rows numbers × IsRead 32 (one_of (codes "workers") rows) (Some numbers.workers)
+    × AreRange rows range × IsFlag (one_of (codes "same") rows) same
 Asks name rows (Debug file input numbers turn) =
     (name ≡ codes "debug") × AreFiles rows file input × AreNumbers rows numbers × (numbers.workers ≡ 1)
     × IsRead 64 (one_of (codes "turn") rows) (Some turn)

@@ -2,6 +2,7 @@
 use Rattle.std.specs.Prelude.{◌≡◌, ◌++◌, ◌^◌, List, [], ◌∷◌, Some, pos, true, false, codes}
 use Rattle.clap.specs.Simple.{new_shape}
 use Rattle.clap.specs.Words.{App, Rule, Shape, Text, app_of, new_rule, rule_of}
+use Rattle.clap.specs.declared.builder.action.ArgAction.TheVariants.{SetTrue}
 use Rattle.clap.specs.declared.builder.arg.Arg.{Arg}
 use Rattle.clap.specs.declared.builder.command.Command.{Command}
 use Rattle.clap.specs.declared.builder.command.Command.TheViews.{out-Command}
@@ -51,6 +52,23 @@ quantum = number (codes "quantum") count
 abbrev pub shuffle : Rule
 shuffle = option (codes "shuffle")
 
+-- an option whose value is a schedule's number, or how many there are
+abbrev pub schedule_number : Text → Rule
+schedule_number id = number id (Signed (pos 1) (pos 4294967295))
+
+-- an option without a value
+abbrev pub flag : Text → Rule
+flag id = record (new_rule id) { long = Some id; action = Some SetTrue }
+
+abbrev pub runs : Rule
+runs = record (schedule_number (codes "runs")) { defaults = codes "100" ∷ [] }
+
+abbrev pub from : Rule
+from = record (schedule_number (codes "from")) { defaults = codes "1" ∷ [] }
+
+abbrev pub same : Rule
+same = flag (codes "same")
+
 -- what is the same for a run, its debugging and its replay
 abbrev pub setup : List Rule
 setup = bound ∷ quantum ∷ shuffle ∷ []
@@ -68,6 +86,9 @@ with_rules shape (rule ∷ rest) = with_rules (record shape { rules = shape.rule
 abbrev pub run : Shape
 run = with_rules (new_shape (codes "run")) (file ∷ input ∷ (record workers { defaults = codes "4" ∷ [] }) ∷ setup ++ options_of texts)
 
+abbrev pub explore : Shape
+explore = with_rules (new_shape (codes "explore")) (file ∷ runs ∷ from ∷ input ∷ (record workers { defaults = codes "4" ∷ [] }) ∷ bound ∷ quantum ∷ same ∷ [])
+
 abbrev pub debug : Shape
 debug = with_rules (new_shape (codes "debug")) (file ∷ input ∷ turn ∷ setup)
 
@@ -81,7 +102,7 @@ replay = with_rules (new_shape (codes "replay")) (file ∷ schedule ∷ input �
 abbrev pub program : App
 program = record {
   top = record (new_shape (codes "dthreads")) { has_version = true; subcommand_required = true; disable_help_subcommand = true; is_leaf = false };
-  subs = run ∷ debug ∷ disasm ∷ replay ∷ [];
+  subs = run ∷ explore ∷ debug ∷ disasm ∷ replay ∷ [];
 }
 
 -- the argument is this, for its command alone

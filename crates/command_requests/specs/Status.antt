@@ -1,13 +1,14 @@
 -- The status after a failure.
 use Rattle.std.specs.Prelude.{ℕ, Bool, true, false, if◌then◌else◌}
 use Rattle.command_requests.specs.declared.failure.Failure.{Failure}
-use Rattle.command_requests.specs.declared.failure.Failure.TheVariants.{NotText, OneFile, InvalidShuffle, OutsideRange, ElfRefused, OutOfMemory}
+use Rattle.command_requests.specs.declared.failure.Failure.TheVariants.{NotText, OneFile, InvalidShuffle, BeyondLastNumber, OutsideRange, ElfRefused, OutOfMemory}
 
 -- whether a failure is one of the arguments
 abbrev pub is_of_arguments : Failure → Bool
 is_of_arguments NotText = true
 is_of_arguments (OneFile one twin) = true
 is_of_arguments (InvalidShuffle value) = true
+is_of_arguments (BeyondLastNumber from runs) = true
 is_of_arguments OutsideRange = true
 is_of_arguments other = false
 

@@ -1,12 +1,13 @@
 -- What arguments that make no request come to.
 use Rattle.std.specs.Io.KnownBytes.{Appends}
-use Rattle.std.specs.Prelude.{◌≡◌, ◌≢◌, ◌⊎◌, ℕ, Option, Some, None, List, [], codes}
+use Rattle.std.specs.Prelude.{◌≡◌, ◌≢◌, ◌⊎◌, ◌+◌, ◌^◌, ◌<◌, ℕ, Option, Some, None, List, [], codes}
 use Rattle.std.specs.Option.{IsSomeAnd}
 use Rattle.clap.specs.Faults.{fault_of}
 use Rattle.clap.specs.Kinds.{IsAmong}
-use Rattle.clap.specs.Words.{Row, Text, first_of, subcommand_of}
+use Rattle.clap.specs.Words.{Row, Text, first_of, one_of, subcommand_of}
 use Rattle.clap.specs.declared.error.kind.ErrorKind.{ErrorKind}
 use Rattle.clap.specs.declared.error.kind.ErrorKind.TheVariants.{DisplayHelp, DisplayVersion, OutOfMemory}
+use Rattle.command_requests.specs.Asked.{IsRead}
 use Rattle.command_requests.specs.Commands.{program}
 use Rattle.command_requests.specs.Shuffles.{shuffle_of}
 use Rattle.command_requests.specs.Status.{failure_status}
@@ -29,10 +30,13 @@ pub record IsStatusOf (kind : ErrorKind) (status : ℕ) : Type 0 where
 abbrev pub IsUnmatched : List Text → ℕ → Type 0
 IsUnmatched words status = (kind : ErrorKind) × ((kind ≡ OutOfMemory) ⊎ IsAmong kind (fault_of program words)) × IsStatusOf kind status
 
--- Why the values of a command's arguments make no request: memory ran out, or the text that is given for the shuffle says none.
+-- Why the values of a command's arguments make no request: memory ran out, the text that is given for the shuffle says none, or the runs need
+-- numbers above the last one.
 abbrev pub IsUnread : List Row → Failure → Type 0
 IsUnread rows failures.OutOfMemory = Unit {0}
 IsUnread rows (failures.InvalidShuffle text) = (first_of (codes "shuffle") rows ≡ Some text.now) × (shuffle_of text.now ≡ None)
+IsUnread rows (failures.BeyondLastNumber from runs) =
+    IsRead 32 (one_of (codes "from") rows) (Some from) × IsRead 32 (one_of (codes "runs") rows) (Some runs) × (2 ^ 32 < from + runs)
 IsUnread rows other = ⊥
 
 -- the parser refused no word, and the values of the command that it found make no request

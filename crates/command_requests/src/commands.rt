@@ -7,7 +7,7 @@ ghost use Rattle.command_requests.specs.Commands.{Takes, with_rules};
 ghost use Rattle.command_requests.specs.Parameter.{rules_for};
 
 use crate::parameter::{Parameter, arg};
-use crate::parameters::{DEBUG, DISASM, REPLAY, RUN};
+use crate::parameters::{DEBUG, DISASM, EXPLORE, REPLAY, RUN};
 use clap::Command;
 use std::alloc::{AllocError, Global};
 
@@ -23,6 +23,12 @@ pub(crate) fn program<'a>(alloc: Global) -> Result<Command<'a>, AllocError>
         "run",
         "Run a program, with standard input as its input",
         &RUN,
+    )?;
+    let explore = command(
+        alloc,
+        "explore",
+        "Run a program once by each of many schedules, and count how the runs end",
+        &EXPLORE,
     )?;
     let debug = command(
         alloc,
@@ -49,6 +55,7 @@ pub(crate) fn program<'a>(alloc: Global) -> Result<Command<'a>, AllocError>
         .subcommand_required(true)
         .disable_help_subcommand(true)
         .subcommand(run)?
+        .subcommand(explore)?
         .subcommand(debug)?
         .subcommand(disasm)?
         .subcommand(replay)

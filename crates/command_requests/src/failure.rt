@@ -19,6 +19,14 @@ pub enum Failure<'a> {
     /// This value of the option `--shuffle` says no schedule's number.
     #[error("error: invalid value '{0}' for '--shuffle <SHUFFLE>': expected N[:A-P][/C] with N and A from 1\n\nFor more information, try '--help'.")]
     InvalidShuffle(&'a str),
+    /// So many runs, from this schedule's number on, need numbers above the last one.
+    #[error("error: {runs} runs from number {from} on go beyond the last number, 4294967295\n\nFor more information, try '--help'.")]
+    BeyondLastNumber {
+        /// The number of the first run.
+        from: u32,
+        /// How many runs there are.
+        runs: u32,
+    },
     /// A number of the run is outside its range.
     #[error("error: a number is outside its range")]
     OutsideRange,
@@ -83,6 +91,7 @@ impl Failure<'_> {
             Failure::NotText
             | Failure::OneFile(..)
             | Failure::InvalidShuffle(_)
+            | Failure::BeyondLastNumber { .. }
             | Failure::OutsideRange => 2,
             Failure::ElfRefused(_) => 123,
             Failure::InputTooLarge | Failure::CannotRead(_) | Failure::CannotWrite(_) => 124,

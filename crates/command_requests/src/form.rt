@@ -16,4 +16,8 @@ pub(crate) enum Form {
     Count,
     /// As an option with a schedule's number, and the phases and choices that it is for.
     Shuffle,
+    /// As an option with a schedule's number alone, or with how many of them, 1 to 2^32 - 1.
+    Number,
+    /// As an option without a value.
+    Flag,
 }

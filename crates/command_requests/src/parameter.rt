@@ -9,7 +9,7 @@ use crate::form::Form;
 use crate::need::Need;
 use abi::limits::{MAX_BOUND, MAX_WORKERS};
 use clap::builder::ValueParser;
-use clap::{Arg, value_parser};
+use clap::{Arg, ArgAction, value_parser};
 use std::alloc::Global;
 
 /// A parameter of a command: a row of the table of them.
@@ -47,6 +47,11 @@ fn of_form<'a>(alloc: Global, form: Form, name: &'a str) -> Arg<'a>
         }
         Form::Count => option(alloc, name, "N").value_parser(count()),
         Form::Shuffle => option(alloc, name, "SHUFFLE"),
+        Form::Number => {
+            let range = value_parser!(u32).range(1..=i64::from(u32::MAX));
+            option(alloc, name, "N").value_parser(range)
+        }
+        Form::Flag => Arg::new(alloc, name).long(name).action(ArgAction::SetTrue),
     }
 }
 

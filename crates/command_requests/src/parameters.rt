@@ -18,7 +18,7 @@ pub(crate) const SCHEDULE: Parameter = Parameter {
     help: "The events, one in each line",
 };
 
-/// The input of a run and of a replay.
+/// The input of a run, of an exploration and of a replay.
 pub(crate) const INPUT: Parameter = Parameter {
     name: "input",
     form: Form::File,
@@ -34,7 +34,7 @@ const DEBUGGED_INPUT: Parameter = Parameter {
     help: "The program's input [default: empty]",
 };
 
-/// The workers of a run.
+/// The workers of a run and of an exploration.
 pub(crate) const WORKERS: Parameter = Parameter {
     name: "workers",
     form: Form::Workers,
@@ -76,6 +76,27 @@ pub(crate) const SHUFFLE: Parameter = Parameter {
     form: Form::Shuffle,
     need: Need::Optional,
     help: "The schedule's number, as 4, 4:39-41 or 4:39-41/7 [default: none]",
+};
+
+pub(crate) const RUNS: Parameter = Parameter {
+    name: "runs",
+    form: Form::Number,
+    need: Need::Default("100"),
+    help: "How many runs there are, each by a number of its own, 1 to 4294967295",
+};
+
+pub(crate) const FROM: Parameter = Parameter {
+    name: "from",
+    form: Form::Number,
+    need: Need::Default("1"),
+    help: "The number of the first run, 1 to 4294967295",
+};
+
+pub(crate) const SAME: Parameter = Parameter {
+    name: "same",
+    form: Form::Flag,
+    need: Need::Optional,
+    help: "Take a second outcome or output for a failure, too",
 };
 
 const TRACE: Parameter = Parameter {
@@ -123,6 +144,11 @@ const DIGEST: Parameter = Parameter {
 /// The parameters of the command run. The texts are in the order in which a run begins them and puts them where they are to be.
 pub(crate) static RUN: [Parameter; 12] = [
     FILE, INPUT, WORKERS, BOUND, QUANTUM, SHUFFLE, TRACE, TIMELINE, REPORT, RACES, CORE, DIGEST,
+];
+
+/// The parameters of the command explore.
+pub(crate) static EXPLORE: [Parameter; 8] = [
+    FILE, RUNS, FROM, INPUT, WORKERS, BOUND, QUANTUM, SAME,
 ];
 
 /// The parameters of the command debug.

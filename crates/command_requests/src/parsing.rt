@@ -1,12 +1,12 @@
 //! Reads the arguments of a command line into a request.
-ghost use Rattle.std.specs.Prelude.{◌≡◌, [], IfErr, IfOk, OnOk, Some, codes, map, option_map};
+ghost use Rattle.std.specs.Prelude.{◌≡◌, ◌<◌, [], IfErr, IfOk, OnOk, Some, codes, map, option_map};
 ghost use Rattle.std.specs.Option.{IsSomeAnd};
 ghost use Rattle.clap.specs.Faults.{fault_of};
 ghost use Rattle.clap.specs.Kinds.{HasKind};
 ghost use Rattle.clap.specs.Words.{first_of, found_of, one_of, rows_of, subcommand_of, subcommand_rows_of};
-ghost use Rattle.command_requests.specs.Asked.{AddsWanted, AreNumbers, AreWanted, Asks, AsksFor, IsNamed, IsRead, IsShuffled, IsText};
+ghost use Rattle.command_requests.specs.Asked.{AddsWanted, AreNumbers, AreWanted, Asks, AsksFor, IsFlag, IsNamed, IsRead, IsShuffled, IsText};
 ghost use Rattle.command_requests.specs.Commands as spec;
-ghost use Rattle.command_requests.specs.Needed.{HasDebug, HasNumber, HasReplay, HasRun, HasText, IsFound};
+ghost use Rattle.command_requests.specs.Needed.{HasDebug, HasExplore, HasNumber, HasReplay, HasRun, HasScheduleNumber, HasText, IsFound};
 ghost use Rattle.command_requests.specs.Parameter.{AreNamed, IsNamedFor, texts_in_form, texts_of};
 ghost use Rattle.command_requests.specs.Texts.{texts};
 ghost use Rattle.command_requests.specs.Unasked.{IsUnread};
@@ -15,9 +15,12 @@ use crate::commands::program;
 use crate::destination::Destination;
 use crate::failure::Failure;
 use crate::form::Form;
+use crate::number_range::NumberRange;
 use crate::numbers::Numbers;
 use crate::parameter::Parameter;
-use crate::parameters::{BOUND, FILE, INPUT, QUANTUM, RUN, SCHEDULE, SHUFFLE, TURN, WORKERS};
+use crate::parameters::{
+    BOUND, FILE, FROM, INPUT, QUANTUM, RUN, RUNS, SAME, SCHEDULE, SHUFFLE, TURN, WORKERS,
+};
 use crate::request::Request;
 use crate::shuffling::shuffle_of;
 use crate::wanted::Wanted;
@@ -51,6 +54,7 @@ pub(crate) fn requested<'a>(
 {
     match matches.subcommand().unwrap() {
         ("run", run) => run_request(alloc, run),
+        ("explore", explore) => explore_request(explore),
         ("debug", debug) => debug_request(debug),
         ("disasm", disasm) => Ok(Request::Disasm {
             file: given_text(disasm, FILE.name),
@@ -71,6 +75,26 @@ fn run_request<'a>(alloc: Global, matches: &ArgMatches<'a>) -> Result<Request<'a
         input: text(matches, INPUT.name),
         numbers: numbers_of(matches, workers_of(matches))?,
         wanted: wanted_of(alloc, matches)?,
+    })
+}
+
+/// The exploration that these ask for.
+fn explore_request<'a>(matches: &ArgMatches<'a>) -> Result<Request<'a>, Failure<'a>>
+    requires { HasExplore (rows_of (found_of matches.now)) }
+    ensures asked { IfOk result (Asks (codes "explore") (rows_of (found_of matches.now))) }
+    ensures failed { IfErr result (IsUnread (rows_of (found_of matches.now))) }
+{
+    let from = schedule_number(matches, FROM.name);
+    let runs = schedule_number(matches, RUNS.name);
+    if runs - 1 > u32::MAX - from {
+        return Err(Failure::BeyondLastNumber { from, runs });
+    }
+    Ok(Request::Explore {
+        file: given_text(matches, FILE.name),
+        input: text(matches, INPUT.name),
+        numbers: numbers_of(matches, workers_of(matches))?,
+        range: NumberRange { from, count: runs },
+        same: flag(matches, SAME.name),
     })
 }
 
@@ -224,12 +248,28 @@ fn workers_of(matches: &ArgMatches<'_>) -> u32
     requires { HasNumber 32 (codes "workers") (rows_of (found_of matches.now)) }
     ensures { IsRead 32 (one_of (codes "workers") (rows_of (found_of matches.now))) (Some result) }
 {
-    workers_found(matches).unwrap()
+    short_number(matches, WORKERS.name).unwrap()
 }
 
-/// How many workers there are to be, if that is given.
-fn workers_found(matches: &ArgMatches<'_>) -> Option<u32>
-    ensures { IsRead 32 (one_of (codes "workers") (rows_of (found_of matches.now))) result }
+/// The number of a schedule that an argument says, or how many there are.
+fn schedule_number(matches: &ArgMatches<'_>, id: &str) -> u32
+    requires { HasScheduleNumber id.now (rows_of (found_of matches.now)) }
+    ensures read { IsRead 32 (one_of id.now (rows_of (found_of matches.now))) (Some result) }
+    ensures some { 0 < result }
 {
-    matches.get_one(WORKERS.name)
+    short_number(matches, id).unwrap()
+}
+
+/// The number of 32 bits that an argument says, if it is given.
+fn short_number(matches: &ArgMatches<'_>, id: &str) -> Option<u32>
+    ensures { IsRead 32 (one_of id.now (rows_of (found_of matches.now))) result }
+{
+    matches.get_one(id)
+}
+
+/// Whether an option without a value is given.
+fn flag(matches: &ArgMatches<'_>, id: &str) -> bool
+    ensures { IsFlag (one_of id.now (rows_of (found_of matches.now))) result }
+{
+    matches.get_flag(id)
 }

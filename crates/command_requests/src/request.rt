@@ -1,4 +1,5 @@
 //! What a command line asks for.
+use crate::number_range::NumberRange;
 use crate::numbers::Numbers;
 use crate::wanted::Wanted;
 
@@ -13,6 +14,18 @@ pub enum Request<'a> {
         numbers: Numbers,
         /// The texts that it is to leave, in their order.
         wanted: Vec<Wanted<'a>>,
+    },
+    /// Run the program of a file by each of a range of schedules.
+    Explore {
+        file: &'a str,
+        /// The file of the guest's input, which is standard input where there is none.
+        input: Option<&'a str>,
+        /// Those of each run, without a schedule's number.
+        numbers: Numbers,
+        /// The numbers of the schedules.
+        range: NumberRange,
+        /// Whether a second outcome or output is a failure, too.
+        same: bool,
     },
     /// Print the instructions of a file.
     Disasm {

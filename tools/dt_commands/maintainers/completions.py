@@ -15,7 +15,7 @@ def of_bash(command):
 def bash(commands):
     """Returns the completions for bash."""
     every = {it.name: it for command in commands for it in command.parameters if it.is_option}
-    numbers = " | ".join(f"--{name}" for name, it in every.items() if not it.is_file)
+    numbers = " | ".join(f"--{name}" for name, it in every.items() if not it.is_file and not it.is_flag)
     files = " | ".join(f"--{name}" for name, it in every.items() if it.is_file)
     names = " ".join(it.name for it in commands)
     return f"""{HEAD}_dthreads() {{
@@ -58,7 +58,9 @@ def of_zsh(command):
     places = 0
     for it in command.parameters:
         action = "_files" if it.is_file else " "
-        if it.is_option:
+        if it.is_flag:
+            words.append(quoted(f"--{it.name}[{said(it.meaning)}]"))
+        elif it.is_option:
             words.append(quoted(f"--{it.name}=[{said(it.meaning)}]:{it.value}:{action}"))
         else:
             places += 1

@@ -36,6 +36,16 @@ class Parameter(collections.namedtuple("Parameter", "name form need default help
         return self.form in ("Placed", "File", "Text")
 
     @property
+    def is_flag(self):
+        """Whether it is an option without a value."""
+        return self.form == "Flag"
+
+    @property
+    def words(self):
+        """What a command line has of it: its name and, unless it is a flag, what help calls its value."""
+        return f"--{self.name}" if self.is_flag else f"--{self.name} {self.value}"
+
+    @property
     def value(self):
         """What help calls its value."""
         return "FILE" if self.is_file else "SHUFFLE" if self.form == "Shuffle" else "N"
@@ -85,7 +95,7 @@ def table_of(command):
     lines = ["| Option | Default | Meaning |", "|---|---|---|"]
     for it in command.parameters:
         if it.is_option:
-            lines.append(f"| `--{it.name} {it.value}` | {it.default_shown} | {it.meaning[0].lower()}{it.meaning[1:]} |")
+            lines.append(f"| `{it.words}` | {it.default_shown} | {it.meaning[0].lower()}{it.meaning[1:]} |")
     return "\n".join(lines) + "\n"
 
 

@@ -14,6 +14,7 @@ returns c =
     let required = ap app_of_fields c.subcommand_required.ensures ∙ ap (on_top (λ shape. record shape { subcommand_required = true })) described in
     let none = ap app_of_fields c.disable_help_subcommand.ensures ∙ ap (on_top (λ shape. record shape { disable_help_subcommand = true })) required in
     let one = has_command _ spec.run _ _ _ none c.in_ok-run.ensures c.in_ok-subcommand.ensures in
-    let two = has_command _ spec.debug _ _ _ one c.in_ok-debug.ensures c.in_ok-subcommand-2.ensures in
-    let three = has_command _ spec.disasm _ _ _ two c.in_ok-disasm.ensures c.in_ok-subcommand-3.ensures in
-    IfOk-weaker c.subcommand-4.result _ _ (λ new added. has_command _ spec.replay _ _ new three c.in_ok-replay.ensures added) c.subcommand-4.ensures
+    let two = has_command _ spec.explore _ _ _ one c.in_ok-explore.ensures c.in_ok-subcommand-2.ensures in
+    let three = has_command _ spec.debug _ _ _ two c.in_ok-debug.ensures c.in_ok-subcommand-3.ensures in
+    let four = has_command _ spec.disasm _ _ _ three c.in_ok-disasm.ensures c.in_ok-subcommand-4.ensures in
+    IfOk-weaker c.subcommand-5.result _ _ (λ new added. has_command _ spec.replay _ _ new four c.in_ok-replay.ensures added) c.subcommand-5.ensures

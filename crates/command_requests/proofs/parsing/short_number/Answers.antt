@@ -1,9 +1,8 @@
-use Rattle.std.proofs.Common.{codes}
 use Rattle.std.specs.Str.Parse.{ExplainsUnsignedError, HasUnsignedDigitsIfOk, ParsesUnsigned}
 use Rattle.clap.specs.Words.{found_of}
 use Rattle.command_requests.proofs.Rows.{is_read}
-use Rattle.command_requests.proofs.parsing.workers_found.Goals as goal
+use Rattle.command_requests.proofs.parsing.short_number.Goals as goal
 
 pub returns : goal.returns
 returns c = is_read (λ text result. ParsesUnsigned 32 10 text result × ExplainsUnsignedError 10 text result × HasUnsignedDigitsIfOk text result) 32 (found_of c.args.matches.now)
-    (codes "workers") c.get_one.result c.get_one.ensures.none c.get_one.ensures.value (λ text result given. given.0)
+    c.args.id.now c.get_one.result c.get_one.ensures.none c.get_one.ensures.value (λ text result given. given.0)
