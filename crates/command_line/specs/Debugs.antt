@@ -1,10 +1,11 @@
 -- Requests that read all of standard input.
 use Rattle.command_requests.specs.declared.request.Request.{Request}
-use Rattle.command_requests.specs.declared.request.Request.TheVariants.{Run, Debug, Disasm, Replay}
+use Rattle.command_requests.specs.declared.request.Request.TheVariants.{Run, Explore, Debug, Disasm, Replay}
 
 -- a debugging is asked for
 abbrev pub IsDebug : Request → Type 0
 IsDebug (Debug file input numbers turn) = Unit {0}
 IsDebug (Run file input numbers wanted) = ⊥
+IsDebug (Explore file input numbers range same) = ⊥
 IsDebug (Disasm file) = ⊥
 IsDebug (Replay file schedule input numbers) = ⊥

@@ -1,7 +1,7 @@
 -- What performing a request answers, the status for it, and what it leaves, told by the files' content and the standard streams as far as these
 -- are known.
 use Rattle.std.specs.Borrow.{Bor}
-use Rattle.std.specs.Prelude.{◌≡◌, ◌⊎◌, ℕ, Option, Some, None, Result, Err, List}
+use Rattle.std.specs.Prelude.{◌≡◌, ◌⊎◌, ℕ, Bool, Option, Some, None, Result, Err, List}
 use Rattle.std.specs.Result.{IsErrAnd}
 use Rattle.abi.specs.Limits as limit
 use Rattle.output_files.specs.Content.{Content}
@@ -13,12 +13,15 @@ use Rattle.command_requests.specs.Reading.{AreRead, IsUnreadAt}
 use Rattle.command_requests.specs.Status.{failure_status}
 use Rattle.command_requests.specs.Unasked.{IsUnasked, KeepsUnlessHelp}
 use Rattle.command_requests.specs.declared.failure.Failure.{Failure}
+use Rattle.command_requests.specs.declared.number_range.NumberRange.{NumberRange}
 use Rattle.command_requests.specs.declared.numbers.Numbers.{Numbers}
 use Rattle.command_requests.specs.declared.request.Request.{Request}
-use Rattle.command_requests.specs.declared.request.Request.TheVariants.{Run, Debug, Disasm, Replay}
+use Rattle.command_requests.specs.declared.request.Request.TheVariants.{Run, Explore, Debug, Disasm, Replay}
 use Rattle.command_run.specs.Status.{answer_status}
+use Rattle.command_line.specs.Explores.{ExploreRequest, Explores, exploration_of, explore_status}
 use Rattle.command_line.specs.Listings.{IsListed, IsUnlisted}
 use Rattle.command_line.specs.Status.{replay_status}
+use Rattle.command_line.specs.declared.exploration.Exploration.{Exploration}
 use Rattle.command_line.specs.declared.replay_failure.ReplayFailure.{ReplayFailure}
 use Rattle.command_line.specs.declared.replay_failure.ReplayFailure.TheVariants.{Plain}
 use Rattle.command_run.specs.Serves.{Host, RunRequest, RunsInto, run_of}
@@ -51,6 +54,16 @@ ReplaysOn request named output output' answer =
     ((plain : Failure) × (answer ≡ Err (Plain plain)) × IsInputUnread named plain × (output' ≡ output))
     ⊎ OnInput request.files request.input named (λ input. Replays (record request { input = input }) output output' answer)
 
+-- the exploration with these arguments
+abbrev pub exploration_by : (file : Bor (List ℕ)) → Numbers → NumberRange → (same : Bool) → Exploration
+exploration_by file numbers range same = record { file = file; config = config_of numbers; range = range; same = same }
+
+-- what an exploration answers, likewise
+abbrev pub ExploresOn : ExploreRequest → Option (Bor (List ℕ)) → (output output' : Option (List ℕ)) → Result Bool Failure → Type 0
+ExploresOn request named output output' answer =
+    (IsErrAnd answer (IsInputUnread named) × (output' ≡ output))
+    ⊎ OnInput request.files request.input named (λ input. Explores (record request { input = input }) output output' answer)
+
 -- what performing a request finds: what a command finds, which names are of one file, and what there is to read of standard input, as far as
 -- these are known
 pub record Found : Type 0 where
@@ -68,6 +81,10 @@ abbrev pub PerformsOne : Type 0 → Found → Request → Host → ℕ → Type 
 PerformsOne tells found (Run file named numbers wanted) after status =
     (answer : Result RunOutcome Failure) × (status ≡ answer_status answer)
     × RunsOn tells (run_of file found.is_same found.input (config_of numbers) wanted.items) named found.host after answer
+PerformsOne tells found (Explore file named numbers range same) after status =
+    ((answer : Result Bool Failure) × (status ≡ explore_status answer)
+    × ExploresOn (exploration_of (exploration_by file numbers range same) found.host.files found.input) named found.host.output after.output answer)
+    × (after.files ≡ found.host.files)
 PerformsOne tells found (Replay file schedule named numbers) after status =
     ((answer : Result (Option RunOutcome) ReplayFailure) × (status ≡ replay_status answer)
     × ReplaysOn (record { files = found.host.files; path = file.now; schedule = schedule.now; input = found.input; config = config_of numbers })

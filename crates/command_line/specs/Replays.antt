@@ -1,17 +1,14 @@
 -- What a replay of a schedule answers and what it prints, told by the files' content and the standard streams as far as these are known.
-use Rattle.std.specs.Prelude.{◌≡◌, ◌⊎◌, ℕ, ◌<◌, ◌≤◌, Option, Result, Ok, Err, List, length}
+use Rattle.std.specs.Prelude.{◌≡◌, ◌⊎◌, ℕ, Option, Result, Ok, Err, List}
 use Rattle.std.specs.Io.KnownBytes.{Appends}
-use Rattle.elf32_reader.specs.Format.{file_limit}
 use Rattle.output_files.specs.Content.{Content}
 use Rattle.runtime.specs.Run.{IsAccepted, setup_from}
 use Rattle.runtime.specs.declared.config.Config.{Config}
-use Rattle.abi.specs.Limits as limit
 use Rattle.schedule.specs.declared.event.Event.{Event}
 use Rattle.token.specs.Setup.{Setup}
 use Rattle.token.specs.declared.outcome.RunOutcome.{RunOutcome}
-use Rattle.command_requests.specs.Reading.{AreRead, IsUnread}
 use Rattle.command_requests.specs.declared.failure.Failure.{Failure}
-use Rattle.command_requests.specs.declared.failure.Failure.TheVariants.{InputTooLarge}
+use Rattle.command_line.specs.Given.{AreGiven, GivenBytes, IsUngiven}
 use Rattle.command_line.specs.Replayed.{IsCut, IsReplayed}
 use Rattle.command_line.specs.Scheduled.{AreScheduled, IsUnscheduled}
 use Rattle.command_line.specs.declared.replay_failure.ReplayFailure.{ReplayFailure}
@@ -29,22 +26,6 @@ pub record ReplayRequest : Type 0 where
 -- such a replay, over these files
 abbrev pub asked : {F : Type 0} → (F → Content) → F → List ℕ → List ℕ → Option (List ℕ) → Config → ReplayRequest
 asked content files path schedule input config = record { files = content files; path = path; schedule = schedule; input = input; config = config }
-
--- the bytes of the program's file, and the guest's input
-pub record GivenBytes : Type 0 where
-  pub elf : List ℕ
-  pub input : List ℕ
-
--- the file and the input were read, and the input is within its limit
-pub record AreGiven (content input : Option (List ℕ)) (given : GivenBytes) : Type 0 where
-  pub elf_read : AreRead file_limit content given.elf
-  pub input_read : AreRead limit.input input given.input
-  pub few : length given.input ≤ limit.input
-
--- why the file and the input weren't read so
-abbrev pub IsUngiven : List ℕ → Option (List ℕ) → Failure → Type 0
-IsUngiven path input failure =
-    IsUnread path failure ⊎ ((failure ≡ InputTooLarge) × ((given : List ℕ) × AreRead limit.input input given × (limit.input < length given)))
 
 -- a setup and some events are those of what a replay is asked for, which nothing refuses
 pub record AreOf (request : ReplayRequest) (setup : Setup) (events : List Event) : Type 0 where

@@ -1,13 +1,16 @@
-//! Runs and replays whose input is that of a file, if one is named, and else standard input.
+//! Runs, explorations and replays whose input is that of a file, if one is named, and else standard input.
 ghost use Rattle.std.specs.Prelude.{◌≡◌, ◌+◌, ◌-◌, ◌^◌, ◌<◌, IfErr, IfOk, IsSome};
 ghost use Rattle.output_files.specs.Content.{Tells};
 ghost use Rattle.output_files.specs.Taken.{TakesAtMost};
 ghost use Rattle.abi.specs.Limits as limit;
 ghost use Rattle.command_requests.specs.Reading.{AreRead, IsUnreadAt};
 ghost use Rattle.command_run.specs.Serves.{host_of, run_of};
-ghost use Rattle.command_line.specs.Performs.{ReplaysOn, RunsOn};
+ghost use Rattle.command_line.specs.Explores.{exploration_of};
+ghost use Rattle.command_line.specs.Performs.{ExploresOn, ReplaysOn, RunsOn};
 ghost use Rattle.command_line.specs.Replays.{asked};
 
+use crate::exploration::Exploration;
+use crate::exploring::explore_file;
 use crate::given_schedule::replay;
 use crate::replay_failure::ReplayFailure;
 use command_requests::{Failure, Target, Wanted};
@@ -69,6 +72,29 @@ pub(crate) fn replay_given<'a, F: Files, R: Read, W: Write>(
     let bytes = input_at(alloc, path, files)?;
     let mut reader = bytes.as_slice();
     replay(alloc, file, schedule, config, files, &mut reader, stdout)
+}
+
+/// Explores the program of a file on the input of another one, if it is named, and else on the bytes of `stdin`.
+pub(crate) fn explore_given<'a, H: Threads + Wait + Sync, F: Files, R: Read, W: Write>(
+    rt: &H,
+    alloc: Global,
+    exploration: &Exploration<'a>,
+    input: Option<&'a str>,
+    files: &F,
+    stdin: &mut R,
+    stdout: &mut W,
+) -> Result<bool, Failure<'a>>
+    ensures taken { TakesAtMost (limit.input + 1) (R.remaining stdin.old) (R.remaining stdin.new) }
+    ensures unused { IsSome input.entry → stdin.new ≡ stdin.old }
+    ensures answer { ExploresOn (exploration_of exploration.now (F.content files.now) (R.remaining stdin.old))
+        input.entry (W.contents stdout.old) (W.contents stdout.new) result }
+{
+    let Some(path) = input else {
+        return explore_file(rt, alloc, exploration, files, stdin, stdout);
+    };
+    let bytes = input_at(alloc, path, files)?;
+    let mut reader = bytes.as_slice();
+    explore_file(rt, alloc, exploration, files, &mut reader, stdout)
 }
 
 /// The bytes of an input's file, and one more than the limit if it has so many.

@@ -3,25 +3,17 @@ ghost use Rattle.std.specs.Prelude.{◌≡◌, ◌+◌, IfErr, IfOk};
 ghost use Rattle.output_files.specs.Taken.{TakesAtMost};
 ghost use Rattle.abi.specs.Limits as limit;
 ghost use Rattle.token.specs.RunInTurn.{point_of};
-ghost use Rattle.command_line.specs.Replays.{AreGiven, AreOf, IsUngiven, IsUnopened, Replays, asked};
+ghost use Rattle.command_line.specs.Replays.{AreOf, IsUnopened, Replays, asked};
 
+use crate::given::read_given;
 use crate::opened::Opened;
 use crate::replay_failure::ReplayFailure;
 use crate::replaying::{go_through, read_events};
-use command_requests::{Failure, Target};
 use command_run::open_bytes;
-use elf32_reader::FILE_LIMIT;
-use output_files::{Files, read_upto};
-use runtime::{Config, MAX_INPUT, RunOutcome};
+use output_files::Files;
+use runtime::{Config, RunOutcome};
 use std::alloc::Global;
 use std::io::{Read, Write};
-
-/// The bytes of a program's file, and the guest's input.
-#[derive(Drop)]
-struct Given {
-    elf: Vec<u8>,
-    input: Vec<u8>,
-}
 
 /// Applies the events of a schedule to a run of the program of a file, with the bytes of `stdin` as its input, and prints the
 /// trace of the turns that were done. Answers how the run ended, or none where a turn may follow.
@@ -61,30 +53,4 @@ fn open_replay<'a, F: Files, R: Read>(
     let events = read_events(alloc, schedule, files)?;
     let start = open_bytes(alloc, given.elf.as_slice(), given.input.as_slice(), config)?;
     Ok(Opened { start, events })
-}
-
-/// Reads the program's file and then the input, which is to be within its limit.
-fn read_given<'a, F: Files, R: Read>(
-    alloc: Global,
-    file: &'a str,
-    files: &F,
-    stdin: &mut R,
-) -> Result<Given, Failure<'a>>
-    ensures input { TakesAtMost (limit.input + 1) (R.remaining stdin.old) (R.remaining stdin.new) }
-    ensures given { IfOk result (λ given. AreGiven (F.content files.now file.now) (R.remaining stdin.old)
-        (record { elf = given.elf.items; input = given.input.items })) }
-    ensures failed { IfErr result (IsUngiven file.now (R.remaining stdin.old)) }
-{
-    let elf = match files.read(alloc, file, FILE_LIMIT) {
-        Ok(elf) => elf,
-        Err(fault) => return Err(Failure::of_read(Target::Path(file), fault)),
-    };
-    let input = match read_upto(alloc, stdin, MAX_INPUT) {
-        Ok(input) => input,
-        Err(fault) => return Err(Failure::of_read(Target::StandardInput, fault)),
-    };
-    if input.len() > MAX_INPUT {
-        return Err(Failure::InputTooLarge);
-    }
-    Ok(Given { elf, input })
 }

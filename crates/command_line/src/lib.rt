@@ -1,8 +1,12 @@
-//! The command line: parses the arguments, runs, lists, replays or debugs as they ask for, and answers the status.
+//! The command line: parses the arguments, runs, explores, lists, replays or debugs as they ask for, and answers the status.
 #![tactic(auto)]
 
 mod config;
 mod debugging;
+mod exploration;
+mod explored;
+mod exploring;
+mod given;
 mod given_input;
 mod given_schedule;
 mod incoming;
@@ -12,6 +16,7 @@ mod performing;
 mod replay_failure;
 mod replaying;
 mod serving;
+mod untold;
 
 pub use command_requests::{Failure, Target, arguments_of};
 pub use command_run::conclude;

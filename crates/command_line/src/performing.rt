@@ -9,7 +9,9 @@ ghost use Rattle.command_line.specs.Performs.{Performs, PerformsOne, found_of};
 
 use crate::config::config_of;
 use crate::debugging::{Debugging, conclude_debugging, debug_file};
-use crate::given_input::{replay_given, run_given};
+use crate::exploration::Exploration;
+use crate::exploring::conclude_exploration;
+use crate::given_input::{explore_given, replay_given, run_given};
 use crate::listings::{conclude_listing, disasm};
 use crate::replaying::conclude_replay;
 use command_requests::{Request, asked};
@@ -65,6 +67,29 @@ pub fn perform_request<H: Threads + Wait + Sync, F: Files, R: Read + Send, W: Wr
     match request {
         Request::Disasm { file } => conclude_listing(
             disasm(alloc, file, files, &mut stdout.writer),
+            stderr,
+        ),
+        Request::Explore {
+            file,
+            input,
+            numbers,
+            range,
+            same,
+        } => conclude_exploration(
+            explore_given(
+                rt,
+                alloc,
+                &Exploration {
+                    file,
+                    config: config_of(numbers),
+                    range,
+                    same,
+                },
+                input,
+                files,
+                stdin,
+                &mut stdout.writer,
+            ),
             stderr,
         ),
         Request::Replay {

@@ -2,6 +2,8 @@
 use Rattle.std.specs.Prelude.{◌≡◌, Option, Some, None}
 use Rattle.runtime.specs.declared.interruption.Interruption.{Interruption}
 use Rattle.runtime.specs.declared.interruption.Interruption.TheVariants as stop
+use Rattle.runtime.specs.declared.open_fault.OpenFault.{OpenFault}
+use Rattle.runtime.specs.declared.open_fault.OpenFault.TheVariants as unopened
 use Rattle.runtime.specs.declared.refusal.Refusal.{Refusal}
 use Rattle.runtime.specs.declared.refusal.Refusal.TheVariants as refused
 use Rattle.command_requests.specs.Destination.{target_of}
@@ -15,6 +17,11 @@ abbrev pub failure_of_refusal : Refusal → Failure
 failure_of_refusal refused.BadConfig = OutsideRange
 failure_of_refusal refused.InputTooLarge = InputTooLarge
 failure_of_refusal (refused.Elf fault) = ElfRefused fault
+
+-- what a fault is to the user for which no run was opened
+abbrev pub failure_of_fault : OpenFault → Failure
+failure_of_fault (unopened.Refused refusal) = failure_of_refusal refusal
+failure_of_fault unopened.OutOfMemory = OutOfMemory
 
 -- What stops a run whose recorder writes to this destination, to the user. A recorder that writes nowhere doesn't fail.
 abbrev pub IsStoppedBy : Option Destination → Interruption → Failure → Type 0

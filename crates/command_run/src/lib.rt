@@ -21,4 +21,5 @@ mod unwritten;
 
 pub use concluding::conclude;
 pub use performing::run_file;
+pub use run_failure::failure_of_fault;
 pub use running::open_bytes;

@@ -4,7 +4,7 @@ ghost use Rattle.command_run.specs.Failure as spec;
 ghost use Rattle.command_run.specs.Failure.{IsStoppedBy};
 
 use command_requests::{Destination, Failure, Target};
-use runtime::{Interruption, Refusal};
+use runtime::{Interruption, OpenFault, Refusal};
 
 /// The failure that a refusal is.
 pub(crate) fn failure_of_refusal<'a>(refusal: Refusal) -> Failure<'a>
@@ -14,6 +14,16 @@ pub(crate) fn failure_of_refusal<'a>(refusal: Refusal) -> Failure<'a>
         Refusal::BadConfig => Failure::OutsideRange,
         Refusal::InputTooLarge => Failure::InputTooLarge,
         Refusal::Elf(fault) => Failure::ElfRefused(fault),
+    }
+}
+
+/// The failure that a fault is for which no run was opened.
+pub fn failure_of_fault<'a>(fault: OpenFault) -> Failure<'a>
+    ensures { result ≡ spec.failure_of_fault fault }
+{
+    match fault {
+        OpenFault::Refused(refusal) => failure_of_refusal(refusal),
+        OpenFault::OutOfMemory => Failure::OutOfMemory,
     }
 }
 

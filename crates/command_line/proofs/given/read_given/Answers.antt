@@ -1,5 +1,5 @@
 use Rattle.std.proofs.Common.{arith, inr, refl}
-use Rattle.command_line.proofs.given_schedule.read_given.Goals as goal
+use Rattle.command_line.proofs.given.read_given.Goals as goal
 
 -- the bytes that were read are more than the limit
 pub returns-then-len-gt-MAX_INPUT-clause-failed : goal.returns-then-len-gt-MAX_INPUT-clause-failed
