@@ -1,4 +1,4 @@
-"""The examples of the pages docs/C.md, docs/CLEAN-RUNS.md and, if guest/build-libgomp was done, docs/OPENMP.md.
+"""The examples of the pages docs/C.md, docs/CLEAN-RUNS.md, docs/EXPLORING.md and, if guest/build-libgomp was done, docs/OPENMP.md.
 
 The commands are the lines of a page's blocks that begin with `$ `. They run in a folder of their own, as if at the top of the
 repository, which has a file of each block of C that begins with its name as a comment. DTHREADS names the program to run the guests with,
@@ -15,7 +15,7 @@ from dt_commands.progress import Progress
 from dt_commands.repository import TOP
 from dt_commands.texts import first_difference, read_text, write_file
 
-PAGES = ("docs/C.md", "docs/CLEAN-RUNS.md", "docs/OPENMP.md")
+PAGES = ("docs/C.md", "docs/CLEAN-RUNS.md", "docs/EXPLORING.md", "docs/OPENMP.md")
 # What a page's commands need besides.
 NEEDS = {"docs/OPENMP.md": ["-fopenmp"]}
 

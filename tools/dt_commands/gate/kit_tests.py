@@ -36,7 +36,7 @@ PARTS = [
     Part("table of functions", ["check", "c-functions"], 1, ["docs/C-FUNCTIONS.md"]),
     Part("samples", ["test", "c-samples"], 1, []),
     Part("builds of others", ["test", "builds"], 1, ["guest/tests/builds"]),
-    Part("page", ["test", "c-page"], 1, ["docs/C.md", "docs/CLEAN-RUNS.md", "docs/OPENMP.md"]),
+    Part("page", ["test", "c-page"], 1, ["docs/C.md", "docs/CLEAN-RUNS.md", "docs/EXPLORING.md", "docs/OPENMP.md"]),
     Part("manual pages", ["test", "manual"], 1, ["guest/tests/manual"]),
 ]
 # What is made if guest/build-rust was done.

@@ -22,7 +22,7 @@ from .texts import read_text, write_file
 
 # The pages that are read as a whole, and how many bytes each may have.
 LIMITS = {"README.md": 9_500, "docs/C.md": 7_168, "docs/CLEAN-RUNS.md": 4_096, "docs/DEBUGGING.md": 7_168, "docs/TIMELINE.md": 5_120,
-          "docs/RUST.md": 6_144}
+          "docs/RUST.md": 6_144, "docs/EXPLORING.md": 6_144}
 
 
 def read(page):
