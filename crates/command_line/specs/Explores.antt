@@ -1,5 +1,5 @@
 -- What an exploration answers and what it prints, told by the files' content and the standard streams as far as these are known.
-use Rattle.std.specs.Prelude.{◌≡◌, ◌⊎◌, ℕ, Bool, true, false, ◌&&◌, ◌||◌, nat_lt, if◌then◌else◌, Option, Result, Ok, Err, List, Vec, length}
+use Rattle.std.specs.Prelude.{◌≡◌, ◌⊎◌, ℕ, Bool, true, false, ◌&&◌, ◌||◌, nat_lt, if◌then◌else◌, Option, Result, Ok, Err, List, ◌++◌, Vec, length}
 use Rattle.std.specs.List.{list_any}
 use Rattle.std.specs.Io.KnownBytes.{Appends}
 use Rattle.std.specs.declared.alloc.Global.{Global}
@@ -16,6 +16,7 @@ use Rattle.command_requests.specs.declared.failure.Failure.{Failure}
 use Rattle.command_requests.specs.declared.failure.Failure.TheVariants.{CannotWrite}
 use Rattle.command_requests.specs.declared.target.Target.TheVariants.{StandardOutput}
 use Rattle.command_run.specs.Failure.{failure_of_fault}
+use Rattle.command_line.specs.Failures.{AreShown}
 use Rattle.command_line.specs.Given.{AreGiven, GivenBytes, IsUngiven}
 use Rattle.command_line.specs.declared.exploration.Exploration.{Exploration}
 
@@ -32,11 +33,13 @@ exploration_of exploration files input = record { exploration = exploration; fil
 abbrev pub has_failed : (same : Bool) → List Row → Bool
 has_failed same rows = list_any (λ row. fails row.ending.outcome) rows || (same && nat_lt 1 (length rows))
 
--- The runs of a file on an input were explored: the text is that of their rows.
+-- The runs of a file on an input were explored: the text is that of their rows, and below it that of the rows that failed.
 pub record IsExplored (exploration : Exploration) (elf input text : List ℕ) (failed : Bool) : Type 0 where
   pub rows : Vec Row Global
   pub are_rows : runs.Explores elf input exploration.config exploration.range.from exploration.range.count (Ok rows)
-  pub text_is : text ≡ table_text exploration.range.count rows.items
+  pub failures : List ℕ
+  pub are_failures : AreShown exploration elf input rows.items failures
+  pub text_is : text ≡ table_text exploration.range.count rows.items ++ failures
   pub failed_is : failed ≡ has_failed exploration.same rows.items
 
 -- the file and the input were read, and such are they

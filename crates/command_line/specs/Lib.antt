@@ -1,6 +1,7 @@
 pub mod Debugging
 pub mod Debugs
 pub mod Explores
+pub mod Failures
 pub mod Given
 pub mod Incoming
 pub mod Listings

@@ -55,14 +55,14 @@ ReplaysOn request named output output' answer =
     ⊎ OnInput request.files request.input named (λ input. Replays (record request { input = input }) output output' answer)
 
 -- the exploration with these arguments
-abbrev pub exploration_by : (file : Bor (List ℕ)) → Numbers → NumberRange → (same : Bool) → Exploration
-exploration_by file numbers range same = record { file = file; config = config_of numbers; range = range; same = same }
+abbrev pub exploration_by : (file : Bor (List ℕ)) → (input : Option (Bor (List ℕ))) → Numbers → NumberRange → (same : Bool) → Exploration
+exploration_by file input numbers range same = record { file = file; input = input; config = config_of numbers; range = range; same = same }
 
 -- what an exploration answers, likewise
-abbrev pub ExploresOn : ExploreRequest → Option (Bor (List ℕ)) → (output output' : Option (List ℕ)) → Result Bool Failure → Type 0
-ExploresOn request named output output' answer =
-    (IsErrAnd answer (IsInputUnread named) × (output' ≡ output))
-    ⊎ OnInput request.files request.input named (λ input. Explores (record request { input = input }) output output' answer)
+abbrev pub ExploresOn : ExploreRequest → (output output' : Option (List ℕ)) → Result Bool Failure → Type 0
+ExploresOn request output output' answer =
+    (IsErrAnd answer (IsInputUnread request.exploration.input) × (output' ≡ output))
+    ⊎ OnInput request.files request.input request.exploration.input (λ input. Explores (record request { input = input }) output output' answer)
 
 -- what performing a request finds: what a command finds, which names are of one file, and what there is to read of standard input, as far as
 -- these are known
@@ -83,7 +83,7 @@ PerformsOne tells found (Run file named numbers wanted) after status =
     × RunsOn tells (run_of file found.is_same found.input (config_of numbers) wanted.items) named found.host after answer
 PerformsOne tells found (Explore file named numbers range same) after status =
     ((answer : Result Bool Failure) × (status ≡ explore_status answer)
-    × ExploresOn (exploration_of (exploration_by file numbers range same) found.host.files found.input) named found.host.output after.output answer)
+    × ExploresOn (exploration_of (exploration_by file named numbers range same) found.host.files found.input) found.host.output after.output answer)
     × (after.files ≡ found.host.files)
 PerformsOne tells found (Replay file schedule named numbers) after status =
     ((answer : Result (Option RunOutcome) ReplayFailure) × (status ≡ replay_status answer)

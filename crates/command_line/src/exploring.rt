@@ -10,6 +10,7 @@ ghost use Rattle.command_line.specs.Explores.{Explores, IsExplored, explore_stat
 
 use crate::exploration::Exploration;
 use crate::explored::Explored;
+use crate::failures::push_failures;
 use crate::given::read_given;
 use crate::untold::Untold;
 use command_requests::{Failure, Target, fail, print};
@@ -81,6 +82,15 @@ fn explored<H: Threads + Wait + Sync>(
     )?;
     let mut text = String::new(alloc);
     push_table(alloc, &mut text, range.count, rows.as_slice())?;
+    push_failures(
+        rt,
+        alloc,
+        &mut text,
+        exploration,
+        elf,
+        input,
+        rows.as_slice(),
+    )?;
     let failed = failed(exploration.same, rows.as_slice());
     Ok(Explored { text, failed })
 }

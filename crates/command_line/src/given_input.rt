@@ -79,17 +79,16 @@ pub(crate) fn explore_given<'a, H: Threads + Wait + Sync, F: Files, R: Read, W: 
     rt: &H,
     alloc: Global,
     exploration: &Exploration<'a>,
-    input: Option<&'a str>,
     files: &F,
     stdin: &mut R,
     stdout: &mut W,
 ) -> Result<bool, Failure<'a>>
     ensures taken { TakesAtMost (limit.input + 1) (R.remaining stdin.old) (R.remaining stdin.new) }
-    ensures unused { IsSome input.entry → stdin.new ≡ stdin.old }
+    ensures unused { IsSome exploration.now.input → stdin.new ≡ stdin.old }
     ensures answer { ExploresOn (exploration_of exploration.now (F.content files.now) (R.remaining stdin.old))
-        input.entry (W.contents stdout.old) (W.contents stdout.new) result }
+        (W.contents stdout.old) (W.contents stdout.new) result }
 {
-    let Some(path) = input else {
+    let Some(path) = exploration.input else {
         return explore_file(rt, alloc, exploration, files, stdin, stdout);
     };
     let bytes = input_at(alloc, path, files)?;

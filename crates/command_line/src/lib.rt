@@ -6,6 +6,7 @@ mod debugging;
 mod exploration;
 mod explored;
 mod exploring;
+mod failures;
 mod given;
 mod given_input;
 mod given_schedule;

@@ -81,11 +81,11 @@ pub fn perform_request<H: Threads + Wait + Sync, F: Files, R: Read + Send, W: Wr
                 alloc,
                 &Exploration {
                     file,
+                    input,
                     config: config_of(numbers),
                     range,
                     same,
                 },
-                input,
                 files,
                 stdin,
                 &mut stdout.writer,
