@@ -40,6 +40,8 @@ HANDED_ON = {
     ("crates/command_requests/src/arguments.rt", ".map_err(|_| Failure::OutOfMemory),"),
     ("crates/command_line/src/listings.rt", "Err(_) => Err(Failure::OutOfMemory),"),
     ("crates/timeline/src/motion.rt", "Err(_) => Err(AllocError),"),
+    ("crates/explored_runs/src/shuffled.rt", "Interruption::OutOfMemory => AllocError,"),
+    ("crates/small_schedules/src/walking.rt", "Err(TurnFault::OutOfMemory | TurnFault::WriteFailed) => Err(AllocError),"),
     ("crates/races/src/recorder.rt", "return Err(AllocError);"),
     ("crates/trace_events/src/timeline_recorder.rt", "self.failure = Some(TurnFault::OutOfMemory);"),
 }
