@@ -38,6 +38,10 @@ class Table(unittest.TestCase):
         self.assertEqual([it.value for it in options.rows_in(TABLE).values()], ["FILE", "N", "FILE"])
         self.assertEqual(options.rows_in(TABLE.replace("Form::Count", "Form::Shuffle"))["COUNT"].value, "SHUFFLE")
 
+    def test_an_option_without_a_value_has_none(self):
+        row = options.rows_in(TABLE.replace("Form::Count", "Form::Flag"))["COUNT"]
+        self.assertEqual((row.words, row.is_flag), ("--count", True))
+
     def test_a_command_line_without_an_option_is_told(self):
         every = options.commands_in(TABLE, COMMANDS)[:1]
         page = "## run\n\n`dthreads run FILE [--count N]{}` runs.\n"
@@ -45,7 +49,7 @@ class Table(unittest.TestCase):
         self.assertEqual(options.untold(page.format(" [--trace FILE]"), every), [])
 
     def test_the_program_has_these_commands(self):
-        self.assertEqual([it.name for it in options.commands()], ["run", "debug", "disasm", "replay"])
+        self.assertEqual([it.name for it in options.commands()], ["run", "explore", "debug", "disasm", "replay"])
 
 
 class Completions(unittest.TestCase):
@@ -57,6 +61,9 @@ class Completions(unittest.TestCase):
         self.assertEqual(completed("dthreads", "run", "--workers", ""), [])
         self.assertEqual(completed("dthreads", "replay", "--sh"), ["--shuffle"])
         self.assertEqual(completed("dthreads", "run", "--shuffle", ""), [])
+        self.assertEqual(completed("dthreads", "explore", "--sa"), ["--same"])
+        self.assertEqual(completed("dthreads", "explore", "--runs", ""), [])
+        self.assertEqual(completed("dthreads", "explore", "--same", "dth"), ["dthreads.1"])
         self.assertEqual(completed("dthreads", "disasm", "dth"), ["dthreads.1"])
 
     def test_a_text_with_marks_is_one_word_of_zsh(self):
