@@ -109,6 +109,20 @@ def before(room):
     return (ran.returncode, ran.stdout, others), (3, "words -- one --run two\n", [2, 2, 2])
 
 
+def prepared(room):
+    """dthreads-exec puts a program and its input into a folder, and their run is the one that it makes itself."""
+    call(["-rdynamic", "words.c", "-o", "words.elf", "-lutil"], room)
+    os.mkdir(f"{room}/put")
+    words = ["--env", "WORD=two", "--seed=7", "--quantum", "none"]
+    runs = [executed(room, "words", *words, "--digest", f"{room}/digest", "--", "one"),
+            executed(room, "words", *words, "--prepare", f"{room}/put", "--", "one")]
+    again = [guest_runs.program(), "run", f"{room}/put/words.elf", "--input", f"{room}/put/input", "--digest", f"{room}/again"]
+    runs.append(subprocess.run(again, stdout=subprocess.DEVNULL, check=False))
+    refused = [executed(room, "words", "--prepare", it).returncode for it in (room, f"{room}/none")]
+    is_same = read_text(f"{room}/digest") == read_text(f"{room}/again")
+    return ([it.returncode for it in runs], runs[1].stdout, is_same, refused), ([3, 0, 3], "", True, [2, 2])
+
+
 def clock(room):
     """The clock of the day begins when the link, dthreads-exec or dthreads-gdb says."""
     call(["-O2", "day.c", "-o", "day.elf"], room)
@@ -143,7 +157,7 @@ def full(room):
     return with_workers(room, "full"), {(5, "\0" * 60000 * 279, said)}
 
 
-CASES = [preprocessed, main_in_archive, warns_once, visible, models, quantum, before, clock, files, full]
+CASES = [preprocessed, main_in_archive, warns_once, visible, models, quantum, before, prepared, clock, files, full]
 
 
 def test(_):
