@@ -1,7 +1,7 @@
 """The tests of the kit for Rust: programs, the tests that std brings with it, and programs over Debian's crates.
 
-They need guest/build-rust, and Debian's packages for it. --programs makes those of guest/tests/rust and samples/rust and a project that
-cargo builds, as the gate does. A line of guest/tests/rust/list has a program, its status, and the words of dthreads-exec. A program marked
+They need guest/build-rust, and Debian's packages for it. --programs makes those of guest/tests/rust and samples/rust and the projects
+that cargo builds, as the gate does. A line of guest/tests/rust/list has a program, its status, and the words of dthreads-exec. A program marked
 `host` gave the output of the host's build; --host compares them anew. --std makes std's own tests from the package rust-web-src, and
 --crates programs over crates of Debian's packages. All three take some ten minutes of a processor. Tests that are left out are named with
 the reason. DTHREADS names the program to run the others with, or else ./dthreads.
@@ -9,6 +9,7 @@ the reason. DTHREADS names the program to run the others with, or else ./dthread
 import hashlib
 import os
 import re
+import shlex
 import shutil
 import subprocess
 
@@ -21,7 +22,7 @@ SAMPLES = f"{TOP}/samples/rust"
 PACKAGES = {"rustc-web": "/usr/bin/rustc", "cargo-web": "/usr/bin/cargo", "rust-web-src": "/usr/lib/rustlib/src/rust/library/vendor"}
 EDITION = ["--edition", "2021"]
 # What is made, each part by an option that leaves the others out.
-PARTS = {"programs": "the programs and the project alone", "std": "std's own tests alone", "crates": "programs over Debian's crates alone"}
+PARTS = {"programs": "the programs and the projects alone", "std": "std's own tests alone", "crates": "programs over Debian's crates alone"}
 # The programs whose list of races isn't empty: of each access its kind and its line.
 RACY = {
     "races": ["store races.rs:15 load races.rs:15", "store races.rs:15 store races.rs:15", "store races.rs:20 store races.rs:20",
@@ -36,12 +37,20 @@ DEBUGGED = [
     ("s", [], r"s: more than one test has this name or part:\n  project: tests::panics\n  project: tests::sums\n"),
     ("other", [], r"other: no test has this name:\n  project: tests::panics\n"),
 ]
+# What `dthreads-cargo explore` finds by 100 numbers in the project of samples/rust: of each test how it fails, None if by no number.
+EXPLORED = {"tests::left_out": "ignored", "tests::lost_wakeup": "deadlock", "tests::two_locks": "deadlock", "tests::limit": "panic",
+            "tests::flag": None, "tests::refused": None, "plain": None}
+# The line of a test, with the commands below it, and a command.
+TOLD = re.compile(r"^(\S+) +(?:\d+ of \d+ pass|\d+ of \d+ fail, first --shuffle \d+ \((\w+)\).*|(ignored))\n((?:    .*\n)*)", re.M)
+COMMAND = re.compile(r"^    dthreads-cargo (test|debug) (.*)$", re.M)
+# What a command says of a test that fails so: by itself, and in gdb.
+SEEN = {"deadlock": ("^deadlock$", "the run ends here: deadlock"), "panic": (r"^test \S+ \.\.\. FAILED$", "the run ends here: exit 101")}
 ACCESS = r"(load|store) \S+ \S+ pc=\S+ at=\S*?([^/\s]+:\d+)"
 RACE = re.compile(rf"race address=\S+ bytes=\d {ACCESS} {ACCESS}")
 
 
 def arguments(parser):
-    parser.add_argument("names", nargs="*", metavar="NAME", help="programs, `project`, `page`, or parts of std's tests (default: all)")
+    parser.add_argument("names", nargs="*", metavar="NAME", help="programs, `project`, `explored`, `page`, or parts of std's tests (default: all)")
     parser.add_argument("--host", action="store_true", help="compare the programs with the host's builds, too")
     for name, help_text in PARTS.items():
         parser.add_argument(f"--{name}", action="store_true", help=help_text)
@@ -144,7 +153,7 @@ def without_times(text):
 
 def test_debugger(tally, where):
     """Debugs a test of the project: gdb stops at its beginning. A name that several tests have is refused with their names."""
-    if not shutil.which("gdb-multiarch") and not shutil.which("riscv64-unknown-elf-gdb"):
+    if not has_gdb():
         print("project: gdb isn't there, so dthreads-cargo debug isn't tried: apt-get install gdb-multiarch")
         return
     how = {"cwd": where, "stdin": subprocess.DEVNULL, "stdout": subprocess.PIPE, "stderr": subprocess.STDOUT, "errors": "replace"}
@@ -155,14 +164,55 @@ def test_debugger(tally, where):
             tally.fail(f"project: debug {name}: {ran.stdout[-800:]}")
 
 
+def called(where, *words):
+    """Calls dthreads-cargo in a folder. Returns what it gave, standard error apart."""
+    how = {"cwd": where, "stdin": subprocess.DEVNULL, "stdout": subprocess.PIPE, "stderr": subprocess.PIPE, "errors": "replace"}
+    return subprocess.run([f"{guest_runs.KIT}/dthreads-cargo", *words], env=environment(), **how)
+
+
+def has_gdb():
+    return shutil.which("gdb-multiarch") or shutil.which("riscv64-unknown-elf-gdb")
+
+
+def test_shown(tally, where, kind, commands):
+    """Performs the commands that are told of a test that fails: each shows the run."""
+    for command, words in commands:
+        is_debug = command == "debug"
+        if is_debug and not has_gdb():
+            continue
+        ran = called(where, command, *shlex.split(words), *(["--", "-batch", "-ex", "delete", "-ex", "continue"] if is_debug else []))
+        if not re.search(SEEN[kind][is_debug], ran.stdout + ran.stderr, re.M):
+            tally.fail(f"explored: {command} {words}: {(ran.stdout + ran.stderr)[-800:]}")
+
+
+def test_explored(tally, room):
+    """Explores the tests of a project by dthreads-cargo: each bug is found, and the commands that are told show it."""
+    where = f"{room}/explored"
+    shutil.copytree(f"{SAMPLES}/explored", where)
+    before = sums_of(where)
+    ran = called(where, "explore", "--offline", "--workers", "4")
+    told = TOLD.findall(ran.stdout)
+    found = {name: ignored or kind or None for name, kind, ignored, _ in told}
+    if (ran.returncode, found) != (1, EXPLORED) or not ran.stdout.endswith("\ntests: 6 explored, 3 failed\n"):
+        tally.fail(f"explored: status {ran.returncode}: {ran.stdout}{ran.stderr[-600:]}")
+    for _, kind, _, commands in told:
+        if kind in SEEN:
+            test_shown(tally, where, kind, COMMAND.findall(commands))
+    others = [called(where, "explore", "--offline", *it) for it in (["--runs", "2", "--lib", "--", "none"], ["--shuffle", "7"])]
+    said = [(it.returncode, it.stdout, it.stderr.splitlines()[-1:]) for it in others]
+    if said != [(1, "", [f"dthreads-cargo: {it}"]) for it in ("no test was explored", "--shuffle is of one run, and explore has many")]:
+        tally.fail(f"explored: {said}")
+    if sums_of(where) != before:
+        tally.fail("explored: files were changed")
+
+
 def test_project(tally, room):
     """Builds, runs and tests a project of several crates by dthreads-cargo: it prints project.out, and its own files stay as they are."""
     where, said = f"{room}/project", ""
     shutil.copytree(f"{FOLDER}/project", where)
     before = sums_of(where)
     for words in (["run", "--", "one", "two"], ["run", "--release", "--workers", "4", "--races", "-"], ["test", "--workers=2"], ["bench"]):
-        how = {"cwd": where, "stdin": subprocess.DEVNULL, "stdout": subprocess.PIPE, "stderr": subprocess.PIPE, "errors": "replace"}
-        ran = subprocess.run([f"{guest_runs.KIT}/dthreads-cargo", words[0], "--offline", *words[1:]], env=environment(), **how)
+        ran = called(where, words[0], "--offline", *words[1:])
         said += f"$ {' '.join(words)}\n{without_times(ran.stdout)}status {ran.returncode}\n"
         if "race " in ran.stderr or "error" in ran.stderr:
             tally.fail(f"project: {ran.stderr[-600:]}")
@@ -184,7 +234,7 @@ def tasks(options):
     """Returns what is tried of the programs: a name and a call each."""
     cases = [Case(where, *row) for where in (FOLDER, SAMPLES) if os.path.exists(f"{where}/list") for row in rows_of(f"{where}/list")]
     found = [(it.name, lambda tally, room, it=it: test_program(tally, room, it, options.host)) for it in cases]
-    found += [("project", test_project), ("page", test_page)]
+    found += [("project", test_project), ("explored", test_explored), ("page", test_page)]
     return [it for it in found if not options.names or it[0] in options.names]
 
 
