@@ -123,6 +123,17 @@ def prepared(room):
     return ([it.returncode for it in runs], runs[1].stdout, is_same, refused), ([3, 0, 3], "", True, [2, 2])
 
 
+def explored(room):
+    """dthreads-exec explores a program with its words, and tells a command of its own that shows a failing run."""
+    call(["-rdynamic", "words.c", "-o", "words.elf", "-lutil"], room)
+    ran = executed(room, "words", "--explore", "--runs", "3", "--env", "WORD=two", "--", "one")
+    told = re.search(r"^exit 3: dthreads-exec (\S+/words\.elf) (--env WORD=two --shuffle \S+ -- one)$", ran.stdout, re.M)
+    shown = performed("dthreads-exec", told[1], *told[2].split()) if told else ran
+    found = (ran.returncode, ran.stdout.partition("\n")[0], shown.returncode, shown.stdout)
+    refused = executed(room, "words", "--explore", "--out", "a=b").returncode
+    return (found, refused), ((1, "3 runs, 1 outcome", 3, "words one two\n"), 2)
+
+
 def clock(room):
     """The clock of the day begins when the link, dthreads-exec or dthreads-gdb says."""
     call(["-O2", "day.c", "-o", "day.elf"], room)
@@ -157,7 +168,7 @@ def full(room):
     return with_workers(room, "full"), {(5, "\0" * 60000 * 279, said)}
 
 
-CASES = [preprocessed, main_in_archive, warns_once, visible, models, quantum, before, prepared, clock, files, full]
+CASES = [preprocessed, main_in_archive, warns_once, visible, models, quantum, before, prepared, explored, clock, files, full]
 
 
 def test(_):
