@@ -12,8 +12,9 @@ set(CMAKE_AR riscv64-unknown-elf-ar CACHE FILEPATH "")
 set(CMAKE_RANLIB riscv64-unknown-elf-ranlib CACHE FILEPATH "")
 set(CMAKE_STRIP riscv64-unknown-elf-strip CACHE FILEPATH "")
 
-# What a configuration and the tests of a project run.
-set(CMAKE_CROSSCOMPILING_EMULATOR "${CMAKE_CURRENT_LIST_DIR}/dthreads-exec;--bound;1000000000000;--run")
+# What a configuration and the tests of a project run, and the command itself for tests with other words.
+set(DTHREADS_EXEC "${CMAKE_CURRENT_LIST_DIR}/dthreads-exec")
+set(CMAKE_CROSSCOMPILING_EMULATOR "${DTHREADS_EXEC};--bound;1000000000000;--run")
 
 # Libraries and headers of the host are none of the program's.
 set(CMAKE_FIND_ROOT_PATH "${CMAKE_CURRENT_LIST_DIR}/out")

@@ -4,8 +4,6 @@ As a command it writes a copy whose clock of the day begins at DATE, for guest/d
 
     program_file.py PROGRAM.elf DATE NEW.elf
 """
-import datetime
-import re
 import struct
 import sys
 
@@ -20,7 +18,7 @@ NOTE_NAME = b"dthreads\0\0\0\0"
 # in seconds since 1970; that files may come by the image.
 NOTE_ENTRY, NOTE_CLOCK, NOTE_FILES = 1, 2, 3
 VERSION = 1
-DATE = re.compile(r"\d{4}-\d\d-\d\d(T\d\d:\d\d(:\d\d)?Z?)?")
+DATE = r"\d{4}-\d\d-\d\d(T\d\d:\d\d(:\d\d)?Z?)?"
 
 
 class Refusal(Exception):
@@ -29,8 +27,11 @@ class Refusal(Exception):
 
 def seconds_of(date):
     """Returns a date's seconds since 1970: 2026-11-30 or 2026-11-30T17:45:00Z, always of UTC."""
+    # (to import these takes longer than a small run lasts, and most have no date)
+    import datetime
+    import re
     try:
-        if not DATE.fullmatch(date):
+        if not re.fullmatch(DATE, date):
             raise ValueError
         moment = datetime.datetime.fromisoformat(date.rstrip("Z")).replace(tzinfo=datetime.timezone.utc)
     except ValueError:

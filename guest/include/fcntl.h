@@ -22,6 +22,13 @@ extern "C" {
 
 int posix_fadvise(int, off_t, off_t, int);
 int posix_fallocate(int, off_t, off_t);
+#ifdef _GNU_SOURCE
+#define FALLOC_FL_KEEP_SIZE 1
+#define FALLOC_FL_PUNCH_HOLE 2
+int fallocate(int, int, off_t, off_t);
+ssize_t copy_file_range(int, off_t *, int, off_t *, size_t, unsigned);
+int close_range(unsigned, unsigned, int);
+#endif
 
 #ifdef __cplusplus
 }

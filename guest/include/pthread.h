@@ -213,6 +213,10 @@ int pthread_mutexattr_setprioceiling(pthread_mutexattr_t *, int);
 int pthread_yield(void);
 
 /* Of GNU. */
+int pthread_attr_setaffinity_np(pthread_attr_t *, size_t, const cpu_set_t *);
+int pthread_attr_getaffinity_np(const pthread_attr_t *, size_t, cpu_set_t *);
+int pthread_attr_setstackaddr(pthread_attr_t *, void *);
+int pthread_attr_getstackaddr(const pthread_attr_t *, void **);
 int pthread_getattr_np(pthread_t, pthread_attr_t *);
 int pthread_getattr_default_np(pthread_attr_t *);
 int pthread_setattr_default_np(const pthread_attr_t *);
@@ -220,6 +224,12 @@ int pthread_setname_np(pthread_t, const char *);
 int pthread_getname_np(pthread_t, char *, size_t);
 int pthread_getaffinity_np(pthread_t, size_t, cpu_set_t *);
 int pthread_setaffinity_np(pthread_t, size_t, const cpu_set_t *);
+/* Older names. */
+#define pthread_mutex_consistent_np(mutex) pthread_mutex_consistent(mutex)
+#define pthread_mutexattr_setrobust_np(attributes, robust) pthread_mutexattr_setrobust(attributes, robust)
+#define pthread_mutexattr_getrobust_np(attributes, robust) pthread_mutexattr_getrobust(attributes, robust)
+#define pthread_mutexattr_setkind_np(attributes, kind) pthread_mutexattr_settype(attributes, kind)
+#define pthread_mutexattr_getkind_np(attributes, kind) pthread_mutexattr_gettype(attributes, kind)
 
 #ifdef __cplusplus
 }

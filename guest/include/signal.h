@@ -198,6 +198,14 @@ int sigrelse(int);
 int sigignore(int);
 _sig_func_ptr sigset(int, _sig_func_ptr);
 int sigpause(int);
+int sigblock(int);
+int sigsetmask(int);
+int siggetmask(void);
+#define sigmask(signal) (1 << (signal))
+#ifdef _GNU_SOURCE
+int tgkill(pid_t, pid_t, int);
+int pthread_sigqueue(unsigned long, int, const union sigval);
+#endif
 void psignal(int, const char *);
 void psiginfo(const siginfo_t *, const char *);
 

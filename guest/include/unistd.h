@@ -24,7 +24,13 @@ int getpagesize(void);
 unsigned alarm(unsigned);
 int nice(int);
 long syscall(long, ...);
+pid_t gettid(void);
 int daemon(int, int);
+void closefrom(int);
+#ifdef _GNU_SOURCE
+ssize_t copy_file_range(int, off_t *, int, off_t *, size_t, unsigned);
+int close_range(unsigned, unsigned, int);
+#endif
 
 #ifdef __cplusplus
 }

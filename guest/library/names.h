@@ -44,6 +44,7 @@
 #define files_write dthreads_own_files_write
 #define heap_flush dthreads_own_heap_flush
 #define heap_given dthreads_own_heap_given
+#define heap_left dthreads_own_heap_left
 #define heap_map dthreads_own_heap_map
 #define heap_pages dthreads_own_heap_pages
 #define heap_unmap dthreads_own_heap_unmap
@@ -64,6 +65,7 @@
 #define monitor_sleep dthreads_own_monitor_sleep
 #define monitor_sleep_in_crowd dthreads_own_monitor_sleep_in_crowd
 #define monitor_sleep_lightly dthreads_own_monitor_sleep_lightly
+#define monitor_sleep_on dthreads_own_monitor_sleep_on
 #define monitor_wake dthreads_own_monitor_wake
 #define monitor_wake_all dthreads_own_monitor_wake_all
 #define mutex_acquire dthreads_own_mutex_acquire
@@ -81,6 +83,7 @@
 #define packed_bytes dthreads_own_packed_bytes
 #define packed_records dthreads_own_packed_records
 #define packed_texts dthreads_own_packed_texts
+#define path_name dthreads_own_path_name
 #define path_node dthreads_own_path_node
 #define path_place dthreads_own_path_place
 #define pipe_attach dthreads_own_pipe_attach
@@ -88,6 +91,7 @@
 #define pipe_free dthreads_own_pipe_free
 #define pipe_read dthreads_own_pipe_read
 #define pipe_write dthreads_own_pipe_write
+#define place_follow dthreads_own_place_follow
 #define place_node dthreads_own_place_node
 #define pollers dthreads_own_pollers
 #define power_scale dthreads_own_power_scale

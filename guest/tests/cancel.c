@@ -8,7 +8,7 @@
 static pthread_mutex_t mutex = PTHREAD_MUTEX_INITIALIZER;
 static pthread_cond_t condition = PTHREAD_COND_INITIALIZER;
 static sem_t semaphore;
-static int ready;
+static int ready, deferred;
 
 static void says(void *text)
 {
@@ -95,7 +95,7 @@ static void *sets_the_type(void *argument)
     pthread_setcancelstate(PTHREAD_CANCEL_DISABLE, NULL);
     usleep(20000);
     pthread_setcancelstate(PTHREAD_CANCEL_ENABLE, NULL);
-    printf("deferred\n");
+    deferred++;
     pthread_setcanceltype(PTHREAD_CANCEL_ASYNCHRONOUS, NULL);
     printf("not reached\n");
     return argument;
@@ -129,6 +129,7 @@ int main(void)
     cancelled("join", thread);
     pthread_create(&thread, NULL, sets_the_type, NULL);
     cancelled("type", thread);
+    printf("deferred %d\n", deferred);
     void *value;
     pthread_create(&thread, NULL, cancels_itself, NULL);
     pthread_join(thread, &value);

@@ -2,5 +2,5 @@
 
 PARTS = {
     "pages": "pages", "samples": "samples", "pictures": "sample_pictures", "c-samples": "c_samples", "c-functions": "c_functions",
-    "hints": "hints", "gdb": "gdb_sessions", "shuffles": "shuffles",
+    "hints": "hints", "gdb": "gdb_sessions", "shuffles": "shuffles", "course": "course",
 }

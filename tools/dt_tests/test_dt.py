@@ -13,12 +13,12 @@ from dt_commands.repository import TOP
 
 PARTS = {
     "check": ["sources", "clauses", "layers", "pages", "samples", "pictures", "c-samples", "c-functions"],
-    "test": ["c-samples", "guest", "manual", "c-page", "real", "openmp", "nptl", "timeline", "kit"],
+    "test": ["c-samples", "guest", "manual", "c-page", "real", "openmp", "nptl", "timeline", "kit", "package", "build-tools", "course"],
     "sweep": ["memory", "changes", "floats"],
-    "measure": ["workers", "c-samples", "library", "debugger"],
-    "write": ["pages", "samples", "pictures", "c-samples", "c-functions"],
+    "measure": ["workers", "c-samples", "library", "debugger", "start"],
+    "write": ["pages", "samples", "pictures", "c-samples", "c-functions", "course"],
 }
-ALONE = ["mutants", "digest", "picture", "build", "release", "install", "packages", "self-test"]
+ALONE = ["mutants", "digest", "picture", "build", "release", "install", "package", "packages", "self-test"]
 
 
 LOADER = importlib.machinery.SourceFileLoader("dt", f"{TOP}/tools/dt")

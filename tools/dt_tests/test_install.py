@@ -4,9 +4,12 @@ import os
 import re
 import shutil
 import subprocess
+import sys
+import tempfile
 import unittest
+from unittest import mock
 
-from dt_commands import install, installed_pages, man_page, release
+from dt_commands import install, installed_pages, man_page, release, tool_pages
 from dt_commands.repository import TOP
 from dt_commands.texts import read_text, write_file
 from rooms import WithRoom, data
@@ -32,8 +35,54 @@ class ManPage(unittest.TestCase):
 
     @unittest.skipUnless(shutil.which("groff"), "groff is missing")
     def test_groff_has_no_warning(self):
-        ran = subprocess.run(["groff", "-man", "-ww", "-Tutf8", "-z", f"{TOP}/man/dthreads.1"], stderr=subprocess.PIPE)
-        self.assertEqual(ran.stderr, b"")
+        pages = glob.glob(f"{TOP}/man/*.1")
+        self.assertEqual(len(pages), 1 + len(tool_pages.COMMANDS))
+        for page in pages:
+            ran = subprocess.run(["groff", "-man", "-ww", "-Tutf8", "-z", page], stderr=subprocess.PIPE)
+            self.assertEqual(ran.stderr, b"", page)
+
+
+HELP = """Runs one: it ends:
+
+    one FILE
+    one --all
+
+It is two. The words:
+
+    --all=N     the whole,
+                of N
+    --some      a part: more
+
+    as it is
+"""
+
+
+class ToolPages(unittest.TestCase):
+    def test_usage_paragraphs_options_and_blocks(self):
+        with mock.patch.object(tool_pages, "help_of", lambda _: HELP):
+            page = tool_pages.page("dthreads-exec")
+        self.assertIn("dthreads\\-exec \\- runs one: it ends\n.SH SYNOPSIS\none FILE\n.br\none \\-\\-all\n.SH DESCRIPTION\n.PP\nIt is two. The words:\n", page)
+        self.assertIn(".TP\n\\fB\\-\\-all=N\\fR\nthe whole, of N\n.TP\n\\fB\\-\\-some\\fR\na part: more\n", page)
+        self.assertIn(".nf\n.RS 4\nas it is\n.RE\n.fi\n.SH SEE ALSO\n\\fBdthreads\\fR(1),\n", page)
+
+    def test_each_commands_help_is_its_own_and_needs_no_compiler(self):
+        for name in tool_pages.COMMANDS:
+            ran = subprocess.run([f"{TOP}/guest/{name}", "--help"], env={"PATH": self.without_compiler()}, stdout=subprocess.PIPE, text=True)
+            self.assertEqual((ran.returncode, name in ran.stdout, "Usage:" in ran.stdout), (0, True, False), name)
+
+    def without_compiler(self):
+        """Returns a folder with the host's commands that such a help needs."""
+        room = tempfile.TemporaryDirectory()
+        self.addCleanup(room.cleanup)
+        for it in ("bash", "dirname", "env", "python3", "readlink", "sed"):
+            os.symlink(sys.executable if it == "python3" else shutil.which(it), f"{room.name}/{it}")
+        return room.name
+
+    def test_bash_completes_options_and_files(self):
+        text = f". {TOP}/{tool_pages.BASH}; cd {TOP}; COMP_WORDS=(guest/dthreads-exec \"$1\"); COMP_CWORD=1; _dthreads_tools; echo \"${{COMPREPLY[*]}}\""
+        for word, wanted in (("--se", "--seed"), ("--sh", "--shuffle"), ("README", "README.md"), ("--none", "")):
+            ran = subprocess.run(["bash", "-c", text, "bash", word], stdout=subprocess.PIPE, text=True)
+            self.assertEqual(ran.stdout, f"{wanted}\n")
 
 
 README = data("readme.md")
@@ -81,6 +130,13 @@ class OfACopy(WithRoom):
         self.assertEqual(ran.returncode, 0, ran.stderr)
         return ran.stderr
 
+    def take_library(self):
+        """Gives the copy the checkout's own C library, which is built if it isn't there: the next call of these tests has it then."""
+        ran = subprocess.run([f"{TOP}/guest/dthreads-cc", "--library"], stdout=subprocess.PIPE, stderr=subprocess.DEVNULL, text=True)
+        if ran.returncode == 0:
+            os.makedirs(f"{self.copy}/guest/out")
+            shutil.copy2(f"{ran.stdout.strip()}/libdthreads.a", f"{self.copy}/{install.LIBRARY}")
+
     def share(self, file):
         return f"{self.prefix}/share/dthreads/{file}"
 
@@ -114,6 +170,42 @@ class Library(OfACopy):
             self.assertEqual(it.read(8), b"!<arch>\n")
 
 
+@unittest.skipUnless(shutil.which("dpkg-deb"), "dpkg-deb is missing")
+class Packaged(OfACopy):
+    """What the Debian package has, unpacked elsewhere. tools/dt test package installs it."""
+
+    def setUp(self):
+        super().setUp()
+        self.take_library()
+
+    def test_it_has_what_is_installed_in_debians_places(self):
+        said = subprocess.run([f"{self.copy}/tools/dt", "package", self.room], stdout=subprocess.PIPE, check=True, text=True).stdout
+        file = f"{self.room}/dthreads_0.1.0_amd64.deb"
+        self.assertRegex(said, f"^{file}: [0-9,]+ bytes; apt-get install {file}\n$")
+        subprocess.run(["dpkg-deb", "--extract", file, self.prefix], check=True)
+        ran = subprocess.run([f"{self.prefix}/usr/bin/dthreads", "--version"], stdout=subprocess.PIPE, check=True, text=True)
+        self.assertEqual(ran.stdout, "dthreads 0.1.0\n")
+        for it in ("zsh/vendor-completions/_dthreads", "bash-completion/completions/dthreads", "man/man1/dthreads.1.gz", "doc/dthreads/copyright",
+                   "man/man1/dthreads-exec.1.gz", "bash-completion/completions/dthreads-gdb", "zsh/vendor-completions/_dthreads-tools"):
+            self.assertTrue(os.path.isfile(f"{self.prefix}/usr/share/{it}"), it)
+        self.assertEqual(sorted(os.listdir(f"{self.prefix}/usr")), ["bin", "share"])
+        self.assertEqual(glob.glob(f"{self.prefix}/**/__pycache__", recursive=True), [])
+        self.has_fields(file)
+
+    def has_fields(self, file):
+        """Looks at the fields of the package: they name the compiler and its size."""
+        told = subprocess.run(["dpkg-deb", "--field", file], stdout=subprocess.PIPE, check=True, text=True).stdout
+        for it in ("gcc-riscv64-unknown-elf", "binutils-riscv64-unknown-elf", "picolibc-riscv64-unknown-elf", "1.2 GB"):
+            self.assertIn(it, told)
+        self.assertRegex(told, r"(?m)^Architecture: amd64$")
+
+    def test_without_a_program_there_is_no_package(self):
+        os.remove(f"{self.copy}/{release.FILE}")
+        ran = subprocess.run([f"{self.copy}/tools/dt", "package", self.room], stdout=subprocess.PIPE, stderr=subprocess.PIPE, text=True)
+        self.assertEqual((ran.returncode, glob.glob(f"{self.room}/*.deb")), (1, []))
+        self.assertIn("there is no program of these sources", ran.stderr)
+
+
 class Installed(OfACopy):
     """What is installed from a copy of the checkout; then the copy goes, and the prefix is moved."""
 
@@ -124,13 +216,6 @@ class Installed(OfACopy):
         shutil.rmtree(self.copy)
         first, self.prefix = self.prefix, f"{self.prefix}-moved"
         os.rename(first, self.prefix)
-
-    def take_library(self):
-        """Gives the copy the checkout's own C library, which is built if it isn't there: the next call of these tests has it then."""
-        ran = subprocess.run([f"{TOP}/guest/dthreads-cc", "--library"], stdout=subprocess.PIPE, stderr=subprocess.DEVNULL, text=True)
-        if ran.returncode == 0:
-            os.makedirs(f"{self.copy}/guest/out")
-            shutil.copy2(f"{ran.stdout.strip()}/libdthreads.a", f"{self.copy}/{install.LIBRARY}")
 
     def called(self, *words, **how):
         environment = {**os.environ, "PATH": f"{self.prefix}/bin:{os.environ['PATH']}"}

@@ -57,14 +57,14 @@ class Completions(unittest.TestCase):
         self.assertEqual(completed("dthreads", "re"), ["replay"])
         self.assertEqual(completed("dthreads", "run", "--tr"), ["--trace"])
         self.assertEqual(completed("dthreads", "debug", "--t"), ["--turn"])
-        self.assertEqual(completed("dthreads", "run", "--trace", "dth"), ["dthreads.1"])
+        self.assertEqual(completed("dthreads", "run", "--trace", "dthreads."), ["dthreads.1"])
         self.assertEqual(completed("dthreads", "run", "--workers", ""), [])
         self.assertEqual(completed("dthreads", "replay", "--sh"), ["--shuffle"])
         self.assertEqual(completed("dthreads", "run", "--shuffle", ""), [])
         self.assertEqual(completed("dthreads", "explore", "--sa"), ["--same"])
         self.assertEqual(completed("dthreads", "explore", "--runs", ""), [])
-        self.assertEqual(completed("dthreads", "explore", "--same", "dth"), ["dthreads.1"])
-        self.assertEqual(completed("dthreads", "disasm", "dth"), ["dthreads.1"])
+        self.assertEqual(completed("dthreads", "explore", "--same", "dthreads."), ["dthreads.1"])
+        self.assertEqual(completed("dthreads", "disasm", "dthreads."), ["dthreads.1"])
 
     def test_a_text_with_marks_is_one_word_of_zsh(self):
         self.assertEqual(completions.quoted("a'b"), "'a'\\''b'")

@@ -2,7 +2,7 @@
 import tempfile
 import unittest
 
-from dt_commands import changes, crate_pages, definitions, page_links, pages, uncontracted
+from dt_commands import c_page, changes, course, crate_pages, definitions, page_links, pages, uncontracted
 from dt_commands.texts import write_file
 from rooms import data
 
@@ -25,6 +25,29 @@ class Definitions(unittest.TestCase):
     def test_names_behind_an_alias(self):
         found = definitions.used("nat_le 1 limit.workers", {}, {"limit": ("abi", "specs", "Limits")}, {}, None)
         self.assertEqual(found, {(("abi", "specs", "Limits"), "workers")})
+
+
+PAGE = """# One
+
+```
+above
+$ echo one
+old
+$ echo two
+$ echo three
+more
+```
+
+Text.
+"""
+
+
+class Transcripts(unittest.TestCase):
+    def test_what_commands_print_replaces_what_the_page_has(self):
+        got = ["$ echo one", "one", "$ echo two", "two", "2", "$ echo three", "three"]
+        wanted = PAGE.replace("old\n", "one\n").replace("two\n", "two\ntwo\n2\n").replace("more\n", "three\n")
+        self.assertEqual(course.rewritten(PAGE, got), wanted)
+        self.assertEqual(course.rewritten(wanted, c_page.shown_in(wanted)), wanted)
 
 
 class Tables(unittest.TestCase):

@@ -9,7 +9,7 @@ import unittest
 
 from dt_commands import built_from, executable, release
 from dt_commands.repository import TOP
-from dt_commands.texts import write_file
+from dt_commands.texts import read_text, write_file
 from rooms import WithRoom
 
 CRATES = """# Each crate, and what it stands on.
@@ -22,7 +22,9 @@ alone:
 FILES = ("low/src/lib.rt", "low/specs/Lib.antt", "high/src/lib.rt", "high/proofs/one/Proof.antt", "command/src/main.rt", "tests/src/lib.rt")
 BUILT, RELEASED = "crates/command/out/command", release.FILE
 # All that ./dthreads needs of the machine if it has a release to start.
-NEEDED = "awk bash cat dirname find grep ln readlink sed sha256sum sh sort xargs".split()
+NEEDED = "awk bash cat cmp dirname find grep ln mkdir mktemp mv readlink rm sed sha256sum sh sort stat xargs".split()
+# How many seconds old the last change is from which on a choice is kept.
+SETTLED = 2.1
 # An ELF file with one program header, a segment of 8 bytes, and a section header behind it.
 ELF = bytearray(64 + 56 + 8 + 64)
 ELF[:6] = executable.MAGIC
@@ -226,8 +228,8 @@ class Releases(Tree):
         self.assertFalse(release.is_built(self.top))
 
 
-class Choices(Tree):
-    """Which program ./dthreads starts. The programs, rt and the build are scripts that say what they are."""
+class Started(Tree):
+    """A checkout whose ./dthreads is started. The programs, rt and the build are scripts that say what they are."""
 
     def setUp(self):
         super().setUp()
@@ -250,12 +252,16 @@ class Choices(Tree):
     def release(self, version="kit 1"):
         self.program(RELEASED, release.RECORD, version)
 
-    def started(self, *words, script=None, has_rt=True, folder="/"):
+    def started(self, *words, script=None, has_rt=True, folder="/", **more):
         path = f"{self.path}:{self.top}/needed" if has_rt else f"{self.top}/needed"
         how = {"stdout": subprocess.PIPE, "stderr": subprocess.PIPE, "universal_newlines": True, "env": {"PATH": path}, "cwd": folder}
-        ran = subprocess.run([script or f"{self.top}/dthreads", *words], **how)
+        ran = subprocess.run([script or f"{self.top}/dthreads", *words], **how, **more)
         self.said, self.status = ran.stderr, ran.returncode
         return ran.stdout.strip()
+
+
+class Choices(Started):
+    """Which program ./dthreads starts."""
 
     def test_the_program_built_here_comes_first_and_then_the_release(self):
         self.release()
@@ -319,3 +325,133 @@ class Choices(Tree):
         os.symlink(f"{self.top}/dthreads", f"{self.top}/bin/other")
         self.assertEqual(self.started("run", script=f"{self.top}/bin/other", folder=self.path), f"{RELEASED} run")
         self.assertEqual(self.started("run", script="./dthreads", folder=self.top), f"{RELEASED} run")
+
+
+class KeptChoices(Started):
+    """Which program ./dthreads starts if a choice is kept: the release, of sources that settled. sha256sum says when it is called."""
+
+    BUILDS, CHANGED = "tools/dt build --start", "crates/low/src/lib.rt"
+
+    def setUp(self):
+        super().setUp()
+        self.sums = f"{self.top}/sums"
+        os.remove(f"{self.top}/needed/sha256sum")
+        counting = f'#!/bin/sh\n{{ echo >>{self.sums}; }} 2>/dev/null\nexec {shutil.which("sha256sum")} "$@"\n'
+        self.write("needed/sha256sum", counting, 0o755)
+        self.release()
+        self.keep()
+
+    def keep(self):
+        """Starts the program, and has the choice kept."""
+        time.sleep(SETTLED)
+        self.assertEqual(self.chosen(), (RELEASED, True))
+
+    def chosen(self, **how):
+        """Returns what is started, and whether the sources were summed for it."""
+        if os.path.exists(self.sums):
+            os.remove(self.sums)
+        return self.started(**how), os.path.exists(self.sums)
+
+    def put(self, file, text):
+        """Writes a file, which keeps its time, if it is there."""
+        path = f"{self.top}/{file}"
+        was = os.stat(path) if os.path.exists(path) else None
+        self.write(file, text)
+        if was:
+            os.utime(path, ns=(was.st_atime_ns, was.st_mtime_ns))
+
+    def test_a_choice_is_taken_without_sums_until_something_changes(self):
+        self.assertEqual([self.chosen() for _ in range(2)], [(RELEASED, False)] * 2)
+        os.symlink(f"{self.top}/dthreads", f"{self.top}/bin/other")
+        self.assertEqual(self.chosen(script=f"{self.top}/bin/other", folder=self.path), (RELEASED, False))
+        self.assertEqual(self.chosen(script="./dthreads", folder=self.top), (RELEASED, False))
+
+    def test_a_change_is_seen_with_the_same_size_and_time(self):
+        self.put(self.CHANGED, "//! low/src/lib.rx\n")
+        self.assertEqual(self.chosen(), (self.BUILDS, True))
+        self.put(self.CHANGED, "//! low/src/lib.rt\n")
+        self.assertEqual(self.chosen(), (RELEASED, True))
+
+    def test_a_file_in_the_place_of_another_is_seen(self):
+        path, was = f"{self.top}/{self.CHANGED}", os.stat(f"{self.top}/{self.CHANGED}")
+        self.write("other", "//! low/src/lib.rx\n")
+        os.utime(f"{self.top}/other", ns=(was.st_atime_ns, was.st_mtime_ns))
+        os.replace(f"{self.top}/other", path)
+        self.assertEqual(self.chosen(), (self.BUILDS, True))
+
+    def test_added_and_removed_files_are_seen(self):
+        for file in ("crates/low/src/new.rt", "crates/high/proofs/one/two/New.antt", "crates/low/proofs/New.antt"):
+            self.write(file, "")
+            self.assertEqual(self.chosen(), (self.BUILDS, True), file)
+            os.remove(f"{self.top}/{file}")
+            self.assertEqual(self.chosen(), (RELEASED, True), file)
+        os.remove(f"{self.top}/{self.CHANGED}")
+        self.assertEqual(self.chosen(), (self.BUILDS, True))
+
+    def test_a_clock_that_was_set_back_hides_nothing(self):
+        self.write(self.CHANGED, "//! low/src/lib.rx\n")
+        os.utime(f"{self.top}/{self.CHANGED}", (1, 1))
+        self.assertEqual(self.chosen(), (self.BUILDS, True))
+        self.write("crates.txt", CRATES.replace("high: low ", "high:     "))
+        os.utime(f"{self.top}/crates.txt", (1, 1))
+        self.assertEqual(self.chosen(), (self.BUILDS, True))
+
+    def test_a_choice_of_another_clone_is_none_of_this_one(self):
+        other = f"{self.top}-other"
+        self.addCleanup(shutil.rmtree, other)
+        self.put(self.CHANGED, "//! low/src/lib.rx\n")
+        shutil.copytree(self.top, other, symlinks=True)
+        self.assertTrue(os.path.exists(f"{other}/out/start/told"))
+        self.assertEqual(self.chosen(script=f"{other}/dthreads"), (self.BUILDS, True))
+
+    def test_a_clone_that_cannot_be_written_has_no_choice_of_its_own(self):
+        for keeps in ("choice", "told"):
+            os.remove(f"{self.top}/out/start/{keeps}")
+        os.rmdir(f"{self.top}/out/start")
+        self.write("out/start", "no folder\n")
+        self.assertEqual([self.chosen() for _ in range(2)], [(RELEASED, True)] * 2)
+        self.assertEqual((self.said, self.status), ("", 0))
+        self.put(self.CHANGED, "//! low/src/lib.rx\n")
+        self.assertEqual(self.chosen(), (self.BUILDS, True))
+
+    @unittest.skipIf(os.getuid(), "only root may become another user")
+    def test_another_user_takes_the_choice_and_cannot_change_it(self):
+        os.chmod(os.path.dirname(self.top), 0o755)
+        nobody = lambda: os.setuid(65534)
+        self.assertEqual(self.chosen(preexec_fn=nobody), (RELEASED, False))
+        os.utime(f"{self.top}/{self.CHANGED}")
+        time.sleep(SETTLED)
+        self.assertEqual([self.started(preexec_fn=nobody) for _ in range(2)], [RELEASED] * 2)
+        self.assertEqual((self.said, self.status), ("", 0))
+        self.assertEqual(self.chosen(), (RELEASED, True))
+
+    def test_a_choice_just_after_a_change_is_not_kept(self):
+        path, begun = f"{self.top}/{self.CHANGED}", time.time()
+        os.utime(path)
+        self.assertEqual(self.chosen(), (RELEASED, True))
+        is_kept = str(os.stat(path).st_mtime_ns)[-9:] in read_text(f"{self.top}/out/start/told")
+        # (on a machine so busy that the call lasted a second, the change was no longer new)
+        self.assertFalse(is_kept and time.time() - begun < 1)
+
+    def test_a_change_during_the_sums_is_not_a_part_of_the_choice(self):
+        path = f"{self.top}/{self.CHANGED}"
+        os.utime(path)
+        self.write("needed/sha256sum", f'#!/bin/sh\n{shutil.which("sha256sum")} "$@"\necho "//! low/src/lib.rx" >{path}\n', 0o755)
+        time.sleep(SETTLED)
+        self.assertEqual(self.started(), RELEASED)
+        self.assertEqual(self.started(), self.BUILDS)
+
+    def test_other_programs_are_seen(self):
+        self.put(RELEASED, "#!/bin/sh\necho another\n")
+        self.assertEqual(self.chosen(), ("another", True))
+        self.build()
+        self.assertEqual(self.chosen(), (BUILT, True))
+        shutil.rmtree(f"{self.top}/crates/command/out")
+        self.write(RELEASED, "#!/bin/sh\nexit 1\n", 0o755)
+        self.assertEqual(self.chosen(), (self.BUILDS, True))
+
+    def test_what_is_left_of_a_choice_is_none(self):
+        for texts in (("", ""), (f"{RELEASED}\0", "1\n"), (f"{RELEASED}\0", ""), ("none\0", "1\n")):
+            for name, text in zip(("choice", "told"), texts):
+                self.write(f"out/start/{name}", text)
+            self.assertEqual(self.chosen(), (RELEASED, True), texts)

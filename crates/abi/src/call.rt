@@ -1,4 +1,10 @@
 //! The calls of a guest thread with their arguments, as plain data.
+ghost use Rattle.std.specs.Prelude.{◌≡◌, IsTrue};
+ghost use Rattle.abi.specs.Calls.{is_use_of, joined_in, kind_in, memory_use, touched_in};
+
+use crate::call_kind::CallKind;
+use crate::touched::Touched;
+
 /// A call, as the registers of a hart at an ecall name it: the number stands in x17, the arguments in x10,
 /// x11 and x12. Arguments are any words: their ranges are looked at when the call is carried out.
 #[derive(Clone, Copy, Debug, PartialEq, Eq)]
@@ -72,4 +78,79 @@ pub enum Call {
     Unknown {
         number: u32,
     },
+}
+
+impl Call {
+    /// Its kind, none if the call table hasn't it.
+    pub fn kind(self) -> Option<CallKind>
+        ensures { result ≡ kind_in self }
+    {
+        match self {
+            Call::Exit { .. } => Some(CallKind::Exit),
+            Call::ThreadExit { .. } => Some(CallKind::ThreadExit),
+            Call::Create { .. } => Some(CallKind::Create),
+            Call::Join { .. } => Some(CallKind::Join),
+            Call::Lock { .. } => Some(CallKind::Lock),
+            Call::Unlock { .. } => Some(CallKind::Unlock),
+            Call::Wait { .. } => Some(CallKind::Wait),
+            Call::Signal { .. } => Some(CallKind::Signal),
+            Call::Broadcast { .. } => Some(CallKind::Broadcast),
+            Call::Barrier { .. } => Some(CallKind::Barrier),
+            Call::Write { .. } => Some(CallKind::Write),
+            Call::Read { .. } => Some(CallKind::Read),
+            Call::Memory { .. } => Some(CallKind::Memory),
+            Call::Sync => Some(CallKind::Sync),
+            Call::Release { .. } => Some(CallKind::Release),
+            Call::Unknown { .. } => None,
+        }
+    }
+
+    /// The bytes of the guest's memory that it loads or stores at most.
+    pub fn touched(self) -> Touched
+        ensures touched { result ≡ touched_in self }
+        ensures table { IsTrue (is_use_of result (memory_use (kind_in self))) }
+    {
+        match self {
+            Call::Write { address, length } => Touched::Loads { address, length },
+            Call::Read { address, length } => Touched::Stores { address, length },
+            Call::Exit { .. }
+            | Call::ThreadExit { .. }
+            | Call::Create { .. }
+            | Call::Join { .. }
+            | Call::Lock { .. }
+            | Call::Unlock { .. }
+            | Call::Wait { .. }
+            | Call::Signal { .. }
+            | Call::Broadcast { .. }
+            | Call::Barrier { .. }
+            | Call::Memory { .. }
+            | Call::Sync
+            | Call::Release { .. }
+            | Call::Unknown { .. } => Touched::Nothing,
+        }
+    }
+
+    /// The thread whose end it waits for, none if it waits for no thread's.
+    pub fn joined(self) -> Option<u32>
+        ensures { result ≡ joined_in self }
+    {
+        match self {
+            Call::Join { thread } => Some(thread),
+            Call::Exit { .. }
+            | Call::ThreadExit { .. }
+            | Call::Create { .. }
+            | Call::Lock { .. }
+            | Call::Unlock { .. }
+            | Call::Wait { .. }
+            | Call::Signal { .. }
+            | Call::Broadcast { .. }
+            | Call::Barrier { .. }
+            | Call::Write { .. }
+            | Call::Read { .. }
+            | Call::Memory { .. }
+            | Call::Sync
+            | Call::Release { .. }
+            | Call::Unknown { .. } => None,
+        }
+    }
 }

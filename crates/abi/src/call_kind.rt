@@ -1,7 +1,9 @@
 //! The kinds of calls: the number and the name of each, and the kind of a number. Takes no memory.
 ghost use Rattle.std.specs.Prelude.{◌≡◌, Some};
-ghost use Rattle.abi.specs.Calls.{number_of, name_of, kind_of};
+ghost use Rattle.abi.specs.Calls.{fate_of, is_run_end, number_of, name_of, kind_of};
 ghost use Rattle.abi.specs.Calls as spec;
+
+use crate::memory_use::MemoryUse;
 
 /// Which call of the call table a call is, without its arguments.
 #[derive(Clone, Copy, Debug, PartialEq, Eq)]
@@ -92,10 +94,34 @@ impl CallKind {
     }
 
     /// Whether the call with a number ends the run: exit alone does.
+    #[tactic(auto, unfolding(crate::specs::Calls::kind_of))]
     pub fn ends_run(number: u32) -> bool
-        ensures { result ≡ spec.ends_run number }
+        ensures number { result ≡ spec.ends_run number }
+        ensures fate { result ≡ is_run_end (fate_of (kind_of number)) }
     {
         number == CallKind::Exit.number()
+    }
+
+    /// What it does in the guest's memory.
+    pub fn memory_use(self) -> MemoryUse
+        ensures { result ≡ (spec.row_of self).memory }
+    {
+        match self {
+            CallKind::Write => MemoryUse::Loads,
+            CallKind::Read => MemoryUse::Stores,
+            CallKind::Memory | CallKind::Release => MemoryUse::Maps,
+            CallKind::Exit
+            | CallKind::ThreadExit
+            | CallKind::Create
+            | CallKind::Join
+            | CallKind::Lock
+            | CallKind::Unlock
+            | CallKind::Wait
+            | CallKind::Signal
+            | CallKind::Broadcast
+            | CallKind::Barrier
+            | CallKind::Sync => MemoryUse::Unused,
+        }
     }
 
     /// Its name in a trace.

@@ -17,8 +17,8 @@ use Rattle.condvar_barrier.specs.Objects.{ObjectState, is_waiting, with_waiter, 
 use Rattle.condvar_barrier.specs.Objects as objects
 use Rattle.condvar_barrier.specs.Rows as row
 use Rattle.condvar_barrier.specs.Rows.{Outcome}
-use Rattle.condvar_barrier.specs.declared.place.Place.{Place}
-use Rattle.condvar_barrier.specs.declared.place.Place.TheVariants.{Condition, Barrier}
+use Rattle.condvar_barrier.specs.declared.wait_place.WaitPlace.{WaitPlace}
+use Rattle.condvar_barrier.specs.declared.wait_place.WaitPlace.TheVariants.{Condition, Barrier}
 use Rattle.condvar_barrier.specs.declared.waiter.Waiter.{Waiter}
 use Rattle.condvar_barrier.specs.declared.woken.Woken.{Woken as WokenThread}
 use Rattle.thread_table.specs.Thread.{blank, started, is_joiner_of, is_join_of, let_go}
@@ -149,7 +149,7 @@ module _ (state : State) (thread : ℕ) where
           };
         }
 
-    fine-waits : (own : Thread) → slice_get state.threads thread ≡ Some own → is_join (call_of own.hart) ≡ false → (holders : List (Option ℕ)) (place : Place)
+    fine-waits : (own : Thread) → slice_get state.threads thread ≡ Some own → is_join (call_of own.hart) ≡ false → (holders : List (Option ℕ)) (place : WaitPlace)
         → IsFineOutcome (row.replied Waits (with_waiter (record state.objects { holders = holders }) thread place))
     unfolding let_pass wake_up with_waiter are_parked
     fine-waits own is no_join holders place =

@@ -1,8 +1,8 @@
 -- What holds of the threads that wait at objects.
-use Rattle.std.specs.Prelude.{Bool, true, false, not, ◌&&◌, Option, Some, None, List, slice_get}
+use Rattle.std.specs.Prelude.{Bool, false, not, ◌&&◌, Option, Some, None, is_some, List, slice_get}
 use Rattle.std.specs.List.{list_all}
+use Rattle.abi.specs.Calls.{joined_in}
 use Rattle.abi.specs.declared.call.Call.{Call}
-use Rattle.abi.specs.declared.call.Call.TheVariants.{Join}
 use Rattle.ecalls.specs.Request.{call_of}
 use Rattle.thread_table.specs.Status.{is_blocked}
 use Rattle.thread_table.specs.declared.thread.Thread.{Thread}
@@ -10,8 +10,7 @@ use Rattle.condvar_barrier.specs.declared.waiter.Waiter.{Waiter}
 
 -- whether a call is a join
 abbrev pub is_join : Call → Bool
-is_join (Join thread) = true
-is_join _ = false
+is_join call = is_some (joined_in call)
 
 -- whether a thread is blocked, and not at a join
 abbrev pub waits_at_object : Thread → Bool

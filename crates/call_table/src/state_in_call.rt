@@ -44,6 +44,7 @@ pub(crate) struct StateInCall {
 
 impl StateInCall {
     ghost use Rattle.std.specs.Prelude.{◌≡◌, ◌<◌, true, IfOk, IsOk, length};
+    ghost use Rattle.abi.specs.Calls.{fate_of, kind_in, may_reply};
     ghost use Rattle.ecalls.specs.Request.{call_of};
     ghost use Rattle.thread_table.specs.declared.status.Status.TheVariants.{Woken};
     ghost use Rattle.call_table.specs.Effects.{effect, settled};
@@ -81,6 +82,8 @@ impl StateInCall {
     pub(crate) fn call(&mut self, thread: u32) -> Result<Reply, AllocError>
         requires { MayTakeTurn self.old thread }
         ensures settles { Settles result self.old thread (called (state_in self.old) thread) self.new }
+        ensures fate { IfOk result (λ reply.
+            may_reply (fate_of (kind_in (call_of (row_of (state_in self.old) thread).hart))) reply ≡ true) }
         ensures succeeds { HasRoom self.old.output (call_of (row_of (state_in self.old) thread).hart) → IsOk result }
     {
         prove!((thread as usize) < self.threads.len());

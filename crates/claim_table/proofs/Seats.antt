@@ -9,8 +9,8 @@ use mathlib.Core.Logic.{dite}
 use native.Mathlib.Decide.{ℕ_discrete}
 use Rattle.atomic_table.specs.Table.{Me}
 use Rattle.claim_table.specs.declared.log.Log.{Log}
-use Rattle.claim_table.specs.declared.view.View.{View}
-use Rattle.claim_table.specs.declared.marks.TheConstants.{JOBS}
+use Rattle.claim_table.specs.declared.seat_view.SeatView.{SeatView}
+use Rattle.claim_table.specs.declared.job_set.TheConstants.{JOBS}
 use Rattle.claim_table.specs.Logs.{times, one_if, new_log, with_drawn, with_end, with_noted, with_seen}
 use Rattle.claim_table.specs.Seat.{AreMarks, IsSeat, Done, done, ascending, members}
 use Rattle.claim_table.proofs.Lists.{filter_same}
@@ -38,7 +38,7 @@ marked marks numbers new long are number below =
     (λ (other : number ≢ new). let none = none_here new number other in let e : times number numbers ≡ times number (numbers ++ new ∷ []) = omega arith in
     get_or-set_other marks new number true false other ∙ are number below ∙ ap (λ (k : ℕ). nat_lt 0 k) e)
 
-pub seat_new : {S : Type 0} (me : Me S View) (own : ℕ) → me.1 ≡ [] → me.0.log ≡ new_log 1 → own < me.0.size.seats → IsSeat me own [] (replicate JOBS false) (replicate JOBS false) false
+pub seat_new : {S : Type 0} (me : Me S SeatView) (own : ℕ) → me.1 ≡ [] → me.0.log ≡ new_log 1 → own < me.0.size.seats → IsSeat me own [] (replicate JOBS false) (replicate JOBS false) false
 seat_new me own slots is below = record {
   slots = slots;
   numbered = below;
@@ -52,10 +52,10 @@ seat_new me own slots is below = record {
   room = (length-replicate JOBS false, length-replicate JOBS false);
 }
 
-module _ {S : Type 0} {own : ℕ} (me new : Me S View) (drawn : List ℕ) (noted seen : List Bool) (ended : Bool) (was : IsSeat me own drawn noted seen ended) (slots : new.1 ≡ me.1) where
+module _ {S : Type 0} {own : ℕ} (me new : Me S SeatView) (drawn : List ℕ) (noted seen : List Bool) (ended : Bool) (was : IsSeat me own drawn noted seen ended) (slots : new.1 ≡ me.1) where
   with_log : (log : Log) → new.0 ≡ record me.0 { log = log } → (drawn' : List ℕ) (noted' seen' : List Bool) (ended' : Bool)
       → IsSeat {S = S} (record me.0 { log = log }, me.1) own drawn' noted' seen' ended' → IsSeat new own drawn' noted' seen' ended'
-  with_log log is drawn' noted' seen' ended' fits = subst (λ (m : Me S View). IsSeat m own drawn' noted' seen' ended') (λ i. (sym is i, sym slots i)) fits
+  with_log log is drawn' noted' seen' ended' fits = subst (λ (m : Me S SeatView). IsSeat m own drawn' noted' seen' ended') (λ i. (sym is i, sym slots i)) fits
 
   pub seat_drew : (number : ℕ) → new.0 ≡ record me.0 { log = with_drawn me.0.log number } → number < me.0.size.jobs → IsSeat new own (drawn ++ number ∷ []) noted seen ended
   seat_drew number is below = with_log (with_drawn me.0.log number) is _ _ _ _ (record {
@@ -123,7 +123,7 @@ listed marks numbers are = filter_same (λ number. slice_index_or marks number f
 abbrev typed : Done → Done
 typed what = what
 
-pub seat_done : {S : Type 0} {own : ℕ} (me : Me S View) (drawn : List ℕ) (noted seen : List Bool) (ended : Bool) → IsSeat me own drawn noted seen ended
+pub seat_done : {S : Type 0} {own : ℕ} (me : Me S SeatView) (drawn : List ℕ) (noted seen : List Bool) (ended : Bool) → IsSeat me own drawn noted seen ended
     → typed (record { drawn = drawn; noted = members JOBS noted; seen = members JOBS seen; ended = ended }) ≡ done me.0.log
 seat_done me drawn noted seen ended is = rw (is.drawn_is, listed noted me.0.log.noted is.noted_is, listed seen me.0.log.seen is.seen_is, is.ended_is) (by ended)
   where

@@ -8,7 +8,7 @@ use Rattle.atomic_table.specs.Table.{State, Me, keeps, Allows, Splits, Joins, op
 use Rattle.atomic_table.proofs.Lists.{at_set, at_snoc, set_again}
 use Rattle.claim_table.specs.declared.log.Log.{Log}
 use Rattle.claim_table.specs.declared.size.Size.{Size}
-use Rattle.claim_table.specs.declared.view.View.{View}
+use Rattle.claim_table.specs.declared.seat_view.SeatView.{SeatView}
 use Rattle.claim_table.specs.Logs.{total, times, one_if, Tally, tally, new_log, with_drawn, with_end, with_noted, with_seen, both, IsSame}
 use Rattle.claim_table.specs.Draws.{AreDraws, IsDrawnOut}
 use Rattle.claim_table.specs.Rule.{logs, IsPart, IsKept}
@@ -116,23 +116,23 @@ sees_number jobs word0 word1 all more draws below drawn noted seen entries ended
       (λ (none : all.seen number ≤ 0). let is : word1 ≡ number = grind (arith, nat_tests) in let h : 0 < all.noted number = subst (λ (k : ℕ). 0 < all.noted k) is (draws.is_least (λ same. absurd (omega arith))) in omega arith) (cases_lt 0 (all.seen number));
 }
 
-abbrev Fits : Size → List View → Type 0
-Fits size views = (place : ℕ) (view : View) → get_elem? views place ≡ some view → IsPart size view
+abbrev Fits : Size → List SeatView → Type 0
+Fits size views = (place : ℕ) (view : SeatView) → get_elem? views place ≡ some view → IsPart size view
 
 -- a view changes, and each is still one of the row
-fits_set : (size : Size) (views : List View) (place : ℕ) (new : View) → Fits size views → IsPart size new → Fits size (set views place new)
+fits_set : (size : Size) (views : List SeatView) (place : ℕ) (new : SeatView) → Fits size views → IsPart size new → Fits size (set views place new)
 fits_set size views place new fits part j view at = ⊎_elim (λ (here : (j ≡ place) × (new ≡ view)). subst (IsPart size) here.1 part)
     (λ (there : (j ≢ place) × (get_elem? views j ≡ some view)). fits j view there.1) (at_set views place j new view at)
 
-fits_push : (size : Size) (views : List View) (new : View) → Fits size views → IsPart size new → Fits size (views ++ new ∷ [])
+fits_push : (size : Size) (views : List SeatView) (new : SeatView) → Fits size views → IsPart size new → Fits size (views ++ new ∷ [])
 fits_push size views new fits part j view at = ⊎_elim (λ (there : get_elem? views j ≡ some view). fits j view there) (λ (here : new ≡ view). subst (IsPart size) here part) (at_snoc views new view j at)
 
-fits_one : (size : Size) (view : View) → IsPart size view → Fits size (view ∷ [])
+fits_one : (size : Size) (view : SeatView) → IsPart size view → Fits size (view ∷ [])
 fits_one size view part zero other at = subst (IsPart size) (some-injective view other at) part
 fits_one size view part (suc place) other at = absurd (some-ne-none other (sym at))
 
 -- no more seats have ended than there are
-few_ended : (size : Size) (views : List View) → Fits size views → (tally (logs views)).ended ≤ total (λ log. log.seats) (logs views)
+few_ended : (size : Size) (views : List SeatView) → Fits size views → (tally (logs views)).ended ≤ total (λ log. log.seats) (logs views)
 few_ended size views fits = total_within (λ log. log.ended) (λ log. log.seats) views (λ place view at. (fits place view at).ended)
 
 -- word 0 has room for one more
@@ -140,11 +140,11 @@ room_above : (k : ℕ) → k ≤ 320 → (k + 1) % 2 ^ 64 ≡ k + 1
 room_above k small = grind arith
 
 -- A view at its place, and the same view with another log: what changes in the sums.
-module _ (views : List View) (id : ℕ) (old : View) (log : Log) (at : get_elem? views id ≡ some old) where
-  abbrev new : View
+module _ (views : List SeatView) (id : ℕ) (old : SeatView) (log : Log) (at : get_elem? views id ≡ some old) where
+  abbrev new : SeatView
   new = record old { log = log }
 
-  abbrev after : List View
+  abbrev after : List SeatView
   after = set views id new
 
   more : (count : Log → ℕ) (k : ℕ) → count log ≡ count old.log + k → total count (logs after) ≡ total count (logs views) + k
@@ -153,8 +153,8 @@ module _ (views : List View) (id : ℕ) (old : View) (log : Log) (at : get_elem?
   same : (count : Log → ℕ) → count log ≡ count old.log → total count (logs after) ≡ total count (logs views)
   same count e = let m : total count (logs after) ≡ total count (logs views) + 0 = more count 0 (omega arith) in omega arith
 
-module _ {S : Type 0} (size : Size) (slots id : ℕ) (me : Me S View) where
-  abbrev Kept : State S View → Type 0
+module _ {S : Type 0} (size : Size) (slots id : ℕ) (me : Me S SeatView) where
+  abbrev Kept : State S SeatView → Type 0
   Kept = IsKept size
 
   -- the part of a seat whose log changes
@@ -298,7 +298,7 @@ module _ {S : Type 0} (size : Size) (slots id : ℕ) (me : Me S View) where
         me.0,
         keeps,
         tt,
-        subst (λ (views : List View). IsKept size (record { words = set s.words 1 (get_or s.words 1 0); homes = s.homes; views = views })) (sym (set_again s.views id me.0 at)) (record {
+        subst (λ (views : List SeatView). IsKept size (record { words = set s.words 1 (get_or s.words 1 0); homes = s.homes; views = views })) (sym (set_again s.views id me.0 at)) (record {
           word0 = word0;
           word1 = word1;
           words = words;
@@ -323,15 +323,15 @@ module _ {S : Type 0} (size : Size) (slots id : ℕ) (me : Me S View) where
       (cases_lt word1 size.jobs)
 
 -- a view is parted from another, and together they are what it was
-part_sum : (views : List View) (id : ℕ) (old left right : View) → get_elem? views id ≡ some old → (count : Log → ℕ) → count left.log + count right.log ≡ count old.log
+part_sum : (views : List SeatView) (id : ℕ) (old left right : SeatView) → get_elem? views id ≡ some old → (count : Log → ℕ) → count left.log + count right.log ≡ count old.log
     → total count (logs (set views id left ++ right ∷ [])) ≡ total count (logs views)
 part_sum views id old left right at count e = let a = total_push count (set views id left) right in let b = total_set count views id old left at in omega arith
 
-pub parts_off : (S : Type 0) (size : Size) (id : ℕ) (view : View) → view.size ≡ size → 0 < view.log.seats → view.log ≡ new_log view.log.seats
+pub parts_off : (S : Type 0) (size : Size) (id : ℕ) (view : SeatView) → view.size ≡ size → 0 < view.log.seats → view.log ≡ new_log view.log.seats
     → Splits {S = S} (IsKept size) id view (record view { log = new_log (view.log.seats - 1) }) (record view { log = new_log 1 })
 parts_off S size id view size_is some_seat idle s kept at =
-    let left : View = record view { log = new_log (view.log.seats - 1) } in
-    let right : View = record view { log = new_log 1 } in
+    let left : SeatView = record view { log = new_log (view.log.seats - 1) } in
+    let right : SeatView = record view { log = new_log 1 } in
     let sum = part_sum s.views id view left right at in
     let drawn : view.log.drawn ≡ [] = ap (λ (l : Log). l.drawn) idle in
     let noted : view.log.noted ≡ [] = ap (λ (l : Log). l.noted) idle in
@@ -358,15 +358,15 @@ parts_off S size id view size_is some_seat idle s kept at =
     }
 
 -- two views are made one, and what they did together stays
-join_sum : (views : List View) (id other : ℕ) (old left whole rest : View) → get_elem? views id ≡ some old → get_elem? (set views id whole) other ≡ some left
+join_sum : (views : List SeatView) (id other : ℕ) (old left whole rest : SeatView) → get_elem? views id ≡ some old → get_elem? (set views id whole) other ≡ some left
     → (count : Log → ℕ) → count whole.log + count rest.log ≡ count old.log + count left.log → total count (logs (set (set views id whole) other rest)) ≡ total count (logs views)
 join_sum views id other old left whole rest at there count e = let a = total_set count views id old whole at in let b = total_set count (set views id whole) other left rest there in omega arith
 
-pub joins_on : (S : Type 0) (size : Size) (id other : ℕ) (view next : View) → 0 < view.log.seats
+pub joins_on : (S : Type 0) (size : Size) (id other : ℕ) (view next : SeatView) → 0 < view.log.seats
     → Joins {S = S} (IsKept size) id view other next (record view { log = both view.log next.log }) spent
 joins_on S size id other view next some_seat s kept at apart there =
-    let whole : View = record view { log = both view.log next.log } in
-    let after : List View = set (set s.views id whole) other spent in
+    let whole : SeatView = record view { log = both view.log next.log } in
+    let after : List SeatView = set (set s.views id whole) other spent in
     let sum = join_sum s.views id other view next whole spent at there in
     let mine : IsPart size view = kept.parts id view at in
     let before : get_elem? s.views other ≡ some next = ⊎_elim (λ (here : (other ≡ id) × (whole ≡ next)). absurd (apart here.0)) (λ (was : (other ≢ id) × (get_elem? s.views other ≡ some next)). was.1) (at_set s.views id other whole next there) in
@@ -397,7 +397,7 @@ joins_on S size id other view next some_seat s kept at apart there =
 -- a row on which nobody has stepped
 pub opens : (S : Type 0) (size : Size) → size.jobs ≤ 256 → size.seats ≤ 64 → IsKept {S = S} size (opening (0 ∷ size.jobs ∷ []) [] (record { size = size; log = new_log size.seats }))
 opens S size jobs seats =
-    let view : View = record { size = size; log = new_log size.seats } in
+    let view : SeatView = record { size = size; log = new_log size.seats } in
     let all : Tally = tally (view.log ∷ []) in
     let entries : all.entries ≡ 0 = total_one (λ log. length log.drawn) view.log in
     let ended : all.ended ≡ 0 = total_one (λ log. log.ended) view.log in
@@ -431,11 +431,11 @@ pub drawn_out : (jobs word0 word1 : ℕ) (all : Tally) → AreDraws jobs word0 w
 drawn_out jobs word0 word1 all draws ended number below = draws.each_once number ∙ once_out number word0 jobs below (draws.ended ended)
 
 -- where one view is that of every seat, the others have done nothing
-pub gathered : (S : Type 0) (size : Size) (s : State S View) (id : ℕ) (view : View) (all : Tally) (kept : IsKept size s) → get_elem? s.views id ≡ some view → view.log.seats ≡ size.seats → IsSame (tally (view.log ∷ [])) all
+pub gathered : (S : Type 0) (size : Size) (s : State S SeatView) (id : ℕ) (view : SeatView) (all : Tally) (kept : IsKept size s) → get_elem? s.views id ≡ some view → view.log.seats ≡ size.seats → IsSame (tally (view.log ∷ [])) all
     → AreDraws size.jobs kept.word0 kept.word1 all
 gathered S size s id view all kept at every same =
-    let alone : View = record view { log = new_log 0 } in
-    let others : List View = set s.views id alone in
+    let alone : SeatView = record view { log = new_log 0 } in
+    let others : List SeatView = set s.views id alone in
     let fits : Fits size others = fits_set size s.views id alone kept.parts (record { size_is = λ any. absurd (omega arith); ended = omega arith; idle = λ none. refl }) in
     let none : total (λ log. log.seats) (logs others) ≡ 0 = let e = total_set (λ log. log.seats) s.views id view alone at in let w = kept.whole in omega arith in
     let only = λ (count : Log → ℕ) (nothing : count (new_log 0) ≡ 0).

@@ -4,28 +4,28 @@ use Rattle.std.proofs.lemmas.Bool.Decides.{nat_tests}
 use mathlib.Core.Option.{some, some-injective, some-ne-none}
 use lib.ListN.{get_elem?}
 use Rattle.claim_table.specs.declared.log.Log.{Log}
-use Rattle.claim_table.specs.declared.view.View.{View}
+use Rattle.claim_table.specs.declared.seat_view.SeatView.{SeatView}
 use Rattle.claim_table.specs.Logs.{total, times, one_if}
 use Rattle.claim_table.specs.Rule.{logs}
 
-pub total_set : (count : Log → ℕ) (views : List View) (place : ℕ) (old new : View) → get_elem? views place ≡ some old
+pub total_set : (count : Log → ℕ) (views : List SeatView) (place : ℕ) (old new : SeatView) → get_elem? views place ≡ some old
     → total count (logs (set views place new)) + count old.log ≡ total count (logs views) + count new.log
 unfolding total
 total_set count [] place old new at = absurd (some-ne-none old (sym at))
-total_set count (x ∷ xs) zero old new at = let e : count x.log ≡ count old.log = ap (λ (v : View). count v.log) (some-injective x old at) in omega arith
+total_set count (x ∷ xs) zero old new at = let e : count x.log ≡ count old.log = ap (λ (v : SeatView). count v.log) (some-injective x old at) in omega arith
 total_set count (x ∷ xs) (suc place) old new at = let e = total_set count xs place old new at in omega arith
 
 -- the sum grows by what is counted more of the one view
-pub total_more : (count : Log → ℕ) (views : List View) (place : ℕ) (old new : View) (more : ℕ) → get_elem? views place ≡ some old → count new.log ≡ count old.log + more
+pub total_more : (count : Log → ℕ) (views : List SeatView) (place : ℕ) (old new : SeatView) (more : ℕ) → get_elem? views place ≡ some old → count new.log ≡ count old.log + more
     → total count (logs (set views place new)) ≡ total count (logs views) + more
 total_more count views place old new more at e = let t = total_set count views place old new at in omega arith
 
-pub total_push : (count : Log → ℕ) (views : List View) (new : View) → total count (logs (views ++ new ∷ [])) ≡ total count (logs views) + count new.log
+pub total_push : (count : Log → ℕ) (views : List SeatView) (new : SeatView) → total count (logs (views ++ new ∷ [])) ≡ total count (logs views) + count new.log
 unfolding total
 total_push count [] new = omega arith
 total_push count (x ∷ xs) new = let e = total_push count xs new in omega arith
 
-pub total_within : (a b : Log → ℕ) (views : List View) → ((place : ℕ) (view : View) → get_elem? views place ≡ some view → a view.log ≤ b view.log)
+pub total_within : (a b : Log → ℕ) (views : List SeatView) → ((place : ℕ) (view : SeatView) → get_elem? views place ≡ some view → a view.log ≤ b view.log)
     → total a (logs views) ≤ total b (logs views)
 unfolding total
 total_within a b [] each = omega arith
@@ -61,14 +61,14 @@ total_append count [] ys = omega arith
 total_append count (x ∷ xs) ys = let e = total_append count xs ys in omega arith
 
 -- what is counted of one view is part of the sum
-pub total_part : (count : Log → ℕ) (views : List View) (place : ℕ) (view : View) → get_elem? views place ≡ some view → count view.log ≤ total count (logs views)
+pub total_part : (count : Log → ℕ) (views : List SeatView) (place : ℕ) (view : SeatView) → get_elem? views place ≡ some view → count view.log ≤ total count (logs views)
 unfolding total
 total_part count [] place view at = absurd (some-ne-none view (sym at))
-total_part count (x ∷ xs) zero view at = let e : count x.log ≡ count view.log = ap (λ (v : View). count v.log) (some-injective x view at) in omega arith
+total_part count (x ∷ xs) zero view at = let e : count x.log ≡ count view.log = ap (λ (v : SeatView). count v.log) (some-injective x view at) in omega arith
 total_part count (x ∷ xs) (suc place) view at = let e = total_part count xs place view at in omega arith
 
 -- where nothing is counted of any view, the sum is 0
-pub total_none : (a b : Log → ℕ) (views : List View) → ((place : ℕ) (view : View) → get_elem? views place ≡ some view → a view.log ≡ 0 → b view.log ≡ 0)
+pub total_none : (a b : Log → ℕ) (views : List SeatView) → ((place : ℕ) (view : SeatView) → get_elem? views place ≡ some view → a view.log ≡ 0 → b view.log ≡ 0)
     → total a (logs views) ≡ 0 → total b (logs views) ≡ 0
 unfolding total
 total_none a b [] each none = refl

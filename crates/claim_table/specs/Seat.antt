@@ -5,7 +5,7 @@ use Rattle.atomic_table.specs.Seated.{TableId}
 use Rattle.atomic_table.specs.Table.{Me}
 use Rattle.claim_table.specs.declared.log.Log.{Log}
 use Rattle.claim_table.specs.declared.size.Size.{Size}
-use Rattle.claim_table.specs.declared.view.View.{View}
+use Rattle.claim_table.specs.declared.seat_view.SeatView.{SeatView}
 use Rattle.claim_table.specs.Logs.{most_jobs, with_drawn, with_end, with_seen, new_log, times, one_if, NotesDrawn}
 
 -- which row of words it is, and its size
@@ -20,7 +20,7 @@ pub record SeatState : Type 0 where
   pub log : Log
 
 -- the view of a seat whose log went over to another's
-abbrev pub spent : View
+abbrev pub spent : SeatView
 spent = record { size = record { jobs = 0; seats = 0 }; log = new_log 0 }
 
 -- the log after a draw with this answer, and after a look with this answer
@@ -55,7 +55,7 @@ abbrev pub AreMarks : List Bool → List ℕ → Type 0
 AreMarks marks numbers = (number : ℕ) → number < most_jobs → slice_index_or marks number false ≡ nat_lt 0 (times number numbers)
 
 -- what a seat keeps of what it knows
-pub record IsSeat {S : Type 0} (me : Me S View) (number : ℕ) (drawn : List ℕ) (noted : List Bool) (seen : List Bool) (ended : Bool) : Type 0 where
+pub record IsSeat {S : Type 0} (me : Me S SeatView) (number : ℕ) (drawn : List ℕ) (noted : List Bool) (seen : List Bool) (ended : Bool) : Type 0 where
   pub slots : me.1 ≡ []
   pub one : me.0.log.seats ≡ 1
   pub numbered : number < me.0.size.seats

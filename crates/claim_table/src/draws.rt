@@ -7,8 +7,8 @@ ghost use Rattle.claim_table.specs.Seat.{done};
 use crate::rule::{Drawing, Fair, Joining, Looking, Noting, Parting};
 use crate::seat::DrawSeat;
 use crate::seat_log::SeatLog;
+use crate::seat_view::SeatView;
 use crate::size::Size;
-use crate::view::View;
 use atomic_table::{Seat, Shared, Table};
 use std::alloc::{AllocError, Global};
 use std::marker::Model;
@@ -23,7 +23,7 @@ const LEAST: usize = 1;
 /// threads, or in an `Arc`; they share it by reference.
 #[derive(Drop)]
 pub struct Draws {
-    table: Table<(), View, Size, Fair, Global>,
+    table: Table<(), SeatView, Size, Fair, Global>,
     size: Size,
     alloc: Global,
 }
@@ -154,7 +154,7 @@ fn logs_of(alloc: Global, seats: &[DrawSeat]) -> Result<Vec<SeatLog>, AllocError
 }
 
 /// One seat whose log has all that some seats did.
-fn joined(row: &Shared<(), View, Size, Fair>, mut seats: Vec<DrawSeat>) -> Seat<(), View>
+fn joined(row: &Shared<(), SeatView, Size, Fair>, mut seats: Vec<DrawSeat>) -> Seat<(), SeatView>
     requires some { 0 < length seats.items }
     requires row { All (λ seat. seat.row.table ≡ row.now.table_id) seats.items }
     requires words { 0 < row.now.table_id.words }

@@ -6,18 +6,18 @@
 #![tactic(auto)]
 
 mod draws;
+mod job_set;
 mod log;
-mod marks;
 mod rule;
 mod seat;
 mod seat_log;
+mod seat_view;
 mod size;
-mod view;
 
 pub use draws::Draws;
+pub use job_set::JOBS;
 pub use log::Log;
-pub use marks::JOBS;
 pub use seat::DrawSeat;
 pub use seat_log::SeatLog;
+pub use seat_view::SeatView;
 pub use size::Size;
-pub use view::View;

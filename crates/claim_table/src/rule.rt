@@ -1,12 +1,12 @@
 //! The rule of the two words: which steps a seat may take on them, and what holds between any two steps.
+use crate::seat_view::SeatView;
 use crate::size::Size;
-use crate::view::View;
 use atomic_table::{Join, Play, Split, TableRule};
 
 /// The rule of the row of two words.
 pub struct Fair;
 
-impl TableRule<(), View, Size> for Fair {
+impl TableRule<(), SeatView, Size> for Fair {
     ghost use Rattle.claim_table.specs.Logs.{new_log};
     ghost use Rattle.claim_table.specs.Rule.{IsKept};
 
@@ -18,7 +18,7 @@ impl TableRule<(), View, Size> for Fair {
 /// A draw.
 pub struct Drawing;
 
-impl Play<(), View> for Drawing {
+impl Play<(), SeatView> for Drawing {
     ghost use Rattle.claim_table.specs.Plays.{IsDraw};
 
     ghost then = { λ step old found new. IsDraw old found new };
@@ -27,7 +27,7 @@ impl Play<(), View> for Drawing {
 /// A note of the step's operand.
 pub struct Noting;
 
-impl Play<(), View> for Noting {
+impl Play<(), SeatView> for Noting {
     ghost use Rattle.claim_table.specs.Plays.{IsNote};
 
     ghost then = { λ step old found new. IsNote step.first old new };
@@ -36,7 +36,7 @@ impl Play<(), View> for Noting {
 /// A look at the least number noted.
 pub struct Looking;
 
-impl Play<(), View> for Looking {
+impl Play<(), SeatView> for Looking {
     ghost use Rattle.claim_table.specs.Plays.{IsLook};
 
     ghost then = { λ step old found new. IsLook old found new };
@@ -45,7 +45,7 @@ impl Play<(), View> for Looking {
 /// One seat is parted from those that haven't been given out.
 pub struct Parting;
 
-impl Split<View> for Parting {
+impl Split<SeatView> for Parting {
     ghost use Rattle.std.specs.Prelude.{◌-◌};
     ghost use Rattle.claim_table.specs.Logs.{new_log};
 
@@ -57,7 +57,7 @@ impl Split<View> for Parting {
 /// A seat's log goes over to another's.
 pub struct Joining;
 
-impl Join<View> for Joining {
+impl Join<SeatView> for Joining {
     ghost use Rattle.claim_table.specs.Logs.{both, new_log};
     ghost use Rattle.claim_table.specs.Seat.{spent};
 

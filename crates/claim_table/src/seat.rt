@@ -1,9 +1,9 @@
 //! A thread's seat at the draws, and the log that it keeps in fixed arrays.
 ghost use Rattle.std.specs.Prelude.{◌≡◌, ◌<◌, ◌++◌, ◌∷◌, [], true, false, IfOk, length};
 
-use crate::marks::{JOBS, Marks};
+use crate::job_set::{JOBS, JobSet};
 use crate::seat_log::SeatLog;
-use crate::view::View;
+use crate::seat_view::SeatView;
 use arrayvec::ArrayVec;
 use atomic_table::Seat;
 use std::alloc::{AllocError, Global};
@@ -12,11 +12,11 @@ use std::marker::Model;
 /// What a thread draws by. It is used with its own [`Draws`](crate::Draws) alone, and keeps what it did.
 #[derive(Drop)]
 pub struct DrawSeat {
-    pub(crate) seat: Seat<(), View>,
+    pub(crate) seat: Seat<(), SeatView>,
     number: u32,
     pub(crate) drawn: ArrayVec<u32, JOBS>,
-    pub(crate) noted: Marks,
-    pub(crate) seen: Marks,
+    pub(crate) noted: JobSet,
+    pub(crate) seen: JobSet,
     pub(crate) ended: bool,
 }
 
@@ -36,7 +36,7 @@ impl DrawSeat {
 
     /// A seat that has done nothing.
     #[tactic(auto)]
-    pub(crate) fn new(seat: Seat<(), View>, number: u32) -> Self
+    pub(crate) fn new(seat: Seat<(), SeatView>, number: u32) -> Self
         requires { (seat.me.1 ≡ []) × (seat.me.0.log ≡ new_log 1) × (number < seat.me.0.size.seats) }
         ensures { result ≡ record { row = record { table = seat.table_id; size = seat.me.0.size }; number = number; log = new_log 1 } }
     {
@@ -44,8 +44,8 @@ impl DrawSeat {
             seat,
             number,
             drawn: ArrayVec::new(),
-            noted: Marks::new(),
-            seen: Marks::new(),
+            noted: JobSet::new(),
+            seen: JobSet::new(),
             ended: false,
         }
     }
@@ -72,7 +72,7 @@ impl DrawSeat {
     }
 
     /// The seat on the row, for the last time.
-    pub(crate) fn into_seat(self) -> Seat<(), View>
+    pub(crate) fn into_seat(self) -> Seat<(), SeatView>
         ensures { (result.table_id ≡ self.row.table) × (result.me.0.size ≡ self.row.size)
             × (result.me.0.log ≡ self.log) × (result.me.0.log.seats ≡ 1) × (result.me.1 ≡ []) }
     {

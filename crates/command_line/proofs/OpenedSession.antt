@@ -1,6 +1,6 @@
 -- A run that was opened for a debugging.
 use Rattle.output_files.specs.Content.{Content}
-use Rattle.runtime.specs.declared.config.Config.{Config}
+use Rattle.shuffled_phases.specs.declared.config.Config.{Config}
 use Rattle.token.specs.declared.run_in_turn.RunInTurn.{RunInTurn}
 use Rattle.command_run.specs.Serves.{IsOpenedFrom}
 use Rattle.command_line.specs.Debugging.{AreDebugged, IsDebugged}

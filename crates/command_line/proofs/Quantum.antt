@@ -1,7 +1,7 @@
 -- The quantum of a run that was opened.
 use Rattle.std.proofs.Common.{◌≡◌, ℕ, ◌<◌, List, Option, IfSome, sym, subst}
 use Rattle.runtime.proofs.Valid.{in_range}
-use Rattle.runtime.specs.declared.config.Config.{Config}
+use Rattle.shuffled_phases.specs.declared.config.Config.{Config}
 use Rattle.command_run.specs.Serves.{IsOpenedFrom}
 use Rattle.token.specs.RunInTurn.{point_of}
 use Rattle.token.specs.Setup.{Setup}

@@ -3,10 +3,10 @@ use Rattle.std.proofs.Common.{◌≡◌, inr, ℕ, Option, Result, Ok, Err, List
 use Rattle.std.proofs.lemmas.Bool.{and_parts, leb-true}
 use Rattle.std.specs.Io.KnownBytes.{Appends}
 use Rattle.std.specs.Option.{option_map_or}
-use Rattle.runtime.specs.Config.{is_numbered, is_valid}
+use Rattle.shuffled_phases.specs.Config.{is_numbered, is_valid}
 use Rattle.abi.specs.Limits as limit
-use Rattle.runtime.specs.Span.{is_span}
-use Rattle.runtime.specs.declared.config.Config.{Config}
+use Rattle.shuffled_phases.specs.Span.{is_span}
+use Rattle.shuffled_phases.specs.declared.config.Config.{Config}
 use Rattle.schedule.specs.declared.event.Event.{Event}
 use Rattle.token.specs.Setup.{Setup}
 use Rattle.token.specs.declared.outcome.RunOutcome.{RunOutcome}

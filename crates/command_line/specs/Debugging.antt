@@ -5,7 +5,7 @@ use Rattle.elf32_reader.specs.Format.{file_limit}
 use Rattle.output_files.specs.Content.{Content}
 use Rattle.abi.specs.Limits as limit
 use Rattle.runtime.specs.Run.{IsAccepted}
-use Rattle.runtime.specs.declared.config.Config.{Config}
+use Rattle.shuffled_phases.specs.declared.config.Config.{Config}
 use Rattle.command_requests.specs.Reading.{AreRead, IsUnreadAt}
 use Rattle.command_requests.specs.Status.{failure_status}
 use Rattle.command_requests.specs.declared.failure.Failure.{Failure}

@@ -4,8 +4,8 @@ use Rattle.command_requests.specs.declared.request.Request.TheVariants.{Run, Exp
 
 -- a debugging is asked for
 abbrev pub IsDebug : Request → Type 0
-IsDebug (Debug file input numbers turn) = Unit {0}
-IsDebug (Run file input numbers wanted) = ⊥
-IsDebug (Explore file input numbers range same) = ⊥
+IsDebug (Debug file input config turn) = Unit {0}
+IsDebug (Run file input config wanted) = ⊥
+IsDebug (Explore file input config range same) = ⊥
 IsDebug (Disasm file) = ⊥
-IsDebug (Replay file schedule input numbers) = ⊥
+IsDebug (Replay file schedule input config) = ⊥

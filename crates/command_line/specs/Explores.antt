@@ -5,7 +5,7 @@ use Rattle.std.specs.Io.KnownBytes.{Appends}
 use Rattle.std.specs.declared.alloc.Global.{Global}
 use Rattle.output_files.specs.Content.{Content}
 use Rattle.runtime.specs.Run.{IsUnopenedBy}
-use Rattle.runtime.specs.declared.config.Config.{Config}
+use Rattle.shuffled_phases.specs.declared.config.Config.{Config}
 use Rattle.runtime.specs.declared.open_fault.OpenFault.{OpenFault}
 use Rattle.explored_runs.specs.Explored as runs
 use Rattle.explored_runs.specs.Failing.{fails}

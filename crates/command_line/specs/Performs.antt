@@ -5,7 +5,7 @@ use Rattle.std.specs.Prelude.{◌≡◌, ◌⊎◌, ℕ, Bool, Option, Some, Non
 use Rattle.std.specs.Result.{IsErrAnd}
 use Rattle.abi.specs.Limits as limit
 use Rattle.output_files.specs.Content.{Content}
-use Rattle.runtime.specs.declared.config.Config.{Config}
+use Rattle.shuffled_phases.specs.declared.config.Config.{Config}
 use Rattle.token.specs.declared.outcome.RunOutcome.{RunOutcome}
 use Rattle.command_requests.specs.Asked.{IsAsked}
 use Rattle.command_requests.specs.Names.{Sameness}
@@ -14,7 +14,6 @@ use Rattle.command_requests.specs.Status.{failure_status}
 use Rattle.command_requests.specs.Unasked.{IsUnasked, KeepsUnlessHelp}
 use Rattle.command_requests.specs.declared.failure.Failure.{Failure}
 use Rattle.command_requests.specs.declared.number_range.NumberRange.{NumberRange}
-use Rattle.command_requests.specs.declared.numbers.Numbers.{Numbers}
 use Rattle.command_requests.specs.declared.request.Request.{Request}
 use Rattle.command_requests.specs.declared.request.Request.TheVariants.{Run, Explore, Debug, Disasm, Replay}
 use Rattle.command_run.specs.Status.{answer_status}
@@ -26,10 +25,6 @@ use Rattle.command_line.specs.declared.replay_failure.ReplayFailure.{ReplayFailu
 use Rattle.command_line.specs.declared.replay_failure.ReplayFailure.TheVariants.{Plain}
 use Rattle.command_run.specs.Serves.{Host, RunRequest, RunsInto, run_of}
 use Rattle.command_line.specs.Replays.{ReplayRequest, Replays}
-
--- the configuration of a run with these numbers
-abbrev pub config_of : Numbers → Config
-config_of numbers = record { bound = numbers.bound; quantum = numbers.quantum; shuffle = numbers.shuffle; workers = numbers.workers }
 
 -- Such is it of what there is to read of the input: of standard input, or of the file that is named for it, whose bytes were read.
 abbrev pub OnInput : Content → Option (List ℕ) → Option (Bor (List ℕ)) → (Option (List ℕ) → Type 0) → Type 0
@@ -55,8 +50,8 @@ ReplaysOn request named output output' answer =
     ⊎ OnInput request.files request.input named (λ input. Replays (record request { input = input }) output output' answer)
 
 -- the exploration with these arguments
-abbrev pub exploration_by : (file : Bor (List ℕ)) → (input : Option (Bor (List ℕ))) → Numbers → NumberRange → (same : Bool) → Exploration
-exploration_by file input numbers range same = record { file = file; input = input; config = config_of numbers; range = range; same = same }
+abbrev pub exploration_by : (file : Bor (List ℕ)) → (input : Option (Bor (List ℕ))) → Config → NumberRange → (same : Bool) → Exploration
+exploration_by file input config range same = record { file = file; input = input; config = config; range = range; same = same }
 
 -- what an exploration answers, likewise
 abbrev pub ExploresOn : ExploreRequest → (output output' : Option (List ℕ)) → Result Bool Failure → Type 0
@@ -78,23 +73,23 @@ found_of host is_same input = record { host = host; is_same = is_same; input = i
 -- Performing a request answers this status and leaves this. The first type says that outputs tell what they hold. Of a debugging it is
 -- said alone that it changes no file.
 abbrev pub PerformsOne : Type 0 → Found → Request → Host → ℕ → Type 0
-PerformsOne tells found (Run file named numbers wanted) after status =
+PerformsOne tells found (Run file named config wanted) after status =
     (answer : Result RunOutcome Failure) × (status ≡ answer_status answer)
-    × RunsOn tells (run_of file found.is_same found.input (config_of numbers) wanted.items) named found.host after answer
-PerformsOne tells found (Explore file named numbers range same) after status =
+    × RunsOn tells (run_of file found.is_same found.input config wanted.items) named found.host after answer
+PerformsOne tells found (Explore file named config range same) after status =
     ((answer : Result Bool Failure) × (status ≡ explore_status answer)
-    × ExploresOn (exploration_of (exploration_by file named numbers range same) found.host.files found.input) found.host.output after.output answer)
+    × ExploresOn (exploration_of (exploration_by file named config range same) found.host.files found.input) found.host.output after.output answer)
     × (after.files ≡ found.host.files)
-PerformsOne tells found (Replay file schedule named numbers) after status =
+PerformsOne tells found (Replay file schedule named config) after status =
     ((answer : Result (Option RunOutcome) ReplayFailure) × (status ≡ replay_status answer)
-    × ReplaysOn (record { files = found.host.files; path = file.now; schedule = schedule.now; input = found.input; config = config_of numbers })
+    × ReplaysOn (record { files = found.host.files; path = file.now; schedule = schedule.now; input = found.input; config = config })
     named found.host.output after.output answer)
     × (after.files ≡ found.host.files)
 PerformsOne tells found (Disasm file) after status =
     (((status ≡ 0) × IsListed (found.host.files file.now) found.host.output after.output)
     ⊎ ((failure : Failure) × (status ≡ failure_status failure) × IsUnlisted file.now (found.host.files file.now) failure))
     × (after.files ≡ found.host.files)
-PerformsOne tells found (Debug file named numbers turn) after status = after.files ≡ found.host.files
+PerformsOne tells found (Debug file named config turn) after status = after.files ≡ found.host.files
 
 -- The request that the words ask for, of which the first is the program's name, was performed; or they ask for none, nothing but help or the
 -- version was printed, and no file has changed.

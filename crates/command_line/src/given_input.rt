@@ -13,7 +13,7 @@ use crate::exploration::Exploration;
 use crate::exploring::explore_file;
 use crate::given_schedule::replay;
 use crate::replay_failure::ReplayFailure;
-use command_requests::{Failure, Target, Wanted};
+use command_requests::{Failure, RequestedText, Target};
 use command_run::run_file;
 use output_files::Files;
 use runtime::{Config, MAX_INPUT, RunOutcome, WriteSink};
@@ -29,7 +29,7 @@ pub(crate) fn run_given<'a, H: Threads + Wait + Sync, F: Files, R: Read, W: Writ
     file: &'a str,
     input: Option<&'a str>,
     config: &Config,
-    wanted: &[Wanted<'a>],
+    wanted: &[RequestedText<'a>],
     files: &mut F,
     stdin: &mut R,
     stdout: &mut WriteSink<W>,

@@ -6,7 +6,7 @@ ghost use Rattle.token.specs.RunInTurn.{point_of};
 ghost use Rattle.command_line.specs.Replays.{AreOf, IsUnopened, Replays, asked};
 
 use crate::given::read_given;
-use crate::opened::Opened;
+use crate::opened_replay::OpenedReplay;
 use crate::replay_failure::ReplayFailure;
 use crate::replaying::{go_through, read_events};
 use command_run::open_bytes;
@@ -42,7 +42,7 @@ fn open_replay<'a, F: Files, R: Read>(
     config: &Config,
     files: &F,
     stdin: &mut R,
-) -> Result<Opened, ReplayFailure<'a>>
+) -> Result<OpenedReplay, ReplayFailure<'a>>
     ensures input { TakesAtMost (limit.input + 1) (R.remaining stdin.old) (R.remaining stdin.new) }
     ensures opened { IfOk result (λ opened. AreOf (asked F.content files.now file.now schedule.now (R.remaining stdin.old) config.now)
         (point_of opened.start).setup opened.events.items) }
@@ -52,5 +52,5 @@ fn open_replay<'a, F: Files, R: Read>(
     let given = read_given(alloc, file, files, stdin)?;
     let events = read_events(alloc, schedule, files)?;
     let start = open_bytes(alloc, given.elf.as_slice(), given.input.as_slice(), config)?;
-    Ok(Opened { start, events })
+    Ok(OpenedReplay { start, events })
 }

@@ -1,7 +1,6 @@
 //! The command line: parses the arguments, runs, explores, lists, replays or debugs as they ask for, and answers the status.
 #![tactic(auto)]
 
-mod config;
 mod debugging;
 mod exploration;
 mod explored;
@@ -12,7 +11,7 @@ mod given_input;
 mod given_schedule;
 mod incoming;
 mod listings;
-mod opened;
+mod opened_replay;
 mod performing;
 mod replay_failure;
 mod replaying;

@@ -7,7 +7,6 @@ ghost use Rattle.command_line.specs.Debugs.{IsDebug};
 ghost use Rattle.command_run.specs.Serves.{host_of};
 ghost use Rattle.command_line.specs.Performs.{Performs, PerformsOne, found_of};
 
-use crate::config::config_of;
 use crate::debugging::{Debugging, conclude_debugging, debug_file};
 use crate::exploration::Exploration;
 use crate::exploring::conclude_exploration;
@@ -72,7 +71,7 @@ pub fn perform_request<H: Threads + Wait + Sync, F: Files, R: Read + Send, W: Wr
         Request::Explore {
             file,
             input,
-            numbers,
+            config,
             range,
             same,
         } => conclude_exploration(
@@ -82,7 +81,7 @@ pub fn perform_request<H: Threads + Wait + Sync, F: Files, R: Read + Send, W: Wr
                 &Exploration {
                     file,
                     input,
-                    config: config_of(numbers),
+                    config,
                     range,
                     same,
                 },
@@ -96,14 +95,14 @@ pub fn perform_request<H: Threads + Wait + Sync, F: Files, R: Read + Send, W: Wr
             file,
             schedule,
             input,
-            numbers,
+            config,
         } => conclude_replay(
             replay_given(
                 alloc,
                 file,
                 schedule,
                 input,
-                &config_of(numbers),
+                &config,
                 files,
                 stdin,
                 &mut stdout.writer,
@@ -113,14 +112,14 @@ pub fn perform_request<H: Threads + Wait + Sync, F: Files, R: Read + Send, W: Wr
         Request::Debug {
             file,
             input,
-            numbers,
+            config,
             turn,
         } => conclude_debugging(
             debug_file(
                 rt,
                 alloc,
                 &Debugging { file, input, turn },
-                &config_of(numbers),
+                &config,
                 files,
                 stdin,
                 &mut stdout.writer,
@@ -130,7 +129,7 @@ pub fn perform_request<H: Threads + Wait + Sync, F: Files, R: Read + Send, W: Wr
         Request::Run {
             file,
             input,
-            numbers,
+            config,
             wanted,
         } => conclude(
             run_given(
@@ -138,7 +137,7 @@ pub fn perform_request<H: Threads + Wait + Sync, F: Files, R: Read + Send, W: Wr
                 alloc,
                 file,
                 input,
-                &config_of(numbers),
+                &config,
                 wanted.as_slice(),
                 files,
                 stdin,

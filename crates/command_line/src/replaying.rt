@@ -8,7 +8,7 @@ ghost use Rattle.command_line.specs.Replayed.{IsCut, IsPrinted, IsReplayed, IsUn
 ghost use Rattle.command_line.specs.Scheduled.{AreScheduled, IsUnscheduled};
 ghost use Rattle.command_line.specs.Status.{replay_status};
 
-use crate::opened::Opened;
+use crate::opened_replay::OpenedReplay;
 use crate::replay_failure::ReplayFailure;
 use command_requests::{Failure, Target, print};
 use command_run::conclude;
@@ -52,7 +52,7 @@ pub(crate) fn read_events<'a, F: Files>(
 /// refused.
 pub(crate) fn go_through<'a, W: Write>(
     alloc: Global,
-    opened: Opened,
+    opened: OpenedReplay,
     workers: u32,
     stdout: &mut W,
 ) -> Result<Option<RunOutcome>, ReplayFailure<'a>>

@@ -1,9 +1,9 @@
 //! Progress that nobody is told of.
-use explored_runs::{Ending, Progress};
+use explored_runs::{Ending, ProgressListener};
 
 /// Tells nobody how far an exploration is.
 pub(crate) struct Untold;
 
-impl Progress for Untold {
+impl ProgressListener for Untold {
     fn ran(&self, _ending: &Ending) {}
 }

@@ -8,13 +8,13 @@ use Rattle.command_requests.specs.Commands.{program}
 use Rattle.command_requests.specs.Destination.{destination_of}
 use Rattle.command_requests.specs.declared.destination.Destination.{Destination}
 use Rattle.command_requests.specs.declared.number_range.NumberRange.{NumberRange}
-use Rattle.command_requests.specs.declared.numbers.Numbers.{Numbers}
 use Rattle.command_requests.specs.declared.request.Request.{Request}
 use Rattle.command_requests.specs.declared.request.Request.TheVariants.{Run, Explore, Debug, Disasm, Replay}
 use Rattle.command_requests.specs.declared.text.Text.{Text as RunText}
-use Rattle.command_requests.specs.declared.wanted.Wanted.{Wanted}
+use Rattle.command_requests.specs.declared.requested_text.RequestedText.{RequestedText}
 use Rattle.command_requests.specs.Shuffles.{shuffle_of}
 use Rattle.command_requests.specs.Texts.{name_of, texts}
+use Rattle.shuffled_phases.specs.declared.config.Config.{Config}
 use Rattle.shuffled_phases.specs.declared.shuffle.Shuffle.{Shuffle}
 
 -- the text is a number of so many bits in decimal digits
@@ -48,26 +48,26 @@ IsNamed (Some text) (Some destination) = (argument : Bor (List ℕ)) × (argumen
 abbrev pub IsText : List Row → Text → Option (Bor (List ℕ)) → Type 0
 IsText rows id text = option_map (λ text. text.now) text ≡ first_of id rows
 
-pub record AreNumbers (rows : List Row) (numbers : Numbers) : Type 0 where
-  pub bound : IsRead 64 (one_of (codes "bound") rows) (Some numbers.bound)
-  pub quantum : IsRead 64 (one_of (codes "quantum") rows) numbers.quantum
-  pub shuffle : IsShuffled (first_of (codes "shuffle") rows) numbers.shuffle
+pub record IsConfig (rows : List Row) (config : Config) : Type 0 where
+  pub bound : IsRead 64 (one_of (codes "bound") rows) (Some config.bound)
+  pub quantum : IsRead 64 (one_of (codes "quantum") rows) config.quantum
+  pub shuffle : IsShuffled (first_of (codes "shuffle") rows) config.shuffle
 
 -- a text is wanted if a destination is named for it
-abbrev pub wanted_for : RunText → Option Destination → List Wanted
+abbrev pub wanted_for : RunText → Option Destination → List RequestedText
 wanted_for text None = []
 wanted_for text (Some destination) = record { text = text; destination = destination } ∷ []
 
 -- Of these texts, in their order, those are wanted whose option is given, each for the destination that the option names.
-abbrev pub AreWanted : List Row → List RunText → List Wanted → Type 0
+abbrev pub AreWanted : List Row → List RunText → List RequestedText → Type 0
 AreWanted rows [] wanted = wanted ≡ []
 AreWanted rows (text ∷ others) wanted =
     (destination : Option Destination) × IsNamed (first_of (name_of text) rows) destination
-    × ((rest : List Wanted) × AreWanted rows others rest × (wanted ≡ wanted_for text destination ++ rest))
+    × ((rest : List RequestedText) × AreWanted rows others rest × (wanted ≡ wanted_for text destination ++ rest))
 
 -- those of these texts that are wanted were added to others
-abbrev pub AddsWanted : List Row → List RunText → (old new : List Wanted) → Type 0
-AddsWanted rows texts old new = (more : List Wanted) × AreWanted rows texts more × (new ≡ old ++ more)
+abbrev pub AddsWanted : List Row → List RunText → (old new : List RequestedText) → Type 0
+AddsWanted rows texts old new = (more : List RequestedText) × AreWanted rows texts more × (new ≡ old ++ more)
 
 -- a file, and the file of its input if one is named
 pub record AreFiles (rows : List Row) (file : Bor (List ℕ)) (input : Option (Bor (List ℕ))) : Type 0 where
@@ -86,19 +86,19 @@ pub record AreRange (rows : List Row) (range : NumberRange) : Type 0 where
 
 -- a command of this name that was given these values is this request
 abbrev pub Asks : Text → List Row → Request → Type 0
-Asks name rows (Run file input numbers wanted) =
-    (name ≡ codes "run") × AreFiles rows file input × AreNumbers rows numbers × IsRead 32 (one_of (codes "workers") rows) (Some numbers.workers)
+Asks name rows (Run file input config wanted) =
+    (name ≡ codes "run") × AreFiles rows file input × IsConfig rows config × IsRead 32 (one_of (codes "workers") rows) (Some config.workers)
     × AreWanted rows texts wanted.items
-Asks name rows (Explore file input numbers range same) =
-    (name ≡ codes "explore") × AreFiles rows file input × AreNumbers rows numbers × IsRead 32 (one_of (codes "workers") rows) (Some numbers.workers)
+Asks name rows (Explore file input config range same) =
+    (name ≡ codes "explore") × AreFiles rows file input × IsConfig rows config × IsRead 32 (one_of (codes "workers") rows) (Some config.workers)
     × AreRange rows range × IsFlag (one_of (codes "same") rows) same
-Asks name rows (Debug file input numbers turn) =
-    (name ≡ codes "debug") × AreFiles rows file input × AreNumbers rows numbers × (numbers.workers ≡ 1)
+Asks name rows (Debug file input config turn) =
+    (name ≡ codes "debug") × AreFiles rows file input × IsConfig rows config × (config.workers ≡ 1)
     × IsRead 64 (one_of (codes "turn") rows) (Some turn)
 Asks name rows (Disasm file) = (name ≡ codes "disasm") × IsText rows (codes "FILE") (Some file)
-Asks name rows (Replay file schedule input numbers) =
-    (name ≡ codes "replay") × AreFiles rows file input × IsText rows (codes "SCHEDULE") (Some schedule) × AreNumbers rows numbers
-    × IsRead 32 (one_of (codes "workers") rows) (Some numbers.workers)
+Asks name rows (Replay file schedule input config) =
+    (name ≡ codes "replay") × AreFiles rows file input × IsText rows (codes "SCHEDULE") (Some schedule) × IsConfig rows config
+    × IsRead 32 (one_of (codes "workers") rows) (Some config.workers)
 
 -- a command that was found, with the values of its arguments, is this request
 abbrev pub AsksFor : Option (Text × List Row) → Request → Type 0

@@ -8,7 +8,7 @@ use Rattle.output_files.specs.declared.file_name.FileName.{FileName}
 use Rattle.output_files.specs.declared.file_name.FileName.TheVariants.{At, PartOf}
 use Rattle.command_requests.specs.declared.destination.Destination.{Destination}
 use Rattle.command_requests.specs.declared.destination.Destination.TheVariants.{StandardOutput, File}
-use Rattle.command_requests.specs.declared.wanted.Wanted.{Wanted}
+use Rattle.command_requests.specs.declared.requested_text.RequestedText.{RequestedText}
 
 -- whether a path is one of those of which each names a file of its own: neither standard output nor below /dev/
 abbrev pub counts : List ℕ → Bool
@@ -20,12 +20,12 @@ names_in StandardOutput = []
 names_in (File path) = if counts path.now then At path ∷ PartOf path ∷ [] else []
 
 -- the names of the files for some texts, and of their parts
-abbrev pub names_for : List Wanted → List FileName
+abbrev pub names_for : List RequestedText → List FileName
 names_for [] = []
 names_for (one ∷ others) = names_in one.destination ++ names_for others
 
 -- the names of the files of a run: of the program, where it counts, of the files for the texts, and of their parts
-abbrev pub names_of : Bor (List ℕ) → List Wanted → List FileName
+abbrev pub names_of : Bor (List ℕ) → List RequestedText → List FileName
 names_of file wanted = (if counts file.now then At file ∷ [] else []) ++ names_for wanted
 
 -- whether names are of one file, as far as it is known of files at hand

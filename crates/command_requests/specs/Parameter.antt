@@ -7,8 +7,8 @@ use Rattle.command_requests.specs.Commands.{count, flag, number, option, schedul
 use Rattle.command_requests.specs.Texts.{name_of}
 use Rattle.command_requests.specs.declared.form.Form.{Form}
 use Rattle.command_requests.specs.declared.form.Form.TheVariants as form
-use Rattle.command_requests.specs.declared.need.Need.{Need}
-use Rattle.command_requests.specs.declared.need.Need.TheVariants.{Optional, Required, Default}
+use Rattle.command_requests.specs.declared.requirement.Requirement.{Requirement}
+use Rattle.command_requests.specs.declared.requirement.Requirement.TheVariants.{Optional, Required, Default}
 use Rattle.command_requests.specs.declared.parameter.Parameter.{Parameter}
 use Rattle.command_requests.specs.declared.text.Text.{Text as RunText}
 
@@ -24,7 +24,7 @@ formed form.Number name = schedule_number name
 formed form.Flag name = flag name
 
 -- an argument that must be given so
-abbrev pub needed : Need → Rule → Rule
+abbrev pub needed : Requirement → Rule → Rule
 needed Optional rule = rule
 needed Required rule = record rule { required = true }
 needed (Default value) rule = record rule { defaults = value.now ∷ [] }

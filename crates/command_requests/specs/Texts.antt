@@ -2,7 +2,7 @@
 use Rattle.std.specs.Prelude.{ℕ, Bool, true, false, ◌||◌, List, [], ◌∷◌, codes}
 use Rattle.command_requests.specs.declared.text.Text.{Text}
 use Rattle.command_requests.specs.declared.text.Text.TheVariants.{Trace, Timeline, Report, Races, Core, Digest}
-use Rattle.command_requests.specs.declared.wanted.Wanted.{Wanted}
+use Rattle.command_requests.specs.declared.requested_text.RequestedText.{RequestedText}
 
 -- all of them, in the order in which a run begins them and puts them where they are to be
 abbrev pub texts : List Text
@@ -23,6 +23,6 @@ is_races Races = true
 is_races other = false
 
 -- the races are wanted
-abbrev pub wants_races : List Wanted → Bool
+abbrev pub wants_races : List RequestedText → Bool
 wants_races [] = false
 wants_races (one ∷ others) = is_races one.text || wants_races others

@@ -5,8 +5,8 @@ ghost use Rattle.command_requests.specs.Names.{counts, names_for, names_in, name
 
 use crate::destination::Destination;
 use crate::failure::Failure;
+use crate::requested_text::RequestedText;
 use crate::target::Target;
-use crate::wanted::Wanted;
 use output_files::{FileName, Files};
 use std::alloc::{AllocError, Global};
 
@@ -15,7 +15,7 @@ use std::alloc::{AllocError, Global};
 pub fn named_twice<'a, F: Files>(
     alloc: Global,
     file: &'a str,
-    wanted: &[Wanted<'a>],
+    wanted: &[RequestedText<'a>],
     files: &F,
 ) -> Result<Option<(FileName<'a>, FileName<'a>)>, Failure<'a>>
     ensures none { IfOk result (λ twins. twins ≡ None → AreUnlike (F.is_same files.now) (names_of file.entry wanted.now)) }
@@ -31,7 +31,7 @@ pub fn named_twice<'a, F: Files>(
 fn names_of<'a>(
     alloc: Global,
     file: &'a str,
-    wanted: &[Wanted<'a>],
+    wanted: &[RequestedText<'a>],
 ) -> Result<Vec<FileName<'a>>, AllocError>
     ensures { IfOk result (λ names. names.items ≡ names_of file.entry wanted.now) }
 {
@@ -44,7 +44,10 @@ fn names_of<'a>(
 }
 
 /// Adds the names of the files for these texts and of their parts.
-fn add_all_names<'a>(wanted: &[Wanted<'a>], names: &mut Vec<FileName<'a>>) -> Result<(), AllocError>
+fn add_all_names<'a>(
+    wanted: &[RequestedText<'a>],
+    names: &mut Vec<FileName<'a>>,
+) -> Result<(), AllocError>
     ensures { OnOk result (names.new.items ≡ names.old.items ++ names_for wanted.now) }
 {
     let [first, others @ ..] = wanted else {

@@ -6,7 +6,7 @@ ghost use Rattle.command_requests.specs.Commands as rule;
 ghost use Rattle.command_requests.specs.Parameter.{formed, needed, rule_for};
 
 use crate::form::Form;
-use crate::need::Need;
+use crate::requirement::Requirement;
 use abi::limits::{MAX_BOUND, MAX_WORKERS};
 use clap::builder::ValueParser;
 use clap::{Arg, ArgAction, value_parser};
@@ -20,7 +20,7 @@ pub(crate) struct Parameter {
     /// How it is given.
     pub form: Form,
     /// Whether it must be given.
-    pub need: Need,
+    pub need: Requirement,
     /// What help says of it.
     pub help: &'static str,
 }
@@ -70,13 +70,13 @@ fn count<'a>() -> ValueParser<'a>
 }
 
 /// The argument, which must be given so.
-fn with_need<'a>(arg: Arg<'a>, need: Need) -> Arg<'a>
+fn with_need<'a>(arg: Arg<'a>, need: Requirement) -> Arg<'a>
     ensures { (rule : Rule) → Is rule arg.entry → Is (needed need rule) result }
 {
     match need {
-        Need::Optional => arg,
-        Need::Required => arg.required(true),
-        Need::Default(value) => {
+        Requirement::Optional => arg,
+        Requirement::Required => arg.required(true),
+        Requirement::Default(value) => {
             let value: &'a str = value;
             arg.default_value(value)
         }

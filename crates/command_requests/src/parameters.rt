@@ -1,20 +1,20 @@
 //! The table of all parameters: the parser, its help, the manual page, the completions and the tables of options are made of it.
 use crate::form::Form;
-use crate::need::Need;
 use crate::parameter::Parameter;
+use crate::requirement::Requirement;
 use crate::text::Text;
 
 pub(crate) const FILE: Parameter = Parameter {
     name: "FILE",
     form: Form::Placed,
-    need: Need::Required,
+    need: Requirement::Required,
     help: "The program, an ELF file",
 };
 
 pub(crate) const SCHEDULE: Parameter = Parameter {
     name: "SCHEDULE",
     form: Form::Placed,
-    need: Need::Required,
+    need: Requirement::Required,
     help: "The events, one in each line",
 };
 
@@ -22,7 +22,7 @@ pub(crate) const SCHEDULE: Parameter = Parameter {
 pub(crate) const INPUT: Parameter = Parameter {
     name: "input",
     form: Form::File,
-    need: Need::Optional,
+    need: Requirement::Optional,
     help: "The program's input [default: standard input]",
 };
 
@@ -30,7 +30,7 @@ pub(crate) const INPUT: Parameter = Parameter {
 const DEBUGGED_INPUT: Parameter = Parameter {
     name: "input",
     form: Form::File,
-    need: Need::Optional,
+    need: Requirement::Optional,
     help: "The program's input [default: empty]",
 };
 
@@ -38,7 +38,7 @@ const DEBUGGED_INPUT: Parameter = Parameter {
 pub(crate) const WORKERS: Parameter = Parameter {
     name: "workers",
     form: Form::Workers,
-    need: Need::Default("4"),
+    need: Requirement::Default("4"),
     help: "How many workers there are, 1 to 64",
 };
 
@@ -46,98 +46,98 @@ pub(crate) const WORKERS: Parameter = Parameter {
 const SCHEDULED_WORKERS: Parameter = Parameter {
     name: "workers",
     form: Form::Workers,
-    need: Need::Required,
+    need: Requirement::Required,
     help: "How many workers there are, 1 to 64",
 };
 
 pub(crate) const TURN: Parameter = Parameter {
     name: "turn",
     form: Form::Count,
-    need: Need::Default("1"),
+    need: Requirement::Default("1"),
     help: "The turn at whose start gdb finds the program",
 };
 
 pub(crate) const BOUND: Parameter = Parameter {
     name: "bound",
     form: Form::Count,
-    need: Need::Default("1000000000"),
+    need: Requirement::Default("1000000000"),
     help: "How many instructions a thread may execute, 1 to 2^40",
 };
 
 pub(crate) const QUANTUM: Parameter = Parameter {
     name: "quantum",
     form: Form::Count,
-    need: Need::Optional,
+    need: Requirement::Optional,
     help: "After how many instructions a thread's turn ends, 1 to 2^40 [default: none]",
 };
 
 pub(crate) const SHUFFLE: Parameter = Parameter {
     name: "shuffle",
     form: Form::Shuffle,
-    need: Need::Optional,
+    need: Requirement::Optional,
     help: "The schedule's number, as 4, 4:39-41 or 4:39-41/7 [default: none]",
 };
 
 pub(crate) const RUNS: Parameter = Parameter {
     name: "runs",
     form: Form::Number,
-    need: Need::Default("100"),
+    need: Requirement::Default("100"),
     help: "How many runs there are, each by a number of its own, 1 to 4294967295",
 };
 
 pub(crate) const FROM: Parameter = Parameter {
     name: "from",
     form: Form::Number,
-    need: Need::Default("1"),
+    need: Requirement::Default("1"),
     help: "The number of the first run, 1 to 4294967295",
 };
 
 pub(crate) const SAME: Parameter = Parameter {
     name: "same",
     form: Form::Flag,
-    need: Need::Optional,
+    need: Requirement::Optional,
     help: "Take a second outcome or output for a failure, too",
 };
 
 const TRACE: Parameter = Parameter {
     name: "trace",
     form: Form::Text(Text::Trace),
-    need: Need::Optional,
+    need: Requirement::Optional,
     help: "Write a line for each turn to this file, or to standard output where it is -",
 };
 
 const TIMELINE: Parameter = Parameter {
     name: "timeline",
     form: Form::Text(Text::Timeline),
-    need: Need::Optional,
+    need: Requirement::Optional,
     help: "Write a timeline for trace viewers to this file, or to standard output where it is -",
 };
 
 const REPORT: Parameter = Parameter {
     name: "report",
     form: Form::Text(Text::Report),
-    need: Need::Optional,
+    need: Requirement::Optional,
     help: "Write the sharing of pages to this file, or to standard output where it is -",
 };
 
 const RACES: Parameter = Parameter {
     name: "races",
     form: Form::Text(Text::Races),
-    need: Need::Optional,
+    need: Requirement::Optional,
     help: "Write the data races to this file, or to standard output where it is -",
 };
 
 const CORE: Parameter = Parameter {
     name: "core",
     form: Form::Text(Text::Core),
-    need: Need::Optional,
+    need: Requirement::Optional,
     help: "Write a core file of the end, for gdb, to this file, or to standard output where it is -",
 };
 
 const DIGEST: Parameter = Parameter {
     name: "digest",
     form: Form::Text(Text::Digest),
-    need: Need::Optional,
+    need: Requirement::Optional,
     help: "Write hashes of output, memory and trace to this file, or to standard output where it is -",
 };
 

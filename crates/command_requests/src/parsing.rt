@@ -4,7 +4,7 @@ ghost use Rattle.std.specs.Option.{IsSomeAnd};
 ghost use Rattle.clap.specs.Faults.{fault_of};
 ghost use Rattle.clap.specs.Kinds.{HasKind};
 ghost use Rattle.clap.specs.Words.{first_of, found_of, one_of, rows_of, subcommand_of, subcommand_rows_of};
-ghost use Rattle.command_requests.specs.Asked.{AddsWanted, AreNumbers, AreWanted, Asks, AsksFor, IsFlag, IsNamed, IsRead, IsShuffled, IsText};
+ghost use Rattle.command_requests.specs.Asked.{AddsWanted, AreWanted, Asks, AsksFor, IsConfig, IsFlag, IsNamed, IsRead, IsShuffled, IsText};
 ghost use Rattle.command_requests.specs.Commands as spec;
 ghost use Rattle.command_requests.specs.Needed.{HasDebug, HasExplore, HasNumber, HasReplay, HasRun, HasScheduleNumber, HasText, IsFound};
 ghost use Rattle.command_requests.specs.Parameter.{AreNamed, IsNamedFor, texts_in_form, texts_of};
@@ -16,16 +16,15 @@ use crate::destination::Destination;
 use crate::failure::Failure;
 use crate::form::Form;
 use crate::number_range::NumberRange;
-use crate::numbers::Numbers;
 use crate::parameter::Parameter;
 use crate::parameters::{
     BOUND, FILE, FROM, INPUT, QUANTUM, RUN, RUNS, SAME, SCHEDULE, SHUFFLE, TURN, WORKERS,
 };
 use crate::request::Request;
+use crate::requested_text::RequestedText;
 use crate::shuffling::shuffle_of;
-use crate::wanted::Wanted;
 use clap::{ArgMatches, Error};
-use shuffled_phases::Shuffle;
+use shuffled_phases::{Config, Shuffle};
 use std::alloc::{AllocError, Global};
 use std::convert::AsStr;
 
@@ -73,7 +72,7 @@ fn run_request<'a>(alloc: Global, matches: &ArgMatches<'a>) -> Result<Request<'a
     Ok(Request::Run {
         file: given_text(matches, FILE.name),
         input: text(matches, INPUT.name),
-        numbers: numbers_of(matches, workers_of(matches))?,
+        config: config_of(matches, workers_of(matches))?,
         wanted: wanted_of(alloc, matches)?,
     })
 }
@@ -92,7 +91,7 @@ fn explore_request<'a>(matches: &ArgMatches<'a>) -> Result<Request<'a>, Failure<
     Ok(Request::Explore {
         file: given_text(matches, FILE.name),
         input: text(matches, INPUT.name),
-        numbers: numbers_of(matches, workers_of(matches))?,
+        config: config_of(matches, workers_of(matches))?,
         range: NumberRange { from, count: runs },
         same: flag(matches, SAME.name),
     })
@@ -107,7 +106,7 @@ fn debug_request<'a>(matches: &ArgMatches<'a>) -> Result<Request<'a>, Failure<'a
     Ok(Request::Debug {
         file: given_text(matches, FILE.name),
         input: text(matches, INPUT.name),
-        numbers: numbers_of(matches, 1)?,
+        config: config_of(matches, 1)?,
         turn: given_number(matches, TURN.name),
     })
 }
@@ -122,18 +121,18 @@ fn replay_request<'a>(matches: &ArgMatches<'a>) -> Result<Request<'a>, Failure<'
         file: given_text(matches, FILE.name),
         schedule: given_text(matches, SCHEDULE.name),
         input: text(matches, INPUT.name),
-        numbers: numbers_of(matches, workers_of(matches))?,
+        config: config_of(matches, workers_of(matches))?,
     })
 }
 
-/// The numbers of a run by so many workers.
-fn numbers_of<'a>(matches: &ArgMatches<'a>, workers: u32) -> Result<Numbers, Failure<'a>>
+/// The configuration of a run by so many workers.
+fn config_of<'a>(matches: &ArgMatches<'a>, workers: u32) -> Result<Config, Failure<'a>>
     requires { HasNumber 64 (codes "bound") (rows_of (found_of matches.now)) }
-    ensures numbers { IfOk result (AreNumbers (rows_of (found_of matches.now))) }
-    ensures workers { IfOk result (λ numbers. numbers.workers ≡ workers) }
+    ensures config { IfOk result (IsConfig (rows_of (found_of matches.now))) }
+    ensures workers { IfOk result (λ config. config.workers ≡ workers) }
     ensures failed { IfErr result (IsUnread (rows_of (found_of matches.now))) }
 {
-    Ok(Numbers {
+    Ok(Config {
         bound: given_number(matches, BOUND.name),
         quantum: number(matches, QUANTUM.name),
         shuffle: shuffle_given(matches)?,
@@ -156,7 +155,10 @@ fn shuffle_given<'a>(matches: &ArgMatches<'a>) -> Result<Option<Shuffle>, Failur
 }
 
 /// The texts that a run is to leave, in their order.
-fn wanted_of<'a>(alloc: Global, matches: &ArgMatches<'a>) -> Result<Vec<Wanted<'a>>, AllocError>
+fn wanted_of<'a>(
+    alloc: Global,
+    matches: &ArgMatches<'a>,
+) -> Result<Vec<RequestedText<'a>>, AllocError>
     ensures { IfOk result (λ wanted. AreWanted (rows_of (found_of matches.now)) texts wanted.items) }
 {
     let mut wanted = Vec::new(alloc);
@@ -168,7 +170,7 @@ fn wanted_of<'a>(alloc: Global, matches: &ArgMatches<'a>) -> Result<Vec<Wanted<'
 fn add_wanted<'a>(
     matches: &ArgMatches<'a>,
     parameters: &[Parameter],
-    wanted: &mut Vec<Wanted<'a>>,
+    wanted: &mut Vec<RequestedText<'a>>,
 ) -> Result<(), AllocError>
     requires { AreNamed parameters.now }
     ensures { OnOk result (AddsWanted (rows_of (found_of matches.now)) (texts_of parameters.now) wanted.old.items wanted.new.items) }
@@ -184,7 +186,7 @@ fn add_wanted<'a>(
 fn add_if_wanted<'a>(
     matches: &ArgMatches<'a>,
     parameter: &Parameter,
-    wanted: &mut Vec<Wanted<'a>>,
+    wanted: &mut Vec<RequestedText<'a>>,
 ) -> Result<(), AllocError>
     requires { IsNamedFor parameter.now.form parameter.now.name.now }
     ensures { OnOk result
@@ -195,7 +197,7 @@ fn add_if_wanted<'a>(
     };
     match destination(matches, parameter.name) {
         Some(destination) => {
-            wanted.push(Wanted { text, destination })?;
+            wanted.push(RequestedText { text, destination })?;
             Ok(())
         }
         None => Ok(()),

@@ -1,7 +1,7 @@
 //! What a command line asks for.
 use crate::number_range::NumberRange;
-use crate::numbers::Numbers;
-use crate::wanted::Wanted;
+use crate::requested_text::RequestedText;
+use shuffled_phases::Config;
 
 /// What a command line asks for.
 #[derive(Drop)]
@@ -11,17 +11,17 @@ pub enum Request<'a> {
         file: &'a str,
         /// The file of the guest's input, which is standard input where there is none.
         input: Option<&'a str>,
-        numbers: Numbers,
+        config: Config,
         /// The texts that it is to leave, in their order.
-        wanted: Vec<Wanted<'a>>,
+        wanted: Vec<RequestedText<'a>>,
     },
     /// Run the program of a file by each of a range of schedules.
     Explore {
         file: &'a str,
         /// The file of the guest's input, which is standard input where there is none.
         input: Option<&'a str>,
-        /// Those of each run, without a schedule's number.
-        numbers: Numbers,
+        /// That of each run, without a schedule's number.
+        config: Config,
         /// The numbers of the schedules.
         range: NumberRange,
         /// Whether a second outcome or output is a failure, too.
@@ -36,7 +36,7 @@ pub enum Request<'a> {
         file: &'a str,
         /// The file of the guest's input, which is empty where there is none.
         input: Option<&'a str>,
-        numbers: Numbers,
+        config: Config,
         /// The turn at whose start gdb finds the program, from 1.
         turn: u64,
     },
@@ -46,6 +46,6 @@ pub enum Request<'a> {
         schedule: &'a str,
         /// The file of the guest's input, which is standard input where there is none.
         input: Option<&'a str>,
-        numbers: Numbers,
+        config: Config,
     },
 }

@@ -10,9 +10,9 @@ use Rattle.command_run.specs.Recording.{wanted_by, wanted_of}
 use Rattle.command_run.specs.Texts.{IsUnbegun, destinations}
 use Rattle.command_requests.specs.declared.failure.Failure.{Failure}
 use Rattle.command_run.specs.declared.item.Item.{Item}
-use Rattle.command_requests.specs.declared.wanted.Wanted.{Wanted}
+use Rattle.command_requests.specs.declared.requested_text.RequestedText.{RequestedText}
 
-module _ (wanted : List Wanted) (i : ℕ) (d : Wanted) (within : i < length wanted) where
+module _ (wanted : List RequestedText) (i : ℕ) (d : RequestedText) (within : i < length wanted) where
   -- one text more was begun
   pub one_more : {O : Type 0} (items all : List (Item O)) (item : Item O) → all ≡ items ++ item ∷ [] → wanted_by items ≡ take i wanted → wanted_of item ≡ get_or wanted i d
       → wanted_by all ≡ take (i + 1) wanted
@@ -31,7 +31,7 @@ module _ (wanted : List Wanted) (i : ℕ) (d : Wanted) (within : i < length want
   kept_by_one old now new kept one = λ path files parts. one path tt (no_part_of path parts, tt) ∙ kept path tt parts
 
   -- and so do those so far, where they are taken away
-  pub kept_by_front : (front : List Wanted) (old now new : Content) → front ≡ take i wanted → KeepsBut [] (destinations wanted) old now → KeepsBut [] (destinations front) now new
+  pub kept_by_front : (front : List RequestedText) (old now new : Content) → front ≡ take i wanted → KeepsBut [] (destinations wanted) old now → KeepsBut [] (destinations front) now new
       → KeepsBut [] (destinations wanted) old new
   kept_by_front front old now new is kept taken = λ path files parts.
       taken path tt

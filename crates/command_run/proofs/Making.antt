@@ -13,7 +13,7 @@ use Rattle.sharing_report.specs.declared.page_row.PageRow.{PageRow}
 use Rattle.sharing_report.specs.declared.sharing_recorder.SharingRecorder.{SharingRecorder}
 use Rattle.token.specs.Change.{Change}
 use Rattle.command_run.specs.Texts.{IsCoreAt, IsReportOf}
-use Rattle.command_run.specs.declared.ended.Ended.{Ended}
+use Rattle.command_run.specs.declared.ended_run.EndedRun.{EndedRun}
 
 -- a writer that held nothing and took a text holds it
 took : (new : Option (List ℕ)) (text : List ℕ) → Appends (Some []) new text → new ≡ Some text
@@ -24,7 +24,7 @@ pub given_all : (old new : Option (List ℕ)) (text : List ℕ) → old ≡ Some
 given_all old new text is sent = took new text (subst (λ (known : Option (List ℕ)). Appends known new text) is sent)
 
 -- an output that held nothing and took a core file holds it
-pub core_given : {O : Type 0} (contents : O → Option (List ℕ)) (old new : O) (ended : Ended) (threads : List CoreThread)
+pub core_given : {O : Type 0} (contents : O → Option (List ℕ)) (old new : O) (ended : EndedRun) (threads : List CoreThread)
     → threads ≡ core_threads ended.end.outcome ended.end.threads.items → (file : List ℕ) × IsCoreOf threads (cells_of ended.end.memory) file × Appends (contents old) (contents new) file
     → Has contents old [] → (text : List ℕ) × IsCoreAt ended text × Has contents new text
 core_given contents old new ended threads is wrote empty =

@@ -7,7 +7,7 @@ use Rattle.output_files.specs.Content.{Content}
 use Rattle.std.proofs.lemmas.List.Elements.{All-head, All-tail}
 use Rattle.token.specs.Change.{Change}
 use Rattle.sharing_report.specs.Recording.{AreInOrder}
-use Rattle.command_run.specs.declared.ended.Ended.{Ended}
+use Rattle.command_run.specs.declared.ended_run.EndedRun.{EndedRun}
 use Rattle.token.specs.declared.turn.Turn.{Turn}
 use Rattle.command_run.specs.Recording.{AreTold, IsTold, wanted_by, wanted_of}
 use Rattle.command_run.specs.declared.item.Item.{Item}
@@ -17,7 +17,7 @@ use Rattle.command_run.specs.Texts.{AreAllOut, ArePrinted, AreCutShort, AreTexts
 use Rattle.command_requests.specs.declared.destination.Destination.{Destination}
 use Rattle.command_requests.specs.declared.destination.Destination.TheVariants.{StandardOutput, File}
 use Rattle.command_requests.specs.declared.failure.Failure.{Failure}
-use Rattle.command_requests.specs.declared.wanted.Wanted.{Wanted}
+use Rattle.command_requests.specs.declared.requested_text.RequestedText.{RequestedText}
 
 -- texts for other destinations leave a file as it is
 still_filed : (destination : Destination) (others : List Destination) (text : List ℕ) (old new : Content) → KeepsBut others [] old new
@@ -27,7 +27,7 @@ still_filed (File path) others text old new kept filed apart =
     subst (λ (known : Option (List ℕ)). IfSome known (λ all. all ≡ text)) (sym (kept path.now apart tt)) filed
 
 -- the texts go where they are wanted
-homes_of : (left : Left) (wanted : List Wanted) (texts : List Placed) → AreTextsOf wanted left texts → homes texts ≡ destinations wanted
+homes_of : (left : Left) (wanted : List RequestedText) (texts : List Placed) → AreTextsOf wanted left texts → homes texts ≡ destinations wanted
 homes_of left [] [] are = refl
 homes_of left [] (text ∷ texts) are = absurd are
 homes_of left (one ∷ wanted) [] are = absurd are
@@ -35,7 +35,7 @@ homes_of left (one ∷ wanted) (text ∷ texts) are =
     ap (λ home. home ∷ homes texts) are.0.destination ∙ ap (λ others. one.destination ∷ others) (homes_of left wanted texts are.1)
 
 -- destinations of texts one after the other
-destinations-append : (front rest : List Wanted) → destinations (front ++ rest) ≡ destinations front ++ destinations rest
+destinations-append : (front rest : List RequestedText) → destinations (front ++ rest) ≡ destinations front ++ destinations rest
 destinations-append [] rest = refl
 destinations-append (one ∷ front) rest = ap (λ others. one.destination ∷ others) (destinations-append front rest)
 
@@ -73,7 +73,7 @@ none_out tells left content known = record {
 }
 
 -- the first text isn't where it is to be, and those after it were taken away
-pub missed_first : (tells : Type 0) (first : Wanted) (rest : List Wanted) (left : Left) (old now new : Content) (out last : Option (List ℕ)) (failure : Failure)
+pub missed_first : (tells : Type 0) (first : RequestedText) (rest : List RequestedText) (left : Left) (old now new : Content) (out last : Option (List ℕ)) (failure : Failure)
     → IsUnwrittenTo first.destination failure → KeepsUnlessPrinted first.destination out last → KeepsBut (first.destination ∷ []) [] old now
     → KeepsBut [] (destinations rest) now new → AreCutShort tells (first ∷ rest) left old new out last failure
 missed_first tells first rest left old now new out last failure why kept others taken = record {
@@ -91,7 +91,7 @@ missed_first tells first rest left old now new out last failure why kept others 
 }
 
 -- The first text is where it is to be, and then the others went on.
-pub goes_on : {T : Type 0} (tells : Type 0) (first : Wanted) (rest : List Wanted) (left : Left) (text : List ℕ) (old now new : Content) (out mid last : Option (List ℕ))
+pub goes_on : {T : Type 0} (tells : Type 0) (first : RequestedText) (rest : List RequestedText) (left : Left) (text : List ℕ) (old now new : Content) (out mid last : Option (List ℕ))
     (result : Result T Failure) → IsTextOf first.text left text → IsPut tells first.destination text now out mid → KeepsBut (first.destination ∷ []) [] old now
     → KeepsBut (destinations rest) [] now new → ComesOut tells rest left now new mid last result → ComesOut tells (first ∷ rest) left old new out last result
 goes_on tells first rest left text old now new out mid last (Ok value) is put kept left_so others = record {
@@ -143,7 +143,7 @@ pub all_out : {O : Type 0} (tells : Type 0) (items : List (Item O)) (left : Left
 all_out {O} tells items left content known is =
     subst (λ (all : List (Item O)). AreAllOut tells (wanted_by all) left content content known known) (sym is) (none_out tells left content known)
 
-module _ {O : Type 0} (contents : O → Option (List ℕ)) (tells : Type 0) (items : List (Item O)) (item : Item O) (rest : List (Item O)) (end : Ended) (old now new : Content)
+module _ {O : Type 0} (contents : O → Option (List ℕ)) (tells : Type 0) (items : List (Item O)) (item : Item O) (rest : List (Item O)) (end : EndedRun) (old now new : Content)
     (out mid last : Option (List ℕ)) (is : items ≡ item ∷ rest) (kept : KeepsBut (item.destination ∷ []) [] old now) where
   -- the first item's text is where it is to be, and then the others went on
   pub item_goes_on : {T : Type 0} (result : Result T Failure) (turns : List Turn) (changes : List Change)
@@ -179,7 +179,7 @@ all_append P [] rest all others = others
 all_append P (first ∷ front) rest all others = (all.0, all_append P front rest all.1 others)
 
 -- what was begun before left all but the parts as they were
-pub from_before : {T : Type 0} (tells : Type 0) (wanted : List Wanted) (left : Left) (old now new : Content) (out last : Option (List ℕ)) (result : Result T Failure)
+pub from_before : {T : Type 0} (tells : Type 0) (wanted : List RequestedText) (left : Left) (old now new : Content) (out last : Option (List ℕ)) (result : Result T Failure)
     → KeepsBut [] (destinations wanted) old now → ComesOut tells wanted left now new out last result → ComesOut tells wanted left old new out last result
 from_before tells wanted left old now new out last (Ok value) kept all =
     record { texts = all.texts; are_texts = all.are_texts; out = all.out; others = λ path files parts. all.others path files parts ∙ kept path tt (no_parts path (destinations wanted) files) }

@@ -12,7 +12,7 @@ use Rattle.runtime.proofs.Prefixes.{appends_prefix}
 use Rattle.runtime.proofs.OneReport.{answer_so, one_answer}
 use Rattle.runtime.specs.Recorded.{Ends, EndsOrRecords, IsRecordedEnd, Recording}
 use Rattle.runtime.specs.Sending.{AppendsPrefix, CountsFailures, SendsPrefix}
-use Rattle.runtime.specs.declared.config.Config.{Config}
+use Rattle.shuffled_phases.specs.declared.config.Config.{Config}
 use Rattle.runtime.specs.declared.run_end.RunEnd.{RunEnd}
 use Rattle.runtime.specs.declared.interruption.Interruption.{Interruption}
 use Rattle.runtime.specs.declared.interruption.Interruption.TheVariants as stop
@@ -43,12 +43,12 @@ use Rattle.symbols.specs.Symbols.{symbols_of}
 use Rattle.command_run.specs.Observing.{AreFound}
 use Rattle.races.specs.Texts.{text_of}
 use Rattle.races.specs.declared.race.Race.{Race}
-use Rattle.command_run.specs.declared.opened.Opened.{Opened}
+use Rattle.command_run.specs.declared.opened_run.OpenedRun.{OpenedRun}
 use Rattle.command_run.specs.Serves.{left_after, AreOneFile, AreOpenedFrom, AreRun, AreWantedRaces, Concludes, Host, IsBegun, IsStopped, IsUnrun, LeavesTexts, RunRequest, RunsInto}
 use Rattle.command_requests.specs.declared.destination.Destination.{Destination}
 use Rattle.command_requests.specs.declared.failure.Failure.{Failure}
 use Rattle.command_requests.specs.declared.failure.Failure.TheVariants.{OutOfMemory}
-use Rattle.command_requests.specs.declared.wanted.Wanted.{Wanted}
+use Rattle.command_requests.specs.declared.requested_text.RequestedText.{RequestedText}
 
 -- what holds of the error that `?` hands on
 pub handed_on : {T : Type 0} (Is : Result T Failure → Type 0) (failure : Failure) (answer : Result T Failure) → Is (Err failure) → IsErrAnd answer (λ given. given ≡ failure) → Is answer
@@ -56,7 +56,7 @@ handed_on Is failure (Ok value) is given = absurd given
 handed_on Is failure (Err other) is given = subst (λ (failed : Failure). Is (Err failed)) (sym given) is
 
 -- what holds of what a run was opened with holds of what it is given
-pub begun : (content input : Option (List ℕ)) (config : Config) (opened : Opened) (Is : SymbolLists → Setup → Type 0)
+pub begun : (content input : Option (List ℕ)) (config : Config) (opened : OpenedRun) (Is : SymbolLists → Setup → Type 0)
     → (are : AreRun content input (AreOpenedFrom config opened)) → Is (symbols_of are.0) (point_of opened.start).setup
     → IsBegun content input config Is
 begun content input config opened Is are is = (are.0, are.1, are.2, are.3, (are.4.start.0, subst (Is (symbols_of are.0)) are.4.start.1 is))
@@ -91,12 +91,12 @@ first_or_later first others x has =
     (Contains-append_cases (first ∷ []) others x has)
 
 -- the destination is that of one of these texts, which is written as the turns are done, if there is a destination
-abbrev pub IsBlamed : List Wanted → Option Destination → Type 0
+abbrev pub IsBlamed : List RequestedText → Option Destination → Type 0
 IsBlamed wanted None = Unit {0}
-IsBlamed wanted (Some destination) = (one : Wanted) × Contains wanted one × (writes_meanwhile one.text ≡ true) × (destination ≡ one.destination)
+IsBlamed wanted (Some destination) = (one : RequestedText) × Contains wanted one × (writes_meanwhile one.text ≡ true) × (destination ≡ one.destination)
 
 -- one more text before
-blamed_later : (first : Wanted) (others : List Wanted) (destination : Option Destination) → IsBlamed others destination → IsBlamed (first ∷ others) destination
+blamed_later : (first : RequestedText) (others : List RequestedText) (destination : Option Destination) → IsBlamed others destination → IsBlamed (first ∷ others) destination
 blamed_later first others None blamed = tt
 blamed_later first others (Some destination) blamed = (blamed.0, later_in first others blamed.0 blamed.1, blamed.2, blamed.3)
 
@@ -134,13 +134,13 @@ unwritten_blamed items = go (failed_in items) (failed_blamed items)
     go (Some destination) blamed = blamed
 
 -- so is what was answered for the texts
-pub blamed_as : {O : Type 0} (items shown : List (Item O)) (wanted : List Wanted) (destination : Option Destination) → shown ≡ items → wanted_by items ≡ wanted
+pub blamed_as : {O : Type 0} (items shown : List (Item O)) (wanted : List RequestedText) (destination : Option Destination) → shown ≡ items → wanted_by items ≡ wanted
     → destination ≡ unwritten shown → IsBlamed wanted destination
 blamed_as {O} items shown wanted destination same are is =
-    subst (λ (all : List Wanted). IsBlamed all destination) are
+    subst (λ (all : List RequestedText). IsBlamed all destination) are
     (subst (λ (to : Option Destination). IsBlamed (wanted_by items) to) (sym (is ∙ ap (λ (all : List (Item O)). unwritten all) same)) (unwritten_blamed items))
 
-pub stopped_by : (wanted : List Wanted) (destination : Option Destination) (setup : Setup) (interruption : Interruption) (failure : Failure) (before after : Host)
+pub stopped_by : (wanted : List RequestedText) (destination : Option Destination) (setup : Setup) (interruption : Interruption) (failure : Failure) (before after : Host)
     → IsBlamed wanted destination → IsStoppedBy destination interruption failure
     → CountsFailures {T = RunEnd} stop.WriteFailed (Err interruption) before.failures after.failures
     → SendsPrefix setup before.output after.output → IsStopped wanted setup before after failure
@@ -161,7 +161,7 @@ abbrev left_with : List Turn → List Change → RunEnd → (races : List ℕ) �
 left_with turns changes end races =
     record { turns = turns; changes = changes; ends = end.outcome; output = end.output.items; memory = cells_of end.memory; threads = end.threads.items; races = races }
 
-module _ {R : Type 0} (told : Recording R) (tells : Type 0) (wanted : List Wanted) (symbols : SymbolLists) (setup : Setup) (end : RunEnd) (races : List ℕ) (recorders : R)
+module _ {R : Type 0} (told : Recording R) (tells : Type 0) (wanted : List RequestedText) (symbols : SymbolLists) (setup : Setup) (end : RunEnd) (races : List ℕ) (recorders : R)
     (before after : Host) (now : Content) (mid : Option (List ℕ)) (ends : Ends told setup end recorders) (are_races : AreWantedRaces wanted symbols setup races) where
   abbrev history : History
   history = ends.some.0
@@ -189,7 +189,7 @@ module _ {R : Type 0} (told : Recording R) (tells : Type 0) (wanted : List Wante
     texts_are = subst (λ (left : Left). AreTextsOf wanted left texts) (left_so end.output.items) are;
   }
 
-  module _ {T : Type 0} (texts : List Wanted) (result : Result T Failure) (same : texts ≡ wanted) (kept : KeepsBut [] (destinations wanted) before.files now)
+  module _ {T : Type 0} (texts : List RequestedText) (result : Result T Failure) (same : texts ≡ wanted) (kept : KeepsBut [] (destinations wanted) before.files now)
       (sent : Appends before.output mid end.output.items)
       (has : (turns : List Turn) (changes : List Change) → told recorders turns changes → AreInOrder changes
       → ComesOut tells texts (left_with turns changes end races) now after.files mid after.output result) where
@@ -197,7 +197,7 @@ module _ {R : Type 0} (told : Recording R) (tells : Type 0) (wanted : List Wante
     came_out : ComesOut tells wanted (left_with (turns_of history) (changes_of history) end races) before.files after.files mid after.output result
     came_out =
         from_before tells wanted (left_with (turns_of history) (changes_of history) end races) before.files now after.files mid after.output result kept
-        (subst (λ (all : List Wanted). ComesOut tells all (left_with (turns_of history) (changes_of history) end races) now after.files mid after.output result) same
+        (subst (λ (all : List RequestedText). ComesOut tells all (left_with (turns_of history) (changes_of history) end races) now after.files mid after.output result) same
         (has (turns_of history) (changes_of history) ends.some.2.recorded (in_order setup history ends.some.1.legal)))
 
     -- the texts are where they are to be
@@ -243,21 +243,21 @@ module _ {R : Type 0} (told : Recording R) (tells : Type 0) (wanted : List Wante
     })
 
 -- if no text is wanted, none was begun
-pub none_begun : {O : Type 0} (items : List (Item O)) (wanted : List Wanted) → wanted_by items ≡ wanted → wanted ≡ [] → items ≡ []
+pub none_begun : {O : Type 0} (items : List (Item O)) (wanted : List RequestedText) → wanted_by items ≡ wanted → wanted ≡ [] → items ≡ []
 none_begun [] wanted are none = refl
 none_begun (first ∷ others) wanted are none =
     let no : wanted_of first ∷ wanted_by others ≡ [] = are ∙ none in
     cc
 
 -- the parts alone change twice
-pub but_parts_twice : (texts wanted : List Wanted) (old now new : Content) → texts ≡ wanted → KeepsBut [] (destinations wanted) old now
+pub but_parts_twice : (texts wanted : List RequestedText) (old now new : Content) → texts ≡ wanted → KeepsBut [] (destinations wanted) old now
     → KeepsBut [] (destinations texts) now new → KeepsBut [] (destinations wanted) old new
 but_parts_twice texts wanted old now new same first second =
-    let others = subst (λ (all : List Wanted). KeepsBut [] (destinations all) now new) same second in
+    let others = subst (λ (all : List RequestedText). KeepsBut [] (destinations all) now new) same second in
     λ path files parts. others path files parts ∙ first path files parts
 
 -- the output of a text couldn't be begun, and nothing was put out
-pub concludes_unbegun : (tells : Type 0) (wanted : List Wanted) (symbols : SymbolLists) (setup : Setup) (files now : Content) (out : Option (List ℕ)) (failures : ℕ)
+pub concludes_unbegun : (tells : Type 0) (wanted : List RequestedText) (symbols : SymbolLists) (setup : Setup) (files now : Content) (out : Option (List ℕ)) (failures : ℕ)
     (failure : Failure) (answer : Result RunOutcome Failure) → KeepsBut [] (destinations wanted) files now → IsUnbegun wanted failure
     → IsErrAnd answer (λ given. given ≡ failure)
     → Concludes tells wanted symbols (record { files = files; output = out; failures = failures }) (record { files = now; output = out; failures = failures }) setup answer
@@ -286,7 +286,7 @@ writing_some (first ∷ others) has = go (writes_meanwhile (kind_of first.record
     go : (is : Bool) → writes_meanwhile (kind_of first.recording) ≡ is → (HasWriting (wanted_by others) → is_some (writing_in others) ≡ true) → is_some (if is then Some first.destination else writing_in others) ≡ true
     go true is rest = refl
     go false is rest =
-        ⊎_elim (λ same. absurd (unlike (sym is ∙ (ap (λ (one : Wanted). writes_meanwhile one.text) same ∙ has.2))))
+        ⊎_elim (λ same. absurd (unlike (sym is ∙ (ap (λ (one : RequestedText). writes_meanwhile one.text) same ∙ has.2))))
         (λ later. rest (has.0, later, has.2)) (first_or_later (wanted_of first) (wanted_by others) has.0 has.1)
 
 pub unwritten_some : {O : Type 0} (items : List (Item O)) → HasWriting (wanted_by items) → is_some (unwritten items) ≡ true
@@ -297,14 +297,14 @@ unwritten_some items has = go (failed_in items)
     go (Some destination) = refl
 
 -- a run that was begun answers what it concludes with
-pub runs_to : (tells : Type 0) (request : RunRequest) (before after : Host) (opened : Opened) (answer : Result RunOutcome Failure)
+pub runs_to : (tells : Type 0) (request : RunRequest) (before after : Host) (opened : OpenedRun) (answer : Result RunOutcome Failure)
     → (are : AreRun (before.files request.path) request.input (AreOpenedFrom request.config opened))
     → Concludes tells request.wanted (symbols_of are.0) before after (point_of opened.start).setup answer → RunsInto tells request before after answer
 runs_to tells request before after opened answer are concluded =
     inl (begun (before.files request.path) request.input request.config opened (λ symbols setup. Concludes tells request.wanted symbols before after setup answer) are concluded)
 
 -- the text that was made is that of the wanted races
-pub wanted_races : (wanted : List Wanted) (symbols : SymbolLists) (own : Option SymbolLists) (setup : Setup) (races : List Race) (text : List ℕ)
+pub wanted_races : (wanted : List RequestedText) (symbols : SymbolLists) (own : Option SymbolLists) (setup : Setup) (races : List Race) (text : List ℕ)
     → is_some own ≡ wants_races wanted → IfSome own (λ own. own ≡ symbols) → AreFound (is_some own) setup races
     → IfSome own (λ own. text ≡ text_of own races) → AreWantedRaces wanted symbols setup text
 wanted_races wanted symbols None setup races text same names are is wants = absurd (unlike (same ∙ wants))
@@ -325,7 +325,7 @@ runs_unbegun tells request before after failure answer unrun files output given 
 })
 
 -- a run that came to its end, and for whose races memory was refused: all of its output was put out
-pub concludes_refused : {R : Type 0} (told : Recording R) (tells : Type 0) (wanted : List Wanted) (symbols : SymbolLists) (setup : Setup) (end : RunEnd) (recorders : R)
+pub concludes_refused : {R : Type 0} (told : Recording R) (tells : Type 0) (wanted : List RequestedText) (symbols : SymbolLists) (setup : Setup) (end : RunEnd) (recorders : R)
     (before after : Host) (failure : Failure) → Ends told setup end recorders → failure ≡ OutOfMemory → Appends before.output after.output end.output.items
     → KeepsBut [] (destinations wanted) before.files after.files → Concludes tells wanted symbols before after setup (Err failure)
 concludes_refused told tells wanted symbols setup end recorders before after failure ends refused sent kept =

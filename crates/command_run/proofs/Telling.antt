@@ -9,7 +9,7 @@ use Rattle.token.specs.Change.{Change}
 use Rattle.token.specs.declared.turn.Turn.{Turn}
 use Rattle.command_run.specs.Recording.{AreTold, HasWriting, IsTold, wanted_by, wanted_of, writes_meanwhile}
 use Rattle.command_run.specs.declared.item.Item.{Item}
-use Rattle.command_requests.specs.declared.wanted.Wanted.{Wanted}
+use Rattle.command_requests.specs.declared.requested_text.RequestedText.{RequestedText}
 
 -- what holds of the error that `?` hands on
 pub if_err : {T E : Type 0} (P : E → Type 0) (result : Result T E) (failure : E) → P failure → IsErrAnd result (λ given. given ≡ failure) → IfErr result P
@@ -34,7 +34,7 @@ module _ {O : Type 0} (items : List (Item O)) (i : ℕ) (new d : Item O) (within
   pub one_writes : (olds : List (Item O)) → wanted_by items ≡ wanted_by olds → writes_meanwhile (wanted_of (get_or items i d)).text ≡ true → HasWriting (wanted_by olds)
   one_writes olds are writes = (
     wanted_of (get_or items i d),
-    subst (λ (all : List Wanted). Contains all (wanted_of (get_or items i d))) are
+    subst (λ (all : List RequestedText). Contains all (wanted_of (get_or items i d))) are
         (subst (Contains (wanted_by items)) (get_or-map wanted_of items i d (wanted_of d) within) (Contains-get_or (wanted_by items) i (wanted_of d) (subst (λ (n : ℕ). i < n) (sym (length-map items wanted_of)) within))),
     writes,
   )

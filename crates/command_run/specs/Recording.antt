@@ -11,7 +11,7 @@ use Rattle.tracer.specs.Recording.{Traces}
 use Rattle.command_requests.specs.declared.destination.Destination.{Destination}
 use Rattle.command_requests.specs.declared.text.Text.{Text}
 use Rattle.command_requests.specs.declared.text.Text.TheVariants as text
-use Rattle.command_requests.specs.declared.wanted.Wanted.{Wanted}
+use Rattle.command_requests.specs.declared.requested_text.RequestedText.{RequestedText}
 use Rattle.command_run.specs.declared.item.Item.{Item}
 use Rattle.command_run.specs.declared.recording.Recording.{Recording}
 use Rattle.command_run.specs.declared.recording.Recording.TheVariants.{Trace, Timeline, Report, Races, Core, Digest}
@@ -26,10 +26,10 @@ kind_of (Core output) = text.Core
 kind_of (Digest recorder output) = text.Digest
 
 -- the text that is wanted, and its destination
-abbrev pub wanted_of : {O : Type 0} → Item O → Wanted
+abbrev pub wanted_of : {O : Type 0} → Item O → RequestedText
 wanted_of item = record { text = kind_of item.recording; destination = item.destination }
 
-abbrev pub wanted_by : {O : Type 0} → List (Item O) → List Wanted
+abbrev pub wanted_by : {O : Type 0} → List (Item O) → List RequestedText
 wanted_by items = map wanted_of items
 
 -- It was told these turns and changes. The output of a text that is made at the end holds nothing yet.
@@ -67,8 +67,8 @@ writes_meanwhile text.Core = false
 writes_meanwhile text.Digest = false
 
 -- one of these texts is written as the turns are done
-abbrev pub HasWriting : List Wanted → Type 0
-HasWriting wanted = (one : Wanted) × Contains wanted one × (writes_meanwhile one.text ≡ true)
+abbrev pub HasWriting : List RequestedText → Type 0
+HasWriting wanted = (one : RequestedText) × Contains wanted one × (writes_meanwhile one.text ≡ true)
 
 -- it says that it has failed: a timeline does, a trace doesn't say it, and the others don't write
 abbrev pub has_failed : {O : Type 0} → Recording O → Bool

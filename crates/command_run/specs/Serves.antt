@@ -11,7 +11,7 @@ use Rattle.output_files.specs.declared.file_name.FileName.{FileName}
 use Rattle.runtime.specs.Answer.{HasAnswer, IsComplete}
 use Rattle.runtime.specs.Run.{IsAccepted, IsRefusedBy, IsRunnable, setup_from}
 use Rattle.runtime.specs.Sending.{SendsPrefix}
-use Rattle.runtime.specs.declared.config.Config.{Config}
+use Rattle.shuffled_phases.specs.declared.config.Config.{Config}
 use Rattle.runtime.specs.declared.refusal.Refusal.{Refusal}
 use Rattle.runtime.specs.declared.write_sink.WriteSink.{WriteSink}
 use Rattle.abi.specs.Limits as limit
@@ -33,8 +33,8 @@ use Rattle.command_run.specs.declared.item.Item.{Item}
 use Rattle.command_requests.specs.declared.failure.Failure.{Failure}
 use Rattle.command_requests.specs.declared.failure.Failure.TheVariants.{OneFile, CannotWrite, OutOfMemory}
 use Rattle.command_requests.specs.declared.target.Target.TheVariants.{StandardOutput}
-use Rattle.command_requests.specs.declared.wanted.Wanted.{Wanted}
-use Rattle.command_run.specs.declared.opened.Opened.{Opened}
+use Rattle.command_requests.specs.declared.requested_text.RequestedText.{RequestedText}
+use Rattle.command_run.specs.declared.opened_run.OpenedRun.{OpenedRun}
 use Rattle.command_run.specs.Failure.{failure_of_refusal}
 use Rattle.command_run.specs.Observing.{IsRaceText}
 use Rattle.symbols.specs.Symbol.{SymbolLists}
@@ -62,10 +62,10 @@ pub record RunRequest : Type 0 where
   pub is_same : Sameness
   pub input : Option (List ℕ)
   pub config : Config
-  pub wanted : List Wanted
+  pub wanted : List RequestedText
 
 -- the run of a file that these arguments ask for
-abbrev pub run_of : Bor (List ℕ) → Sameness → Option (List ℕ) → Config → List Wanted → RunRequest
+abbrev pub run_of : Bor (List ℕ) → Sameness → Option (List ℕ) → Config → List RequestedText → RunRequest
 run_of file is_same input config wanted =
     record { path = file.now; names = names_of file wanted; is_same = is_same; input = input; config = config; wanted = wanted }
 
@@ -84,12 +84,12 @@ abbrev pub IsOpenedFrom : Config → RunInTurn → List ℕ → List ℕ → Typ
 IsOpenedFrom config start elf input = IsAccepted elf input config × ((point_of start).setup ≡ setup_from elf input config)
 
 -- and the names that its races are told by, if they are wanted, are those of the file's symbols
-pub record AreOpenedFrom (config : Config) (opened : Opened) (elf input : List ℕ) : Type 0 where
+pub record AreOpenedFrom (config : Config) (opened : OpenedRun) (elf input : List ℕ) : Type 0 where
   pub start : IsOpenedFrom config opened.start elf input
   pub symbols : IfSome opened.symbols (λ symbols. symbols ≡ symbols_of elf)
 
 -- A run was opened of which no turn is done, and the names that its races are told by are there exactly where they are wanted.
-pub record IsReady (observes : Bool) (opened : Opened) : Type 0 where
+pub record IsReady (observes : Bool) (opened : OpenedRun) : Type 0 where
   pub wanted : is_some opened.symbols ≡ observes
   pub done : (point_of opened.start).done ≡ 0
   pub output : (point_of opened.start).state.output ≡ []
@@ -113,39 +113,39 @@ left_after setup history ends output races =
     }
 
 -- how a history ends, its output, and the texts of its turns and changes, with this text of its races
-pub record LeavesTexts (setup : Setup) (wanted : List Wanted) (ends : RunOutcome) (output races : List ℕ) (texts : List Placed) (history : History) : Type 0 where
+pub record LeavesTexts (setup : Setup) (wanted : List RequestedText) (ends : RunOutcome) (output races : List ℕ) (texts : List Placed) (history : History) : Type 0 where
   pub ends_so : outcome setup history ≡ Some ends
   pub output_is : (present setup history).output ≡ output
   pub texts_are : AreTextsOf wanted (left_after setup history ends output races) texts
 
 -- There is a complete history that ends so, with this output and these texts, and so it is with every complete history.
-abbrev pub ComesTo : Setup → List Wanted → RunOutcome → (output races : List ℕ) → List Placed → Type 0
+abbrev pub ComesTo : Setup → List RequestedText → RunOutcome → (output races : List ℕ) → List Placed → Type 0
 ComesTo setup wanted ends output races texts = HasAnswer setup (LeavesTexts setup wanted ends output races texts)
 
 -- a write of one of the texts that are written as the turns are done failed
-abbrev pub IsUnwrittenMeanwhile : List Wanted → Failure → Type 0
+abbrev pub IsUnwrittenMeanwhile : List RequestedText → Failure → Type 0
 IsUnwrittenMeanwhile wanted failure =
-    (one : Wanted) × Contains wanted one × (writes_meanwhile one.text ≡ true) × IsUnwrittenTo one.destination failure
+    (one : RequestedText) × Contains wanted one × (writes_meanwhile one.text ≡ true) × IsUnwrittenTo one.destination failure
 
 -- Why a run that began has no answer, and what standard output holds: memory was refused, or standard output failed once, or a write of
 -- a text to its destination as the turns were done. A prefix of the output of some legal history is put out.
-abbrev pub IsStopped : List Wanted → Setup → (before after : Host) → Failure → Type 0
+abbrev pub IsStopped : List RequestedText → Setup → (before after : Host) → Failure → Type 0
 IsStopped wanted setup before after failure =
     ((failure ≡ OutOfMemory) ⊎ (((failure ≡ CannotWrite StandardOutput) × (after.failures ≡ before.failures + 1)) ⊎ IsUnwrittenMeanwhile wanted failure))
     × SendsPrefix setup before.output after.output
 
 -- Why a run has no answer although nothing refuses it: the output of a text couldn't be begun, and nothing was put out; or the run
 -- was stopped.
-abbrev pub IsHalted : List Wanted → (before after : Host) → Failure → Setup → Type 0
+abbrev pub IsHalted : List RequestedText → (before after : Host) → Failure → Setup → Type 0
 IsHalted wanted before after failure setup =
     (IsUnbegun wanted failure × (after.output ≡ before.output)) ⊎ IsStopped wanted setup before after failure
 
 -- the text is that of the run's races, if they are wanted
-abbrev pub AreWantedRaces : List Wanted → SymbolLists → Setup → List ℕ → Type 0
+abbrev pub AreWantedRaces : List RequestedText → SymbolLists → Setup → List ℕ → Type 0
 AreWantedRaces wanted symbols setup text = wants_races wanted ≡ true → IsRaceText symbols setup text
 
 -- There is a complete history, all of its output is put out, and then one of its texts didn't get to where it is to be.
-pub record IsLeftOut (tells : Type 0) (wanted : List Wanted) (symbols : SymbolLists) (before after : Host) (failure : Failure) (setup : Setup) : Type 0 where
+pub record IsLeftOut (tells : Type 0) (wanted : List RequestedText) (symbols : SymbolLists) (before after : Host) (failure : Failure) (setup : Setup) : Type 0 where
   pub history : History
   pub complete : IsComplete setup history
   pub ends : RunOutcome
@@ -158,7 +158,7 @@ pub record IsLeftOut (tells : Type 0) (wanted : List Wanted) (symbols : SymbolLi
 
 -- What a run that nothing refuses answers: its outcome, with the output put out and each text where it is to be, and the other files as they
 -- were. Or it has no answer, and the files are as they were but for the parts; or a text didn't get to where it is to be.
-abbrev pub Concludes : Type 0 → List Wanted → SymbolLists → (before after : Host) → Setup → Result RunOutcome Failure → Type 0
+abbrev pub Concludes : Type 0 → List RequestedText → SymbolLists → (before after : Host) → Setup → Result RunOutcome Failure → Type 0
 Concludes tells wanted symbols before after setup (Ok ends) =
     (put : List ℕ) × (races : List ℕ) × (texts : List Placed) × ComesTo setup wanted ends put races texts
     × AreWantedRaces wanted symbols setup races

@@ -23,9 +23,9 @@ use Rattle.command_requests.specs.declared.failure.Failure.{Failure}
 use Rattle.command_requests.specs.declared.failure.Failure.TheVariants.{OutOfMemory}
 use Rattle.command_requests.specs.declared.text.Text.{Text}
 use Rattle.command_requests.specs.declared.text.Text.TheVariants.{Trace, Timeline, Report, Races, Core, Digest}
-use Rattle.command_requests.specs.declared.wanted.Wanted.{Wanted}
+use Rattle.command_requests.specs.declared.requested_text.RequestedText.{RequestedText}
 use Rattle.command_run.specs.Placing.{IsUnbegunFor, IsUnwrittenTo, KeepsUnlessPrinted}
-use Rattle.command_run.specs.declared.ended.Ended.{Ended}
+use Rattle.command_run.specs.declared.ended_run.EndedRun.{EndedRun}
 
 -- what a run left: its turns, what they changed, how it ended, its output, its memory, its threads and the text of its races
 pub record Left : Type 0 where
@@ -38,7 +38,7 @@ pub record Left : Type 0 where
   pub races : List ℕ
 
 -- what a run left that had these turns and changes, and ended so
-abbrev pub left_by : List Turn → List Change → Ended → Left
+abbrev pub left_by : List Turn → List Change → EndedRun → Left
 left_by turns changes ended =
     record {
       turns = turns;
@@ -58,7 +58,7 @@ IsReportOf changes text = (rows : List PageRow) × IsSharing changes rows × (te
 abbrev pub IsCore : RunOutcome → Memory → List Thread → List ℕ → Type 0
 IsCore ends memory threads file = IsCoreOf (core_threads ends threads) memory file
 
-abbrev pub IsCoreAt : Ended → List ℕ → Type 0
+abbrev pub IsCoreAt : EndedRun → List ℕ → Type 0
 IsCoreAt ended file = IsCore ended.end.outcome (cells_of ended.end.memory) ended.end.threads.items file
 
 -- this is that text of what a run left
@@ -76,15 +76,15 @@ pub record Placed : Type 0 where
   pub text : List ℕ
 
 -- it is the wanted text of what a run left, for the wanted destination
-pub record IsPlacedOf (left : Left) (wanted : Wanted) (placed : Placed) : Type 0 where
+pub record IsPlacedOf (left : Left) (wanted : RequestedText) (placed : Placed) : Type 0 where
   pub destination : placed.destination ≡ wanted.destination
   pub text : IsTextOf wanted.text left placed.text
 
 -- they are the wanted texts of what a run left, in order
-abbrev pub AreTextsOf : List Wanted → Left → List Placed → Type 0
+abbrev pub AreTextsOf : List RequestedText → Left → List Placed → Type 0
 AreTextsOf wanted left texts = AllZip (IsPlacedOf left) wanted texts
 
-abbrev pub destinations : List Wanted → List Destination
+abbrev pub destinations : List RequestedText → List Destination
 destinations wanted = map (λ one. one.destination) wanted
 
 -- what texts add to standard output
@@ -119,17 +119,17 @@ pub record AreOut (tells : Type 0) (texts : List Placed) (later : List Destinati
   pub printed_after : ArePrinted tells texts old new
 
 -- All texts of what a run left are where they are to be, and the other files as they were.
-pub record AreAllOut (tells : Type 0) (wanted : List Wanted) (left : Left) (files files' : Content) (old new : Option (List ℕ)) : Type 0 where
+pub record AreAllOut (tells : Type 0) (wanted : List RequestedText) (left : Left) (files files' : Content) (old new : Option (List ℕ)) : Type 0 where
   pub texts : List Placed
   pub are_texts : AreTextsOf wanted left texts
   pub out : AreOut tells texts [] files' old new
   pub others : KeepsBut (destinations wanted) [] files files'
 
 -- The texts before one are where they are to be, that one isn't, and those after it weren't looked at.
-pub record AreCutShort (tells : Type 0) (wanted : List Wanted) (left : Left) (files files' : Content) (old new : Option (List ℕ)) (failure : Failure) : Type 0 where
-  pub front : List Wanted
-  pub missed : Wanted
-  pub rest : List Wanted
+pub record AreCutShort (tells : Type 0) (wanted : List RequestedText) (left : Left) (files files' : Content) (old new : Option (List ℕ)) (failure : Failure) : Type 0 where
+  pub front : List RequestedText
+  pub missed : RequestedText
+  pub rest : List RequestedText
   pub split : wanted ≡ front ++ missed ∷ rest
   pub texts : List Placed
   pub are_texts : AreTextsOf front left texts
@@ -140,10 +140,10 @@ pub record AreCutShort (tells : Type 0) (wanted : List Wanted) (left : Left) (fi
   pub others : KeepsBut (destinations (front ++ missed ∷ [])) (destinations rest) files files'
 
 -- what becomes of wanted texts of what a run left
-abbrev pub ComesOut : {T : Type 0} → Type 0 → List Wanted → Left → (files files' : Content) → (old new : Option (List ℕ)) → Result T Failure → Type 0
+abbrev pub ComesOut : {T : Type 0} → Type 0 → List RequestedText → Left → (files files' : Content) → (old new : Option (List ℕ)) → Result T Failure → Type 0
 ComesOut tells wanted left files files' old new (Ok done) = AreAllOut tells wanted left files files' old new
 ComesOut tells wanted left files files' old new (Err failure) = AreCutShort tells wanted left files files' old new failure
 
 -- why one of the texts couldn't be begun
-abbrev pub IsUnbegun : List Wanted → Failure → Type 0
-IsUnbegun wanted failure = (failure ≡ OutOfMemory) ⊎ ((one : Wanted) × Contains wanted one × IsUnbegunFor one.destination failure)
+abbrev pub IsUnbegun : List RequestedText → Failure → Type 0
+IsUnbegun wanted failure = (failure ≡ OutOfMemory) ⊎ ((one : RequestedText) × Contains wanted one × IsUnbegunFor one.destination failure)

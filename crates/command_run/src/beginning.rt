@@ -6,14 +6,14 @@ ghost use Rattle.command_run.specs.Texts.{IsUnbegun, destinations};
 
 use crate::abandoning::abandon;
 use crate::item::{Item, begin_item};
-use command_requests::{Failure, Wanted};
+use command_requests::{Failure, RequestedText};
 use output_files::Files;
 use std::alloc::Global;
 
 /// Begins the texts that are wanted. If one can't be begun none is left.
 pub(crate) fn begin<'a, F: Files>(
     alloc: Global,
-    wanted: &[Wanted<'a>],
+    wanted: &[RequestedText<'a>],
     files: &mut F,
 ) -> Result<Vec<Item<'a, F::Output>>, Failure<'a>>
     ensures wanted { IfOk result (λ items. wanted_by items.items ≡ wanted.now) }

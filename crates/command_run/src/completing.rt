@@ -16,7 +16,7 @@ ghost use Rattle.tracer.specs.TraceText.{text_of as trace_text_of};
 ghost use Rattle.command_run.specs.Placing.{IsUnwrittenTo};
 ghost use Rattle.command_run.specs.Texts.{IsCoreAt, IsReportOf};
 
-use crate::ended::Ended;
+use crate::ended_run::EndedRun;
 use crate::trace_failure::failure_of_turn;
 use command_requests::{Destination, Failure};
 use core_file::{CoreFault, core_threads, write_core};
@@ -90,7 +90,7 @@ pub(crate) fn complete_report<'a, O: Write>(
 pub(crate) fn complete_races<'a, O: Write>(
     output: O,
     destination: Destination<'a>,
-    ended: &Ended,
+    ended: &EndedRun,
 ) -> (O, Result<(), Failure<'a>>)
     ensures whole { OnOk result.1 (Has O.contents output []
         → (text : List ℕ) × (text ≡ string_bytes ended.now.races) × Has O.contents result.0 text) }
@@ -106,7 +106,7 @@ pub(crate) fn complete_core<'a, O: Write>(
     alloc: Global,
     output: O,
     destination: Destination<'a>,
-    ended: &Ended,
+    ended: &EndedRun,
 ) -> (O, Result<(), Failure<'a>>)
     requires { length ended.now.end.threads.items ≤ limit.threads }
     ensures whole { OnOk result.1 (Has O.contents output [] → (text : List ℕ) × IsCoreAt ended.now text × Has O.contents result.0 text) }
@@ -123,7 +123,7 @@ pub(crate) fn complete_digest<'a, O: Write>(
     digest: DigestRecorder,
     output: O,
     destination: Destination<'a>,
-    ended: &Ended,
+    ended: &EndedRun,
 ) -> (O, Result<(), Failure<'a>>)
     ensures whole { OnOk result.1 (Has O.contents output [] → (turns : List TurnRecord) → Digests digest turns → (text : List ℕ)
         × (text ≡ digest_text ended.now.end.outcome ended.now.end.output.items (cells_of ended.now.end.memory) (trace_text_of turns))
@@ -149,7 +149,7 @@ fn report_of(alloc: Global, sharing: &SharingRecorder) -> Result<String, AllocEr
 }
 
 /// The text of a digest.
-fn digest_of(alloc: Global, digest: DigestRecorder, ended: &Ended) -> Result<String, AllocError>
+fn digest_of(alloc: Global, digest: DigestRecorder, ended: &EndedRun) -> Result<String, AllocError>
     ensures { IfOk result (λ text. (turns : List TurnRecord) → Digests digest turns → string_bytes text
         ≡ digest_text ended.now.end.outcome ended.now.end.output.items (cells_of ended.now.end.memory) (trace_text_of turns)) }
 {
@@ -162,7 +162,7 @@ fn write_core_file<'a, O: Write>(
     alloc: Global,
     destination: Destination<'a>,
     output: &mut O,
-    ended: &Ended,
+    ended: &EndedRun,
 ) -> Result<(), Failure<'a>>
     requires { length ended.now.end.threads.items ≤ limit.threads }
     ensures whole { OnOk result (Has O.contents output.old []

@@ -11,7 +11,7 @@ ghost use Rattle.sharing_report.specs.Recording.{AreInOrder};
 ghost use Rattle.token.specs.declared.turn.Turn.{Turn as TurnRecord};
 
 use crate::abandoning::abandon_rest;
-use crate::ended::Ended;
+use crate::ended_run::EndedRun;
 use crate::item::{Item, finish_item};
 use command_requests::Failure;
 use output_files::Files;
@@ -23,7 +23,7 @@ use std::vec::IntoIter;
 pub(crate) fn finish<'a, F: Files, W: Write>(
     alloc: Global,
     items: Vec<Item<'a, F::Output>>,
-    ended: &Ended,
+    ended: &EndedRun,
     files: &mut F,
     writer: &mut W,
 ) -> Result<(), Failure<'a>>
@@ -43,7 +43,7 @@ pub(crate) fn finish<'a, F: Files, W: Write>(
 fn finish_rest<'a, F: Files, W: Write>(
     alloc: Global,
     rest: &mut IntoIter<Item<'a, F::Output>>,
-    ended: &Ended,
+    ended: &EndedRun,
     files: &mut F,
     writer: &mut W,
 ) -> Result<(), Failure<'a>>

@@ -10,10 +10,10 @@ ghost use Rattle.command_run.specs.Placing.{IsPut, IsUnbegunFor, IsUnwrittenTo, 
 ghost use Rattle.command_run.specs.Recording.{IsReadyFor, IsTold, kind_of, wanted_of, writes_meanwhile};
 ghost use Rattle.command_run.specs.Texts.{IsTextOf, left_by};
 
-use crate::ended::Ended;
+use crate::ended_run::EndedRun;
 use crate::placing::{abandon_output, begin_output, publish};
 use crate::recording::Recording;
-use command_requests::{Destination, Failure, Wanted};
+use command_requests::{Destination, Failure, RequestedText};
 use commit::Patch;
 use output_files::Files;
 use std::alloc::Global;
@@ -69,7 +69,7 @@ impl<'a, O: Write> Item<'a, O> {
     }
 
     /// Writes what isn't written yet of the text of a run that ended so.
-    fn complete(self, alloc: Global, ended: &Ended) -> Completed<'a, O>
+    fn complete(self, alloc: Global, ended: &EndedRun) -> Completed<'a, O>
         requires { length ended.now.end.threads.items ≤ limit.threads }
         ensures destination { result.destination ≡ self.entry.destination }
         ensures whole { OnOk result.result ((turns : List TurnRecord) (changes : List Change)
@@ -105,7 +105,7 @@ struct Completed<'a, O> {
 /// Begins a text that is wanted.
 pub(crate) fn begin_item<'a, F: Files>(
     alloc: Global,
-    wanted: Wanted<'a>,
+    wanted: RequestedText<'a>,
     files: &mut F,
 ) -> Result<Item<'a, F::Output>, Failure<'a>>
     ensures wanted { IfOk result (λ item. wanted_of item ≡ wanted.entry) }
@@ -127,7 +127,7 @@ pub(crate) fn begin_item<'a, F: Files>(
 pub(crate) fn finish_item<'a, F: Files, W: Write>(
     alloc: Global,
     item: Item<'a, F::Output>,
-    ended: &Ended,
+    ended: &EndedRun,
     files: &mut F,
     writer: &mut W,
 ) -> Result<(), Failure<'a>>

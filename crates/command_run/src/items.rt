@@ -2,7 +2,7 @@
 ghost use Rattle.std.specs.Prelude.{◌≡◌, ◌++◌, ◌∷◌, [], ℕ, List, IfErr, OnOk, option_map};
 ghost use Rattle.command_run.specs.Recording.{AreReadyFor, AreTold, HasWriting, wanted_by};
 ghost use Rattle.command_run.specs.declared.item.Item.{Item as ItemRecord};
-ghost use Rattle.command_requests.specs.declared.wanted.Wanted.{Wanted as WantedText};
+ghost use Rattle.command_requests.specs.declared.requested_text.RequestedText.{RequestedText as WantedText};
 ghost use Rattle.token.specs.Change.{Change, addresses_by, change_by};
 ghost use Rattle.token.specs.declared.turn.Turn.{Turn as TurnRecord};
 

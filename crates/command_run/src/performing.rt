@@ -10,12 +10,12 @@ ghost use Rattle.command_run.specs.Serves.{Concludes, IsReady, RunsInto, host_of
 
 use crate::abandoning::abandon;
 use crate::beginning::begin;
-use crate::ended::Ended;
+use crate::ended_run::EndedRun;
 use crate::finishing::finish;
 use crate::observing::race_text;
-use crate::opened::Opened;
+use crate::opened_run::OpenedRun;
 use crate::running::{RunAttempt, open_file, run_start};
-use command_requests::{Failure, Wanted, named_twice, wants_races};
+use command_requests::{Failure, RequestedText, named_twice, wants_races};
 use output_files::Files;
 use runtime::{Config, RunOutcome, WriteSink};
 use std::alloc::Global;
@@ -31,7 +31,7 @@ pub fn run_file<'a, H: Threads + Wait + Sync, F: Files, R: Read, W: Write>(
     alloc: Global,
     file: &'a str,
     config: &Config,
-    wanted: &[Wanted<'a>],
+    wanted: &[RequestedText<'a>],
     files: &mut F,
     stdin: &mut R,
     stdout: &mut WriteSink<W>,
@@ -55,9 +55,9 @@ pub fn run_file<'a, H: Threads + Wait + Sync, F: Files, R: Read, W: Write>(
 fn run_opened_file<'a, H: Threads + Wait + Sync, F: Files, W: Write>(
     rt: &H,
     alloc: Global,
-    opened: Opened,
+    opened: OpenedRun,
     workers: u32,
-    wanted: &[Wanted<'a>],
+    wanted: &[RequestedText<'a>],
     files: &mut F,
     stdout: &mut WriteSink<W>,
 ) -> Result<RunOutcome, Failure<'a>>
@@ -71,7 +71,7 @@ fn run_opened_file<'a, H: Threads + Wait + Sync, F: Files, W: Write>(
     ensures unnamed { wanted.now ≡ [] → files.new ≡ files.old }
 {
     one_history();
-    let Opened { start, symbols } = opened;
+    let OpenedRun { start, symbols } = opened;
     let items = begin(alloc, wanted, files)?;
     let observes = symbols.is_some();
     let RunAttempt { result, items } = run_start(
@@ -80,7 +80,7 @@ fn run_opened_file<'a, H: Threads + Wait + Sync, F: Files, W: Write>(
     match result {
         Ok((end, races)) => match race_text(alloc, symbols, races) {
             Ok(races) => {
-                let ended = Ended { end, races };
+                let ended = EndedRun { end, races };
                 match finish(alloc, items, &ended, files, &mut stdout.writer) {
                     Ok(()) => Ok(ended.end.outcome),
                     Err(failure) => Err(failure),

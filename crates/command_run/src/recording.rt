@@ -14,7 +14,7 @@ use crate::completing::{
     complete_core, complete_digest, complete_races, complete_report, complete_timeline,
     complete_trace,
 };
-use crate::ended::Ended;
+use crate::ended_run::EndedRun;
 use command_requests::{Destination, Failure, Text};
 use commit::Patch;
 use run_digest::DigestRecorder;
@@ -135,7 +135,7 @@ impl<O: Write> Recording<O> {
         self,
         alloc: Global,
         destination: Destination<'a>,
-        ended: &Ended,
+        ended: &EndedRun,
     ) -> (O, Result<(), Failure<'a>>)
         requires { length ended.now.end.threads.items ≤ limit.threads }
         ensures whole { OnOk result.1 ((turns : List TurnRecord) (changes : List Change)

@@ -16,7 +16,7 @@ ghost use Rattle.command_run.specs.Serves.{AreRun, AreOpenedFrom, AreToldOf, IsO
 use crate::item::Item;
 use crate::items::{AreWanted, Items};
 use crate::observing::{run_by, wanted_symbols};
-use crate::opened::Opened;
+use crate::opened_run::OpenedRun;
 use crate::run_failure::{failure_of_interruption, failure_of_refusal};
 use crate::unwritten::unwritten_destination;
 use command_requests::{Failure, Target};
@@ -48,7 +48,7 @@ pub(crate) fn open_file<'a, F: Files, R: Read>(
     observes: bool,
     files: &F,
     stdin: &mut R,
-) -> Result<Opened, Failure<'a>>
+) -> Result<OpenedRun, Failure<'a>>
     ensures input { TakesAtMost (limit.input + 1) (R.remaining stdin.old) (R.remaining stdin.new) }
     ensures ready { IfOk result (IsReady observes) }
     ensures opened { IfOk result (λ opened. AreRun (F.content files.now file.now) (R.remaining stdin.old)
@@ -73,14 +73,14 @@ fn open_all<'a>(
     input: &[u8],
     config: &Config,
     observes: bool,
-) -> Result<Opened, Failure<'a>>
+) -> Result<OpenedRun, Failure<'a>>
     ensures ready { IfOk result (IsReady observes) }
     ensures opened { IfOk result (λ opened. AreOpenedFrom config.now opened elf.now input.now) }
     ensures failed { IfErr result (IsRefused elf.now input.now config.now) }
 {
     let start = open_bytes(alloc, elf, input, config)?;
     let symbols = wanted_symbols(alloc, elf, observes)?;
-    Ok(Opened { start, symbols })
+    Ok(OpenedRun { start, symbols })
 }
 
 /// The run of the program that the bytes of a file are, of which no turn is done.

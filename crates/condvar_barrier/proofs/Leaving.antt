@@ -6,8 +6,8 @@ use Rattle.std.proofs.lemmas.Bool.Decides.{nat_tests}
 use Rattle.condvar_barrier.specs.Objects.{is_among}
 use Rattle.condvar_barrier.specs.Sound.{AreApart}
 use Rattle.condvar_barrier.specs.Objects.{queued_at, arrived_at}
-use Rattle.condvar_barrier.specs.declared.place.Place.{Place}
-use Rattle.condvar_barrier.specs.declared.place.Place.TheVariants.{Condition, Barrier}
+use Rattle.condvar_barrier.specs.declared.wait_place.WaitPlace.{WaitPlace}
+use Rattle.condvar_barrier.specs.declared.wait_place.WaitPlace.TheVariants.{Condition, Barrier}
 use Rattle.condvar_barrier.specs.declared.waiter.Waiter.{Waiter}
 use Rattle.condvar_barrier.specs.declared.woken.Woken.{Woken}
 use Rattle.condvar_barrier.proofs.Apart.{or-left, or-right, other_way}
@@ -81,7 +81,7 @@ queued_thread condition waiter woken is = by_place waiter.place is
     by_test true mutex h = cc
     by_test false mutex h = absurd (cc)
 
-    by_place : (place : Place) → queued_at condition waiter.thread place ≡ Some woken → woken.thread ≡ waiter.thread
+    by_place : (place : WaitPlace) → queued_at condition waiter.thread place ≡ Some woken → woken.thread ≡ waiter.thread
     by_place (Condition number mutex) h = by_test (number == condition) mutex h
     by_place (Barrier number count) h = absurd (cc)
 
@@ -92,6 +92,6 @@ arrived_thread barrier waiter thread is = by_place waiter.place is
     by_test true h = cc
     by_test false h = absurd (cc)
 
-    by_place : (place : Place) → arrived_at barrier waiter.thread place ≡ Some thread → thread ≡ waiter.thread
+    by_place : (place : WaitPlace) → arrived_at barrier waiter.thread place ≡ Some thread → thread ≡ waiter.thread
     by_place (Condition number mutex) h = absurd (cc)
     by_place (Barrier number count) h = by_test (number == barrier) h

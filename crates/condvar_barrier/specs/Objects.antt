@@ -2,8 +2,8 @@
 use Rattle.std.specs.Prelude.{ℕ, Bool, false, not, ◌&&◌, ◌==◌, if◌then◌else◌, Option, Some, None, List, [], ◌∷◌, ◌++◌, replicate, slice_index_or, slice_set, filter}
 use Rattle.std.specs.List.{list_any, filter_map}
 use Rattle.abi.specs.Limits as limit
-use Rattle.condvar_barrier.specs.declared.place.Place.{Place}
-use Rattle.condvar_barrier.specs.declared.place.Place.TheVariants.{Condition, Barrier}
+use Rattle.condvar_barrier.specs.declared.wait_place.WaitPlace.{WaitPlace}
+use Rattle.condvar_barrier.specs.declared.wait_place.WaitPlace.TheVariants.{Condition, Barrier}
 use Rattle.condvar_barrier.specs.declared.waiter.Waiter.{Waiter}
 use Rattle.condvar_barrier.specs.declared.woken.Woken.{Woken}
 
@@ -35,7 +35,7 @@ unfoldable pub with_holder : ObjectState → ℕ → Option ℕ → ObjectState
 with_holder objects mutex holder = record objects { holders = slice_set objects.holders mutex holder }
 
 -- the thread and the mutex it gave back, where its place is the queue of this condition variable
-abbrev pub queued_at : ℕ → ℕ → Place → Option Woken
+abbrev pub queued_at : ℕ → ℕ → WaitPlace → Option Woken
 queued_at condition thread (Condition number mutex) = if number == condition then Some (record { thread = thread; mutex = mutex }) else None
 queued_at condition thread (Barrier number count) = None
 
@@ -44,7 +44,7 @@ unfoldable pub queue : ObjectState → ℕ → List Woken
 queue objects condition = filter_map (λ waiter. queued_at condition waiter.thread waiter.place) objects.waiters
 
 -- the thread, where its place is this barrier
-abbrev pub arrived_at : ℕ → ℕ → Place → Option ℕ
+abbrev pub arrived_at : ℕ → ℕ → WaitPlace → Option ℕ
 arrived_at barrier thread (Condition number mutex) = None
 arrived_at barrier thread (Barrier number count) = if number == barrier then Some thread else None
 
@@ -53,7 +53,7 @@ unfoldable pub arrivals : ObjectState → ℕ → List ℕ
 arrivals objects barrier = filter_map (λ waiter. arrived_at barrier waiter.thread waiter.place) objects.waiters
 
 -- whether a place is this barrier with another count
-abbrev pub names_another : ℕ → ℕ → Place → Bool
+abbrev pub names_another : ℕ → ℕ → WaitPlace → Bool
 names_another barrier count (Condition number mutex) = false
 names_another barrier count (Barrier number named) = number == barrier && not (named == count)
 
@@ -70,7 +70,7 @@ unfoldable pub is_waiting : ObjectState → ℕ → Bool
 is_waiting objects thread = is_among thread objects.waiters
 
 -- the objects where a thread has come to wait
-unfoldable pub with_waiter : ObjectState → ℕ → Place → ObjectState
+unfoldable pub with_waiter : ObjectState → ℕ → WaitPlace → ObjectState
 with_waiter objects thread place = record objects { waiters = objects.waiters ++ record { thread = thread; place = place } ∷ [] }
 
 -- the objects where some threads wait no more

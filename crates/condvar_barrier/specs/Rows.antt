@@ -6,7 +6,7 @@ use Rattle.abi.specs.Limits as limit
 use Rattle.abi.specs.declared.reply.Reply.{Reply}
 use Rattle.abi.specs.declared.reply.Reply.TheVariants.{Completed, Waits}
 use Rattle.condvar_barrier.specs.Objects.{ObjectState, is_held_by, holds, holds_mutex, with_holder, queue, arrivals, counts_differ, with_waiter, without}
-use Rattle.condvar_barrier.specs.declared.place.Place.TheVariants.{Condition, Barrier}
+use Rattle.condvar_barrier.specs.declared.wait_place.WaitPlace.TheVariants.{Condition, Barrier}
 use Rattle.condvar_barrier.specs.declared.woken.Woken.{Woken}
 
 -- What a call comes to: the reply to the caller, the threads that become woken, each with the mutex that its turn takes, the

@@ -7,12 +7,12 @@
 
 mod answer;
 mod objects;
-mod place;
+mod wait_place;
 mod waiter;
 mod woken;
 
 pub use answer::Answer;
 pub use objects::{Objects, WAITERS};
-pub use place::Place;
+pub use wait_place::WaitPlace;
 pub use waiter::Waiter;
 pub use woken::Woken;

@@ -6,7 +6,7 @@ ghost use Rattle.condvar_barrier.specs.Objects.{is_held_by, is_among, names_anot
 ghost use Rattle.condvar_barrier.specs.Rows.{released_by};
 
 use crate::answer::Answer;
-use crate::place::Place;
+use crate::wait_place::WaitPlace;
 use crate::waiter::Waiter;
 use crate::woken::Woken;
 use abi::limits::{BARRIER_COUNT, OBJECTS, THREADS};
@@ -221,7 +221,7 @@ impl Objects {
             return refused(Code::HoldsLock);
         }
         self.holders = holders;
-        let place = Place::Condition {
+        let place = WaitPlace::Condition {
             condition: condition as u8,
             mutex: mutex as u8,
         };
@@ -301,7 +301,7 @@ impl Objects {
         }
         let arrived = self.arrived(number);
         if (arrived.len() as u32) + 1 < count {
-            let place = Place::Barrier {
+            let place = WaitPlace::Barrier {
                 barrier: number as u8,
                 count: count as u16,
             };
@@ -347,7 +347,7 @@ impl Objects {
 
     /// Lets a thread wait, after all who do.
     #[tactic(auto, unfolding(crate::specs::Objects::with_waiter, crate::specs::Objects::is_waiting))]
-    fn let_wait(&mut self, thread: u32, place: Place)
+    fn let_wait(&mut self, thread: u32, place: WaitPlace)
         requires number { thread < limit.threads }
         requires idle { is_waiting self.old thread ≡ false }
         ensures { self.new ≡ with_waiter self.old thread place }

@@ -2,7 +2,7 @@
 ghost use Rattle.std.specs.Prelude.{◌≡◌};
 ghost use Rattle.condvar_barrier.specs.Objects.{queued_at, arrived_at, names_another};
 
-use crate::place::Place;
+use crate::wait_place::WaitPlace;
 use crate::woken::Woken;
 
 /// A thread that waits, and what it waits at.
@@ -10,7 +10,7 @@ use crate::woken::Woken;
 pub struct Waiter {
     /// The thread's number, 0 to 255.
     pub thread: u8,
-    pub place: Place,
+    pub place: WaitPlace,
 }
 
 impl Waiter {
@@ -19,7 +19,7 @@ impl Waiter {
         ensures { result ≡ queued_at condition self.now.thread self.now.place }
     {
         match self.place {
-            Place::Condition {
+            WaitPlace::Condition {
                 condition: number,
                 mutex,
             } if u32::from(number) == condition => Some(Woken {
@@ -35,7 +35,7 @@ impl Waiter {
         ensures { result ≡ arrived_at barrier self.now.thread self.now.place }
     {
         match self.place {
-            Place::Barrier {
+            WaitPlace::Barrier {
                 barrier: number,
                 ..
             } if u32::from(number) == barrier => Some(self.thread),
@@ -48,11 +48,11 @@ impl Waiter {
         ensures { result ≡ names_another barrier count self.now.place }
     {
         match self.place {
-            Place::Barrier {
+            WaitPlace::Barrier {
                 barrier: number,
                 count: named,
             } => u32::from(number) == barrier && u32::from(named) != count,
-            Place::Condition { .. } => false,
+            WaitPlace::Condition { .. } => false,
         }
     }
 }
@@ -62,7 +62,7 @@ impl Default for Waiter {
     fn default() -> Self {
         Waiter {
             thread: 0,
-            place: Place::Barrier {
+            place: WaitPlace::Barrier {
                 barrier: 0,
                 count: 0,
             },

@@ -18,7 +18,7 @@ use Rattle.core_file.specs.Fields.{elf_header, program_header_bytes, word, words
 use Rattle.core_file.specs.Loads.{IsWhole}
 use Rattle.core_file.specs.Runs.{IsRunBelow, loads_of}
 use Rattle.core_file.specs.declared.run.Run.{Run}
-use Rattle.core_file.specs.declared.program_header.ProgramHeader.{ProgramHeader}
+use Rattle.core_file.specs.declared.core_program_header.CoreProgramHeader.{CoreProgramHeader}
 
 -- a number that stands at a place behind an offset
 word_there : (file : List ℕ) (at place number : ℕ) (rest : List ℕ) → drop place (drop at file) ≡ word number ++ rest → number < 2 ^ 32 → word_at file (at + place) ≡ number
@@ -27,7 +27,7 @@ word_there file at place number rest there small =
     ap (little_number 4) (sym (drop-drop place at file) ∙ there) ∙ little_number-reads_back 4 number rest small
 
 -- the fields of a program header are 32-bit numbers
-record AreWords (header : ProgramHeader) : Type 0 where
+record AreWords (header : CoreProgramHeader) : Type 0 where
   type : header.p_type < 2 ^ 32
   offset : header.p_offset < 2 ^ 32
   vaddr : header.p_vaddr < 2 ^ 32
@@ -36,7 +36,7 @@ record AreWords (header : ProgramHeader) : Type 0 where
   flags : header.p_flags < 2 ^ 32
 
 -- what is read at an offset is a program header as it was written
-record AreReadAt (file : List ℕ) (at : ℕ) (header : ProgramHeader) : Type 0 where
+record AreReadAt (file : List ℕ) (at : ℕ) (header : CoreProgramHeader) : Type 0 where
   type : (program_header_at file at).p_type ≡ header.p_type
   offset : (program_header_at file at).p_offset ≡ header.p_offset
   vaddr : (program_header_at file at).p_vaddr ≡ header.p_vaddr
@@ -44,7 +44,7 @@ record AreReadAt (file : List ℕ) (at : ℕ) (header : ProgramHeader) : Type 0 
   memsz : (program_header_at file at).p_memsz ≡ header.p_memsz
   flags : (program_header_at file at).p_flags ≡ header.p_flags
 
-header_read : (file : List ℕ) (at : ℕ) (header : ProgramHeader) (rest : List ℕ) → drop at file ≡ program_header_bytes header ++ rest → AreWords header → AreReadAt file at header
+header_read : (file : List ℕ) (at : ℕ) (header : CoreProgramHeader) (rest : List ℕ) → drop at file ≡ program_header_bytes header ++ rest → AreWords header → AreReadAt file at header
 unfolding program_header_at program_header_bytes
 header_read file at header rest there small =
     let first : word_at file (at + 0) ≡ header.p_type =
@@ -60,7 +60,7 @@ header_read file at header rest there small =
     }
 
 -- what stands behind a program header
-behind : (header : ProgramHeader) (rest : List ℕ) → drop 32 (program_header_bytes header ++ rest) ≡ rest
+behind : (header : CoreProgramHeader) (rest : List ℕ) → drop 32 (program_header_bytes header ++ rest) ≡ rest
 unfolding program_header_bytes
 behind header rest = refl
 
@@ -114,7 +114,7 @@ filter_no : {X : Type 0} (test : X → Bool) (x : X) (xs : List X) → test x �
 filter_no test x xs fails = cond-false (test x) (x ∷ filter test xs) (filter test xs) fails
 
 module _ (file : List ℕ) (table : (file_header file).e_phoff ≡ 52) where
-  header_of : (row : ℕ) (header : ProgramHeader) (rest : List ℕ) → drop (52 + 32 * row) file ≡ program_header_bytes header ++ rest → AreWords header
+  header_of : (row : ℕ) (header : CoreProgramHeader) (rest : List ℕ) → drop (52 + 32 * row) file ≡ program_header_bytes header ++ rest → AreWords header
       → AreReadAt file ((file_header file).e_phoff + 32 * row) header
   header_of row header rest there small =
       header_read file ((file_header file).e_phoff + 32 * row) header rest
@@ -146,7 +146,7 @@ module _ (file : List ℕ) (table : (file_header file).e_phoff ≡ 52) where
       let some = is.not_empty in
       let size = is.bytes in
       let sum : size_in (load ∷ loads) ≡ load.memsz + size_in loads = sum_by-cons (λ (load : LoadSegment). load.memsz) load loads in
-      let header : ProgramHeader = load_header offset load in
+      let header : CoreProgramHeader = load_header offset load in
       let rest : List ℕ = load_headers (offset + load.memsz) loads in
       let here : drop (52 + 32 * row) file ≡ program_header_bytes header ++ (rest ++ after) = there ∙ append_assoc (program_header_bytes header) rest after in
       let words : AreWords header = record {

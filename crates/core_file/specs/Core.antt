@@ -10,19 +10,19 @@ use Rattle.core_file.specs.Fields.{elf_header, program_header_bytes, pt_note}
 use Rattle.core_file.specs.Loads.{AreRunsOf}
 use Rattle.core_file.specs.Notes.{notes_of}
 use Rattle.core_file.specs.declared.core_thread.CoreThread.{CoreThread}
-use Rattle.core_file.specs.declared.program_header.ProgramHeader.{ProgramHeader}
+use Rattle.core_file.specs.declared.core_program_header.CoreProgramHeader.{CoreProgramHeader}
 
 -- the flags of what a segment permits
 abbrev pub flags_of : Perm → ℕ
 flags_of perm = (if perm.read then pf_r else 0) + (if perm.write then pf_w else 0) + (if perm.execute then pf_x else 0)
 
 -- the program header of the notes, which are this long and stand at an offset
-abbrev pub note_header : (offset size : ℕ) → ProgramHeader
+abbrev pub note_header : (offset size : ℕ) → CoreProgramHeader
 note_header offset size =
     record { p_type = pt_note; p_offset = offset; p_vaddr = 0; p_filesz = size; p_memsz = 0; p_flags = 0; p_align = 4 }
 
 -- the program header of a segment whose bytes stand at an offset
-abbrev pub load_header : (offset : ℕ) → LoadSegment → ProgramHeader
+abbrev pub load_header : (offset : ℕ) → LoadSegment → CoreProgramHeader
 load_header offset load =
     record { p_type = pt_load; p_offset = offset; p_vaddr = load.vaddr; p_filesz = load.memsz; p_memsz = load.memsz; p_flags = flags_of load.perm; p_align = 1 }
 

@@ -3,7 +3,7 @@ use Rattle.std.specs.Prelude.{ℕ, List, [], ◌∷◌, ◌++◌}
 use Rattle.std.specs.List.{flat_map}
 use Rattle.byteorder.specs.Endian.{little_bytes}
 use Rattle.elf32_reader.specs.Format.{header_size, program_header_size, elfclass32, elfdata2lsb, ev_current, em_riscv}
-use Rattle.core_file.specs.declared.program_header.ProgramHeader.{ProgramHeader}
+use Rattle.core_file.specs.declared.core_program_header.CoreProgramHeader.{CoreProgramHeader}
 
 -- a number in 2 bytes, in 4 bytes, the lowest first (System V ABI: Elf32_Half; Elf32_Word, Elf32_Addr and Elf32_Off)
 abbrev pub half : ℕ → List ℕ
@@ -30,7 +30,7 @@ elf_header count =
     ++ (words (ev_current ∷ 0 ∷ header_size ∷ 0 ∷ 0 ∷ []) ++ flat_map half (header_size ∷ program_header_size ∷ count ∷ 0 ∷ 0 ∷ 0 ∷ [])))
 
 -- a program header; its physical address is 0 (System V ABI, Program Header)
-unfoldable pub program_header_bytes : ProgramHeader → List ℕ
+unfoldable pub program_header_bytes : CoreProgramHeader → List ℕ
 program_header_bytes header =
     words
     (header.p_type ∷ header.p_offset ∷ header.p_vaddr ∷ 0 ∷ header.p_filesz ∷ header.p_memsz ∷ header.p_flags ∷ header.p_align ∷ [])

@@ -7,8 +7,8 @@ ghost use Rattle.core_file.specs.Fields.{elf_header, program_header_bytes};
 ghost use Rattle.core_file.specs.Runs.{IsPlaced, loads_of, pages_in};
 
 use crate::core_fault::CoreFault;
+use crate::core_program_header::CoreProgramHeader;
 use crate::numbers::{put_halves, put_words};
-use crate::program_header::ProgramHeader;
 use crate::run::Run;
 use crate::runs::Runs;
 use guest_memory::Perm;
@@ -56,7 +56,7 @@ pub(crate) fn head_of(alloc: Global, notes: &[u8], runs: &Runs) -> Result<Vec<u8
     put_elf_header(&mut head, (runs.list.len() + 1) as u16)?;
     put_program_header(
         &mut head,
-        &ProgramHeader {
+        &CoreProgramHeader {
             p_type: PT_NOTE,
             p_offset: start,
             p_vaddr: 0,
@@ -106,7 +106,7 @@ fn put_elf_header(head: &mut Vec<u8>, count: u16) -> Result<(), AllocError>
 
 /// Appends a program header.
 #[tactic(auto, unfolding(crate::specs::Fields::program_header_bytes))]
-fn put_program_header(head: &mut Vec<u8>, header: &ProgramHeader) -> Result<(), AllocError>
+fn put_program_header(head: &mut Vec<u8>, header: &CoreProgramHeader) -> Result<(), AllocError>
     ensures { OnOk result (head.new.items ≡ head.old.items ++ program_header_bytes header.now) }
 {
     put_words(
@@ -135,7 +135,7 @@ fn put_load_headers(head: &mut Vec<u8>, start: u32, runs: &[Run]) -> Result<(), 
         let size = PAGE_SIZE * run.count;
         put_program_header(
             head,
-            &ProgramHeader {
+            &CoreProgramHeader {
                 p_type: PT_LOAD,
                 p_offset: offset,
                 p_vaddr: PAGE_SIZE * run.first,

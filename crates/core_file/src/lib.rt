@@ -5,11 +5,11 @@
 #![tactic(auto)]
 
 mod core_fault;
+mod core_program_header;
 mod core_thread;
 mod heads;
 mod notes;
 mod numbers;
-mod program_header;
 mod run;
 mod runs;
 mod threads;

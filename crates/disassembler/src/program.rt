@@ -5,7 +5,7 @@ ghost use Rattle.disassembler.specs.Appended.{Appends};
 ghost use Rattle.disassembler.specs.Listings.{word_from, word_line, has_word, segment_listing, listing_of};
 
 use crate::disassembly::write_text;
-use elf32_reader::{Image, Segment};
+use elf32_reader::{Image, ImageSegment};
 use std::alloc::{AllocError, Global};
 use text_output::write_hexadecimal;
 
@@ -25,7 +25,7 @@ pub fn listing(alloc: Global, image: &Image) -> Result<String, AllocError>
 }
 
 /// Appends the lines of a segment's words.
-fn write_segment(text: &mut String, segment: &Segment) -> Result<(), AllocError>
+fn write_segment(text: &mut String, segment: &ImageSegment) -> Result<(), AllocError>
     ensures { Appends result text.old (segment_listing segment.now) text.new }
 {
     let start = segment.vaddr();
@@ -40,7 +40,7 @@ fn write_segment(text: &mut String, segment: &Segment) -> Result<(), AllocError>
 }
 
 /// Whether an address is a multiple of 4 and no byte of its word lies after the segment's file bytes.
-fn begins_word(segment: &Segment, address: u32) -> bool
+fn begins_word(segment: &ImageSegment, address: u32) -> bool
     ensures { result ≡ has_word segment.now address }
 {
     let end = segment.vaddr() as u64 + segment.bytes().len() as u64;

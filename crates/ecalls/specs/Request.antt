@@ -1,5 +1,5 @@
 -- Which call a hart makes at an ecall.
-use Rattle.std.specs.Prelude.{ℕ, Option, Some, None}
+use Rattle.std.specs.Prelude.{ℕ, Option, Some, None, List, [], ◌∷◌}
 use Rattle.abi.specs.Calls.{kind_of}
 use Rattle.abi.specs.declared.call.Call.{Call}
 use Rattle.abi.specs.declared.call.Call.TheVariants as call
@@ -29,6 +29,10 @@ with_arguments Release first second third = call.Release first second
 abbrev pub requested : ℕ → Option CallKind → ℕ → ℕ → ℕ → Call
 requested number None first second third = call.Unknown number
 requested number (Some kind) first second third = with_arguments kind first second third
+
+-- what the argument registers hold
+abbrev pub argument_registers : HartState → List ℕ
+argument_registers hart = register hart 10 ∷ register hart 11 ∷ register hart 12 ∷ []
 
 -- the call of a hart: its number stands in x17, its arguments in x10, x11 and x12
 unfoldable pub call_of : HartState → Call

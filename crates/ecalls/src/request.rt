@@ -1,5 +1,7 @@
 //! Which call a hart's registers name. Reads the hart alone.
-ghost use Rattle.std.specs.Prelude.{◌≡◌};
+ghost use Rattle.std.specs.Prelude.{◌≡◌, take};
+ghost use Rattle.abi.specs.Calls.{argument_count, arguments_in, kind_in, kind_of};
+ghost use Rattle.hart.specs.HartState.{register};
 ghost use Rattle.ecalls.specs.Request as spec;
 
 use abi::{Call, CallKind};
@@ -10,7 +12,9 @@ use hart::Hart;
 /// Any number and any arguments are read. Their ranges are looked at when the call is carried out.
 #[tactic(auto, unfolding(crate::specs::Request::call_of))]
 pub fn call_of(hart: &Hart) -> Call
-    ensures { result ≡ spec.call_of hart.now }
+    ensures call { result ≡ spec.call_of hart.now }
+    ensures kind { kind_in result ≡ kind_of (register hart.now 17) }
+    ensures arguments { arguments_in result ≡ take (argument_count (kind_in result)) (spec.argument_registers hart.now) }
 {
     let first = hart.reg(10);
     let second = hart.reg(11);

@@ -2,7 +2,7 @@
 ghost use Rattle.std.specs.Prelude.{◌≡◌, List};
 ghost use Rattle.elf32_reader.specs.LoadImage.{LoadImage, IsSound};
 
-use crate::segment::Segment;
+use crate::image_segment::ImageSegment;
 use std::marker::Model;
 
 /// A program as it is loaded: where thread 0 begins, and the segments in the order of the file, each on
@@ -11,7 +11,7 @@ use std::marker::Model;
 #[derive(Debug, Drop)]
 pub struct Image {
     entry: u32,
-    segments: Vec<Segment>,
+    segments: Vec<ImageSegment>,
 }
 
 impl Model for Image {
@@ -24,7 +24,7 @@ impl Model for Image {
 
 impl Image {
     /// An image of these parts.
-    pub fn new(entry: u32, segments: Vec<Segment>) -> Self
+    pub fn new(entry: u32, segments: Vec<ImageSegment>) -> Self
         requires { IsSound (record { entry = entry; segments = segments.items }) }
         ensures { result ≡ record { entry = entry; segments = segments.items } }
     {
@@ -40,7 +40,7 @@ impl Image {
     }
 
     /// The segments, in the order of the file.
-    pub fn segments(&self) -> &[Segment]
+    pub fn segments(&self) -> &[ImageSegment]
         ensures segments { result.now ≡ self.now.segments }
         ensures sound { IsSound self.now }
     {

@@ -5,13 +5,13 @@ pub mod fault;
 mod fields;
 mod file_header;
 pub mod image;
+pub mod image_segment;
 mod program_header;
 pub mod reader;
-pub mod segment;
 mod summary;
 
 pub use fault::ElfFault;
 pub use file_header::FILE_LIMIT;
 pub use image::Image;
+pub use image_segment::ImageSegment;
 pub use reader::read;
-pub use segment::Segment;

@@ -9,7 +9,7 @@ ghost use Rattle.elf32_reader.specs.Refusals.{Tests, program_refusals, segment_r
 
 use crate::fault::ElfFault;
 use crate::fields::word;
-use crate::segment::Segment;
+use crate::image_segment::ImageSegment;
 use guest_memory::Perm;
 use guest_memory::layout::{IMAGE_END, IMAGE_START, PAGE_SIZE};
 use std::alloc::{AllocError, Global};
@@ -144,13 +144,13 @@ impl ProgramHeader {
     }
 
     /// Its segment, with a copy of its bytes in the file.
-    pub(crate) fn load(&self, alloc: Global, file: &[u8]) -> Result<Segment, AllocError>
+    pub(crate) fn load(&self, alloc: Global, file: &[u8]) -> Result<ImageSegment, AllocError>
         requires inside { self.now.p_offset + self.now.p_filesz ≤ length file.now }
         requires loadable { IsLoadable (segment_of file.now self.now) }
         ensures { IfOk result (λ segment. segment ≡ segment_of file.now self.now) }
     {
         let start = self.p_offset as usize;
         let bytes = Vec::from_slice(alloc, &file[start..start + self.p_filesz as usize])?;
-        Ok(Segment::new(self.p_vaddr, self.perm(), bytes, self.p_memsz))
+        Ok(ImageSegment::new(self.p_vaddr, self.perm(), bytes, self.p_memsz))
     }
 }

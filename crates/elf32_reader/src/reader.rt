@@ -9,7 +9,7 @@ ghost use Rattle.elf32_reader.specs.Refusals.{first_applying, first_refusal, tab
 use crate::fault::ElfFault;
 use crate::file_header::{FileHeader, SEGMENT_LIMIT};
 use crate::image::Image;
-use crate::segment::Segment;
+use crate::image_segment::ImageSegment;
 use crate::summary::Summary;
 use std::alloc::{AllocError, Global};
 
@@ -52,7 +52,7 @@ fn survey(file: &[u8], header: &FileHeader) -> Result<Summary, ElfFault>
 }
 
 /// The segments of a file whose program headers aren't refused.
-fn load(alloc: Global, file: &[u8], header: &FileHeader) -> Result<Vec<Segment>, AllocError>
+fn load(alloc: Global, file: &[u8], header: &FileHeader) -> Result<Vec<ImageSegment>, AllocError>
     requires file { HasHeader file.now header.now }
     requires tested { first_applying (table_refusals file.now (file_header file.now).e_phnum) ≡ None }
     ensures { IfOk result (λ segments. segments.items ≡ segments_of file.now) }

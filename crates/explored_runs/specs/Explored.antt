@@ -3,7 +3,7 @@ use Rattle.std.specs.Prelude.{ℕ, List, Result, Vec, Ok, Err}
 use Rattle.std.specs.declared.alloc.Global.{Global}
 use Rattle.elf32_reader.specs.Segments.{image_of}
 use Rattle.runtime.specs.Run.{IsAccepted, IsUnopenedBy}
-use Rattle.runtime.specs.declared.config.Config.{Config}
+use Rattle.shuffled_phases.specs.declared.config.Config.{Config}
 use Rattle.runtime.specs.declared.open_fault.OpenFault.{OpenFault}
 use Rattle.explored_runs.specs.Rows.{AreRowsOf}
 use Rattle.explored_runs.specs.Runs.{IsRun}

@@ -4,7 +4,7 @@ use Rattle.std.specs.declared.alloc.AllocError.{AllocError}
 use Rattle.std.specs.declared.alloc.Global.{Global}
 use Rattle.elf32_reader.specs.LoadImage.{LoadImage}
 use Rattle.runtime.specs.Answer.{HasAnswer}
-use Rattle.runtime.specs.declared.config.Config.{Config}
+use Rattle.shuffled_phases.specs.declared.config.Config.{Config}
 use Rattle.runtime.specs.Recorded.{Ends}
 use Rattle.runtime.specs.declared.run_end.RunEnd.{RunEnd}
 use Rattle.sha2.specs.Sha256.{sha256}
@@ -16,7 +16,7 @@ use Rattle.explored_runs.specs.LastLine.{last_line}
 use Rattle.explored_runs.specs.Rows.{Telling}
 use Rattle.explored_runs.specs.declared.batch.Batch.{Batch}
 use Rattle.explored_runs.specs.declared.ending.Ending.{Ending}
-use Rattle.explored_runs.specs.declared.seen.Seen.{Seen}
+use Rattle.explored_runs.specs.declared.seen_run.SeenRun.{SeenRun}
 
 -- a number by which all phases are shuffled, without a limit for the program's choices
 abbrev pub whole : (number : ℕ) → Shuffle
@@ -42,18 +42,18 @@ IsRun image input config number ending line =
     let setup : Setup = setup_by image input config (whole number) in HasAnswer setup (EndsAs setup ending line)
 
 -- the run of its number was seen
-abbrev pub IsSeen : LoadImage → (input : List ℕ) → Config → Seen → Type 0
+abbrev pub IsSeen : LoadImage → (input : List ℕ) → Config → SeenRun → Type 0
 IsSeen image input config seen = IsRun image input config seen.number seen.ending seen.line.items
 
 -- the runs of their numbers were seen
-abbrev pub AllSeen : LoadImage → (input : List ℕ) → Config → List Seen → Type 0
+abbrev pub AllSeen : LoadImage → (input : List ℕ) → Config → List SeenRun → Type 0
 AllSeen image input config seen = All (IsSeen image input config) seen
 
 -- what a host thread saw of the runs that it made, unless memory ran out
-abbrev pub IsPart : LoadImage → (input : List ℕ) → Config → Result (Vec Seen Global) AllocError → Type 0
+abbrev pub IsPart : LoadImage → (input : List ℕ) → Config → Result (Vec SeenRun Global) AllocError → Type 0
 IsPart image input config part = IfOk part (λ seen. AllSeen image input config seen.items)
 
 -- in each slot of a batch, if anything, is what was seen of the run of its number
-abbrev pub AreSlots : LoadImage → (input : List ℕ) → Config → Batch → List (Option Seen) → Type 0
-AreSlots image input config batch slots = (place : ℕ) (d : Option Seen) → place < length slots
+abbrev pub AreSlots : LoadImage → (input : List ℕ) → Config → Batch → List (Option SeenRun) → Type 0
+AreSlots image input config batch slots = (place : ℕ) (d : Option SeenRun) → place < length slots
     → IfSome (slice_index_or slots place d) (λ seen. (seen.number ≡ number_at batch place) × IsSeen image input config seen)

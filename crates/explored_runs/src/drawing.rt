@@ -1,16 +1,16 @@
 //! Runs the numbers of a batch by several host threads. Each draws the next number, runs it, and keeps what it saw.
 ghost use Rattle.std.specs.Prelude.{◌≡◌, ℕ, ◌^◌, ◌<◌, ◌++◌, ◌∷◌, [], List, true, All, IfOk, OnOk, vec_len};
-ghost use Rattle.runtime.specs.Config.{is_valid};
+ghost use Rattle.shuffled_phases.specs.Config.{is_valid};
 ghost use Rattle.explored_runs.specs.Batch.{IsInRange, number_at};
 ghost use Rattle.explored_runs.specs.Runs.{AllSeen, AreSlots, IsPart};
 ghost use Rattle.elf32_reader.specs.LoadImage.{LoadImage};
-ghost use Rattle.runtime.specs.declared.config.Config.{Config as ConfigOf};
+ghost use Rattle.shuffled_phases.specs.declared.config.Config.{Config as ConfigOf};
 ghost use denote.Param.Send.{IsSync};
 
 use crate::batch::Batch;
 use crate::numbered::run_number;
-use crate::progress::Progress;
-use crate::seen::Seen;
+use crate::progress_listener::ProgressListener;
+use crate::seen_run::SeenRun;
 use crate::slots::{empty_slots, put};
 use elf32_reader::Image;
 use runtime::Config;
@@ -21,7 +21,7 @@ use std::thread;
 use std::thread::Threads;
 
 /// What was seen of the runs of a batch, as far as it is known: in the slots of their numbers.
-pub(crate) fn run_batch<R: Threads + Wait + Sync, P: Progress + Sync>(
+pub(crate) fn run_batch<R: Threads + Wait + Sync, P: ProgressListener + Sync>(
     rt: &R,
     alloc: Global,
     image: &Image,
@@ -29,7 +29,7 @@ pub(crate) fn run_batch<R: Threads + Wait + Sync, P: Progress + Sync>(
     config: &Config,
     batch: Batch,
     progress: &P,
-) -> Result<Vec<Option<Seen>>, AllocError>
+) -> Result<Vec<Option<SeenRun>>, AllocError>
     requires valid { is_valid config.now ≡ true }
     requires range { IsInRange batch }
     ensures len { IfOk result (λ slots. vec_len slots ≡ batch.count) }
@@ -44,7 +44,7 @@ pub(crate) fn run_batch<R: Threads + Wait + Sync, P: Progress + Sync>(
 }
 
 /// Puts what was seen of runs into the slots of their numbers.
-fn put_all(slots: &mut [Option<Seen>], batch: Batch, mut seen: Vec<Seen>)
+fn put_all(slots: &mut [Option<SeenRun>], batch: Batch, mut seen: Vec<SeenRun>)
     requires { number_at batch 0 < 2 ^ 32 }
     ensures { (image : LoadImage) (input : List ℕ) (config : ConfigOf) → AllSeen image input config seen.items
         → AreSlots image input config batch slots.old → AreSlots image input config batch slots.new }
@@ -55,7 +55,7 @@ fn put_all(slots: &mut [Option<Seen>], batch: Batch, mut seen: Vec<Seen>)
 }
 
 /// What each of the host threads saw.
-fn draw_all<R: Threads + Wait + Sync, P: Progress + Sync>(
+fn draw_all<R: Threads + Wait + Sync, P: ProgressListener + Sync>(
     rt: &R,
     alloc: Global,
     image: &Image,
@@ -63,13 +63,13 @@ fn draw_all<R: Threads + Wait + Sync, P: Progress + Sync>(
     config: &Config,
     batch: Batch,
     progress: &P,
-) -> Result<Vec<Result<Vec<Seen>, AllocError>>, AllocError>
+) -> Result<Vec<Result<Vec<SeenRun>, AllocError>>, AllocError>
     requires valid { is_valid config.now ≡ true }
     requires range { IsInRange batch }
     ensures { IfOk result (λ parts. All (IsPart image.now input.now config.now) parts.items) }
 {
     let next = AtomicU64::new(0);
-    let part = |_: usize| -> Result<Vec<Seen>, AllocError>
+    let part = |_: usize| -> Result<Vec<SeenRun>, AllocError>
         requires { IsSync R.row × IsSync P.row × (is_valid config.now ≡ true) × IsInRange batch }
         ensures { IsPart image.entry.now input.entry.now config.entry.now result }
     { draw_runs(rt, alloc, image, input, config, batch, &next, progress) };
@@ -77,7 +77,7 @@ fn draw_all<R: Threads + Wait + Sync, P: Progress + Sync>(
 }
 
 /// Runs the numbers that are drawn, until none is left.
-fn draw_runs<R: Threads + Wait + Sync, P: Progress>(
+fn draw_runs<R: Threads + Wait + Sync, P: ProgressListener>(
     rt: &R,
     alloc: Global,
     image: &Image,
@@ -86,7 +86,7 @@ fn draw_runs<R: Threads + Wait + Sync, P: Progress>(
     batch: Batch,
     next: &AtomicU64,
     progress: &P,
-) -> Result<Vec<Seen>, AllocError>
+) -> Result<Vec<SeenRun>, AllocError>
     requires valid { is_valid config.now ≡ true }
     requires range { IsInRange batch }
     ensures { IsPart image.now input.now config.now result }
@@ -105,7 +105,7 @@ fn draw_runs<R: Threads + Wait + Sync, P: Progress>(
 }
 
 /// Keeps what was seen of a run.
-fn keep(seen: &mut Vec<Seen>, run: Seen) -> Result<(), AllocError>
+fn keep(seen: &mut Vec<SeenRun>, run: SeenRun) -> Result<(), AllocError>
     ensures { OnOk result (seen.new.items ≡ seen.old.items ++ run ∷ []) }
 {
     seen.push(run)?;

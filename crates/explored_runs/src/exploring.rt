@@ -1,6 +1,6 @@
 //! The call `explore`: a file, its input and a range of numbers go in, the rows of their runs come out.
 ghost use Rattle.std.specs.Prelude.{◌≡◌, ◌+◌, ◌^◌, ◌<◌, ◌≤◌, true, IfOk, IfSome, OnOk, vec_len};
-ghost use Rattle.runtime.specs.Config.{is_valid};
+ghost use Rattle.shuffled_phases.specs.Config.{is_valid};
 ghost use Rattle.explored_runs.specs.Batch.{IsInRange};
 ghost use Rattle.explored_runs.specs.Explored.{Explores};
 ghost use Rattle.explored_runs.specs.Rows.{AreRowsOf};
@@ -9,10 +9,10 @@ ghost use Rattle.explored_runs.specs.Runs.{AreSlots, IsRun, IsSeen};
 use crate::batch::Batch;
 use crate::drawing::run_batch;
 use crate::numbered::run_number;
-use crate::progress::Progress;
+use crate::progress_listener::ProgressListener;
 use crate::row::Row;
 use crate::rows::count;
-use crate::seen::Seen;
+use crate::seen_run::SeenRun;
 use crate::slots::take_at;
 use elf32_reader::Image;
 use runtime::{Config, OpenFault, open_image};
@@ -25,7 +25,7 @@ const BATCH: u32 = 4096;
 
 /// Runs a file on an input by each number of a range, each run on one host thread, and so many of them at once as the configuration has
 /// workers. Its own number isn't looked at. Answers a row for each outcome and output, in the order of their first numbers.
-pub fn explore<R: Threads + Wait + Sync, P: Progress + Sync>(
+pub fn explore<R: Threads + Wait + Sync, P: ProgressListener + Sync>(
     rt: &R,
     alloc: Global,
     elf: &[u8],
@@ -63,7 +63,7 @@ fn count_all<R: Threads + Wait + Sync>(
     input: &[u8],
     config: &Config,
     batch: Batch,
-    mut slots: Vec<Option<Seen>>,
+    mut slots: Vec<Option<SeenRun>>,
     rows: &mut Vec<Row>,
 ) -> Result<(), AllocError>
     requires valid { is_valid config.now ≡ true }
@@ -90,8 +90,8 @@ fn known_or_run<R: Threads + Wait + Sync>(
     input: &[u8],
     config: &Config,
     number: u32,
-    known: Option<Seen>,
-) -> Result<Seen, AllocError>
+    known: Option<SeenRun>,
+) -> Result<SeenRun, AllocError>
     requires valid { is_valid config.now ≡ true }
     requires known { IfSome known (λ seen. (seen.number ≡ number) × IsSeen image.now input.now config.now seen) }
     ensures seen { IfOk result (IsSeen image.now input.now config.now) }

@@ -1,13 +1,13 @@
 //! The run of one number.
 ghost use Rattle.std.specs.Prelude.{◌≡◌, true, IfOk};
-ghost use Rattle.runtime.specs.Config.{is_valid};
+ghost use Rattle.shuffled_phases.specs.Config.{is_valid};
 ghost use Rattle.explored_runs.specs.Runs.{IsSeen};
 ghost use Rattle.explored_runs.specs.LastLine.{last_line as last_line_of};
 ghost use Rattle.sha2.specs.Sha256.{sha256};
 
 use crate::ending::Ending;
 use crate::last_line::last_line;
-use crate::seen::Seen;
+use crate::seen_run::SeenRun;
 use crate::shuffled::{run_shuffled, whole};
 use elf32_reader::Image;
 use runtime::{Config, RunEnd};
@@ -24,7 +24,7 @@ pub(crate) fn run_number<R: Threads + Wait + Sync>(
     input: &[u8],
     config: &Config,
     number: u32,
-) -> Result<Seen, AllocError>
+) -> Result<SeenRun, AllocError>
     requires { is_valid config.now ≡ true }
     ensures seen { IfOk result (IsSeen image.now input.now config.now) }
     ensures number { IfOk result (λ seen. seen.number ≡ number) }
@@ -34,13 +34,13 @@ pub(crate) fn run_number<R: Threads + Wait + Sync>(
 }
 
 /// What is seen of the run of a number that ended so.
-fn seen_of(alloc: Global, number: u32, end: &RunEnd) -> Result<Seen, AllocError>
+fn seen_of(alloc: Global, number: u32, end: &RunEnd) -> Result<SeenRun, AllocError>
     ensures number { IfOk result (λ seen. seen.number ≡ number) }
     ensures outcome { IfOk result (λ seen. seen.ending.outcome ≡ end.now.outcome) }
     ensures digest { IfOk result (λ seen. seen.ending.digest ≡ sha256 end.now.output.items) }
     ensures line { IfOk result (λ seen. seen.line.items ≡ last_line_of end.now.output.items) }
 {
-    Ok(Seen {
+    Ok(SeenRun {
         number,
         ending: Ending {
             outcome: end.outcome,

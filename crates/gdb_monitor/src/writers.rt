@@ -38,7 +38,7 @@ pub(crate) fn print_writers(
 
 /// Some bytes before a turn and after it.
 #[derive(Drop)]
-struct Change {
+struct ChangedBytes {
     /// As its thread found them.
     base: Vec<u8>,
     /// As they were in the shared memory before it.
@@ -72,7 +72,7 @@ fn writer_line(
         alloc,
         number,
         turn.thread,
-        &Change {
+        &ChangedBytes {
             base,
             before,
             after,
@@ -81,7 +81,12 @@ fn writer_line(
 }
 
 /// The line of a turn that changed some bytes.
-fn line_of(alloc: Global, number: u64, thread: u32, change: &Change) -> Result<String, AllocError> {
+fn line_of(
+    alloc: Global,
+    number: u64,
+    thread: u32,
+    change: &ChangedBytes,
+) -> Result<String, AllocError> {
     let mut text = format!(in alloc; "turn {number} thread {thread}: ")?;
     write_bytes(&mut text, change.base.as_slice())?;
     text.push_str(" -> ")?;

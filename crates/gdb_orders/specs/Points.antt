@@ -1,8 +1,8 @@
 -- The breakpoints and watchpoints of a session.
 use Rattle.std.specs.Prelude.{◌≡◌, ℕ, ◌-◌, ◌^◌, ◌==◌, ◌&&◌, Bool, true, false, not, nat_lt, nat_le, min, if◌then◌else◌, Option, Some, None, option_and_then, List, [], ◌∷◌, ◌++◌}
 use Rattle.std.specs.List.{filter, list_any}
-use Rattle.gdb_packets.specs.declared.request.PointKind.{PointKind}
-use Rattle.gdb_packets.specs.declared.request.PointKind.TheVariants.{Software, Hardware, Write, Read, Access}
+use Rattle.gdb_packets.specs.declared.packet_request.PointKind.{PointKind}
+use Rattle.gdb_packets.specs.declared.packet_request.PointKind.TheVariants.{Software, Hardware, Write, Read, Access}
 use Rattle.gdb_packets.specs.declared.window.Window.{Window}
 use Rattle.marked_memory.specs.declared.watch.Watch.{Watch}
 use Rattle.marked_memory.specs.declared.watch.WatchKind.{WatchKind}

@@ -5,8 +5,8 @@ use Rattle.text_output.specs.Digits.{hexadecimal}
 use Rattle.gdb_packets.specs.Escapes.{escaped}
 use Rattle.gdb_packets.specs.declared.deframer.Heard.{Heard}
 use Rattle.gdb_packets.specs.declared.deframer.Heard.TheVariants.{Acknowledged, Interrupt, Nothing, Refused}
-use Rattle.gdb_packets.specs.declared.deframer.Part.{Part}
-use Rattle.gdb_packets.specs.declared.deframer.Part.TheVariants.{Outside, Body, Sharp, Digit}
+use Rattle.gdb_packets.specs.declared.deframer.FramePart.{FramePart}
+use Rattle.gdb_packets.specs.declared.deframer.FramePart.TheVariants.{Outside, Body, Sharp, Digit}
 
 -- by which a frame is checked
 abbrev pub checksum_of : List ℕ → ℕ
@@ -36,7 +36,7 @@ pub record IsSpoiled (bytes body : List ℕ) : Type 0 where
   pub sum : IsSum body first second → ⊥
 
 -- the bytes of a frame that was begun: none outside of a frame
-abbrev pub bytes_begun : (body : List ℕ) → Part → List ℕ
+abbrev pub bytes_begun : (body : List ℕ) → FramePart → List ℕ
 bytes_begun body Outside = []
 bytes_begun body Body = 36 ∷ body
 bytes_begun body Sharp = 36 ∷ (body ++ 35 ∷ [])
@@ -47,7 +47,7 @@ abbrev pub GoesOn : (begun : List ℕ) (byte : ℕ) (now : List ℕ) → Type 0
 GoesOn begun byte now = (now ≡ begun ++ byte ∷ []) ⊎ ((byte ≡ 36) × (now ≡ 36 ∷ []))
 
 -- this byte is the last one of a frame of this body, whose checksum is right
-abbrev pub Completes : (body : List ℕ) → Part → ℕ → Type 0
+abbrev pub Completes : (body : List ℕ) → FramePart → ℕ → Type 0
 Completes body Outside byte = ⊥
 Completes body Body byte = ⊥
 Completes body Sharp byte = ⊥

@@ -3,10 +3,10 @@ use Rattle.std.specs.Prelude.{◌≡◌, ◌≢◌, ◌⊎◌, ℕ, List, [], �
 use Rattle.gdb_packets.specs.Numbers.{AreNumbers, IsNumber}
 use Rattle.gdb_packets.specs.declared.action.Motion.{Motion}
 use Rattle.gdb_packets.specs.declared.action.Motion.TheVariants.{Continue, Step, Range}
-use Rattle.gdb_packets.specs.declared.request.PointKind.{PointKind}
-use Rattle.gdb_packets.specs.declared.request.PointKind.TheVariants.{Software, Hardware, Write, Read, Access}
-use Rattle.gdb_packets.specs.declared.request.Request.{Request}
-use Rattle.gdb_packets.specs.declared.request.Request.TheVariants as request
+use Rattle.gdb_packets.specs.declared.packet_request.PointKind.{PointKind}
+use Rattle.gdb_packets.specs.declared.packet_request.PointKind.TheVariants.{Software, Hardware, Write, Read, Access}
+use Rattle.gdb_packets.specs.declared.packet_request.PacketRequest.{PacketRequest}
+use Rattle.gdb_packets.specs.declared.packet_request.PacketRequest.TheVariants as request
 use Rattle.gdb_packets.specs.declared.thread_id.ThreadId.{ThreadId}
 use Rattle.gdb_packets.specs.declared.thread_id.ThreadId.TheVariants.{Any, All, One}
 use Rattle.gdb_packets.specs.declared.window.Window.{Window}
@@ -40,7 +40,7 @@ AsksMotion text Step = IsOrSignal text 115 83
 AsksMotion text (Range start end) = ⊥
 
 -- A packet of this text asks for this. Of the other requests nothing is said: they change nothing of the run or of what is meant.
-abbrev pub Asks : List ℕ → Request → Type 0
+abbrev pub Asks : List ℕ → PacketRequest → Type 0
 Asks text request.Registers = text ≡ 103 ∷ []
 Asks text request.WhyStopped = text ≡ 63 ∷ []
 Asks text request.Extend = text ≡ 33 ∷ []
@@ -67,23 +67,23 @@ Asks text (request.ClearPoint kind window) = (rest : List ℕ) × (text ≡ 122 
 Asks text _ = Unit {0}
 
 -- a command of the user's with these digits
-abbrev pub IsCommand : List ℕ → Request → Type 0
+abbrev pub IsCommand : List ℕ → PacketRequest → Type 0
 IsCommand digits (request.Command given) = given.now ≡ digits
 IsCommand digits _ = ⊥
 
 -- A text without parts that asks for registers, or to change registers or memory, is taken for that.
-pub record IsReadShort (text : List ℕ) (asked : Request) : Type 0 where
+pub record IsReadShort (text : List ℕ) (asked : PacketRequest) : Type 0 where
   pub registers : text ≡ codes "g" → asked ≡ request.Registers
   pub change : (rest : List ℕ) → (text ≡ 71 ∷ rest) ⊎ (text ≡ 80 ∷ rest) → asked ≡ request.ChangeRegisters
   pub store : (rest : List ℕ) → (text ≡ 77 ∷ rest) ⊎ (text ≡ 88 ∷ rest) → asked ≡ request.ChangeMemory
 
 -- One that asks for a register or for memory is taken for that.
-pub record IsReadLong (text : List ℕ) (asked : Request) : Type 0 where
+pub record IsReadLong (text : List ℕ) (asked : PacketRequest) : Type 0 where
   pub register : (digits : List ℕ) (number : ℕ) → text ≡ 112 ∷ digits → IsNumber digits number → asked ≡ request.Register number
   pub memory : (part : List ℕ) (window : Window) → text ≡ 109 ∷ part → IsWindow part window → asked ≡ request.Memory window
 
 -- A text that asks for registers, for memory, to change them, or for a command of the user's is taken for that.
-pub record IsRead (text : List ℕ) (asked : Request) : Type 0 where
+pub record IsRead (text : List ℕ) (asked : PacketRequest) : Type 0 where
   pub short : IsReadShort text asked
   pub long : IsReadLong text asked
   pub command : (digits : List ℕ) → text ≡ codes "qRcmd," ++ digits → IsCommand digits asked

@@ -30,7 +30,7 @@ pub enum Heard {
 
 /// How much of a frame has been heard.
 #[derive(Clone, Copy, Debug, PartialEq, Eq)]
-enum Part {
+enum FramePart {
     /// None of it.
     Outside,
     /// Its `$` and some bytes.
@@ -46,7 +46,7 @@ enum Part {
 pub struct Deframer {
     /// The bytes between `$` and `#`, as they came.
     body: Vec<u8>,
-    part: Part,
+    part: FramePart,
 }
 
 impl Deframer {
@@ -56,7 +56,7 @@ impl Deframer {
     {
         Ok(Deframer {
             body: Vec::with_capacity(alloc, PACKET_LIMIT)?,
-            part: Part::Outside,
+            part: FramePart::Outside,
         })
     }
 
@@ -78,18 +78,18 @@ impl Deframer {
         ensures interrupt { result ≡ Heard.Interrupt → (byte ≡ 3) × (bytes_begun self.old.body.items self.old.part ≡ []) }
         ensures completes { Completes self.old.body.items self.old.part byte →
             (result ≡ Heard.Packet) × (self.new.body.items ≡ self.old.body.items) }
-        ensures outside { self.old.part ≡ Part.Outside → result ≡ heard_outside byte }
+        ensures outside { self.old.part ≡ FramePart.Outside → result ≡ heard_outside byte }
         ensures begun { bytes_begun self.new.body.items self.new.part ≢ [] → result ≡ Heard.Nothing }
     {
         match self.part {
-            Part::Outside => self.hear_outside(byte),
-            Part::Body => self.hear_body(byte),
-            Part::Sharp => {
-                self.part = Part::Digit(byte);
+            FramePart::Outside => self.hear_outside(byte),
+            FramePart::Body => self.hear_body(byte),
+            FramePart::Sharp => {
+                self.part = FramePart::Digit(byte);
                 Heard::Nothing
             }
-            Part::Digit(first) => {
-                self.part = Part::Outside;
+            FramePart::Digit(first) => {
+                self.part = FramePart::Outside;
                 self.judge(first, byte)
             }
         }
@@ -97,7 +97,7 @@ impl Deframer {
 
     /// Takes a byte that is in no frame.
     fn hear_outside(&mut self, byte: u8) -> Heard
-        requires { self.old.part ≡ Part.Outside }
+        requires { self.old.part ≡ FramePart.Outside }
         ensures other { (result ≢ Heard.Packet) × (result ≢ Heard.Spoiled) }
         ensures interrupt { result ≡ Heard.Interrupt → byte ≡ 3 }
         ensures begun { bytes_begun self.new.body.items self.new.part ≢ []
@@ -118,7 +118,7 @@ impl Deframer {
 
     /// Takes a byte of a frame's body, or the one that ends it. A `$` begins another frame.
     fn hear_body(&mut self, byte: u8) -> Heard
-        requires { self.old.part ≡ Part.Body }
+        requires { self.old.part ≡ FramePart.Body }
         ensures other { (result ≢ Heard.Packet) × (result ≢ Heard.Spoiled) × (result ≢ Heard.Interrupt) }
         ensures goes_on { result ≡ Heard.Nothing → GoesOn (36 ∷ self.old.body.items) byte (bytes_begun self.new.body.items self.new.part) }
         ensures ended { (result ≡ Heard.Nothing) ⊎ (bytes_begun self.new.body.items self.new.part ≡ []) }
@@ -129,7 +129,7 @@ impl Deframer {
                 Heard::Nothing
             }
             b'#' => {
-                self.part = Part::Sharp;
+                self.part = FramePart::Sharp;
                 Heard::Nothing
             }
             _ => self.keep(byte),
@@ -141,19 +141,19 @@ impl Deframer {
         ensures { bytes_begun self.new.body.items self.new.part ≡ 36 ∷ [] }
     {
         self.body.clear();
-        self.part = Part::Body;
+        self.part = FramePart::Body;
     }
 
     /// Keeps a byte of a frame's body, or drops the frame.
     fn keep(&mut self, byte: u8) -> Heard
-        requires { self.old.part ≡ Part.Body }
+        requires { self.old.part ≡ FramePart.Body }
         ensures kept { result ≡ Heard.Nothing → bytes_begun self.new.body.items self.new.part ≡ 36 ∷ (self.old.body.items ++ byte ∷ []) }
         ensures either { (result ≡ Heard.Nothing) ⊎ ((result ≡ Heard.TooLong) × (bytes_begun self.new.body.items self.new.part ≡ [])) }
     {
         if self.body.len() < PACKET_LIMIT && self.body.push(byte).is_ok() {
             return Heard::Nothing;
         }
-        self.part = Part::Outside;
+        self.part = FramePart::Outside;
         Heard::TooLong
     }
 

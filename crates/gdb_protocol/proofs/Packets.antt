@@ -4,8 +4,8 @@ use Rattle.gdb_packets.specs.Frames.{frame_of}
 use Rattle.gdb_packets.specs.Requests.{IsCommand, IsRead}
 use Rattle.gdb_packets.specs.Wire.{IsSent, noted}
 use Rattle.gdb_packets.specs.declared.deframer.Deframer.{Deframer}
-use Rattle.gdb_packets.specs.declared.request.Request.{Request}
-use Rattle.gdb_packets.specs.declared.request.Request.TheVariants as request
+use Rattle.gdb_packets.specs.declared.packet_request.PacketRequest.{PacketRequest}
+use Rattle.gdb_packets.specs.declared.packet_request.PacketRequest.TheVariants as request
 use Rattle.gdb_packets.specs.declared.wire.Wire.{Wire}
 use Rattle.gdb_monitor.specs.Searching.{Stays}
 use Rattle.gdb_protocol.specs.Answers.{Answers}
@@ -30,16 +30,16 @@ answered old wire deframer new text plus answers =
     }
 
 -- a command leaves the run where it stands
-stays : (old : Session) (wire : Wire) (deframer : Deframer) (new : Session) (digits : List ℕ) (asked : Request) → IsCommand digits asked
+stays : (old : Session) (wire : Wire) (deframer : Deframer) (new : Session) (digits : List ℕ) (asked : PacketRequest) → IsCommand digits asked
     → Replies (record old { wire = wire; deframer = deframer }) new asked → Stays old.timeline new.timeline
 stays old wire deframer new digits (request.Command given) is replies = replies
 stays old wire deframer new digits _ is replies = absurd is
 
 -- a packet that was acknowledged, and what it asks for done
-pub handled : (old : Session) (wire : Wire) (deframer : Deframer) (new : Session) (text : List ℕ) (asked : Request) → IsSent old.wire (noted old.wire 43) wire
+pub handled : (old : Session) (wire : Wire) (deframer : Deframer) (new : Session) (text : List ℕ) (asked : PacketRequest) → IsSent old.wire (noted old.wire 43) wire
     → IsRead text asked → Replies (record old { wire = wire; deframer = deframer }) new asked → Handles old new text
 handled old wire deframer new text asked plus read replies =
-    let told = λ (other : Request) (is : asked ≡ other). subst (Replies (record old { wire = wire; deframer = deframer }) new) is replies in
+    let told = λ (other : PacketRequest) (is : asked ≡ other). subst (Replies (record old { wire = wire; deframer = deframer }) new) is replies in
     record {
       registers = λ is. answered old wire deframer new _ plus (told request.Registers (read.short.registers is));
       register = λ digits number is numbers. answered old wire deframer new _ plus (told (request.Register number) (read.long.register digits number is numbers));

@@ -1,7 +1,7 @@
 -- How requests of a program that is there are answered: for its registers and memory, and to change them.
 use Rattle.std.specs.Prelude.{ℕ, Option, Some, None, List, codes}
-use Rattle.gdb_packets.specs.declared.request.Request.{Request}
-use Rattle.gdb_packets.specs.declared.request.Request.TheVariants as request
+use Rattle.gdb_packets.specs.declared.packet_request.PacketRequest.{PacketRequest}
+use Rattle.gdb_packets.specs.declared.packet_request.PacketRequest.TheVariants as request
 use Rattle.gdb_monitor.specs.Searching.{Stays}
 use Rattle.gdb_shown.specs.Memory.{memory_shown}
 use Rattle.gdb_shown.specs.Registers.{one_register_shown, registers_shown}
@@ -17,7 +17,7 @@ text_or_error (Some text) = text
 -- The registers and the memory are those of the thread that is meant, at the position of the run. A change is refused: of registers
 -- with a reason that gdb prints, of memory with an error. Nothing else changes. A command of the user leaves the run where it stands.
 -- Of other requests nothing is said.
-abbrev pub Replies : Session → Session → Request → Type 0
+abbrev pub Replies : Session → Session → PacketRequest → Type 0
 Replies old new request.Registers = Answers old new (registers_shown (moment_in old) old.selection.general)
 Replies old new (request.Register number) = Answers old new (text_or_error (one_register_shown (moment_in old) old.selection.general number))
 Replies old new (request.Memory window) = Answers old new (text_or_error (memory_shown (moment_in old) old.selection.general window))

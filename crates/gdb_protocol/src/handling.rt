@@ -2,7 +2,7 @@
 use crate::life::Life;
 use crate::session::Session;
 use gdb_monitor::{command_of, perform_command, step_named};
-use gdb_packets::{Request, Window, bytes_of_digits};
+use gdb_packets::{PacketRequest, Window, bytes_of_digits};
 use gdb_shown::{memory_text, part_of, register_text, registers_text, target_description};
 use std::alloc::AllocError;
 
@@ -21,71 +21,71 @@ impl Session {
     ghost use Rattle.gdb_protocol.specs.Replies.{Replies, text_or_error};
 
     /// Answers what a packet asks for, or begins to go there.
-    pub(crate) fn handle(&mut self, request: Request<'_>) -> Result<(), AllocError>
+    pub(crate) fn handle(&mut self, request: PacketRequest<'_>) -> Result<(), AllocError>
         ensures { self.old.life ≡ Life.Alive → OnOk result (Replies self.old self.new request.entry) }
     {
         match request {
-            Request::Features(features) => self.answer_features(features),
-            Request::NoAcknowledgements => {
+            PacketRequest::Features(features) => self.answer_features(features),
+            PacketRequest::NoAcknowledgements => {
                 self.answer(b"OK")?;
                 self.wire.stop_acknowledging();
                 Ok(())
             }
-            Request::WhyStopped => self.send_stop(),
-            Request::Description(name, window) => self.answer_description(name, window),
-            Request::WasAttached => self.answer(b"0"),
-            Request::Symbols => self.answer(b"OK"),
-            Request::ActionKinds => self.answer(b"vCont;c;C;s;S;r"),
-            Request::Extend => self.answer(b"OK"),
-            Request::Detach | Request::Kill => self.let_go(),
-            Request::End => {
+            PacketRequest::WhyStopped => self.send_stop(),
+            PacketRequest::Description(name, window) => self.answer_description(name, window),
+            PacketRequest::WasAttached => self.answer(b"0"),
+            PacketRequest::Symbols => self.answer(b"OK"),
+            PacketRequest::ActionKinds => self.answer(b"vCont;c;C;s;S;r"),
+            PacketRequest::Extend => self.answer(b"OK"),
+            PacketRequest::Detach | PacketRequest::Kill => self.let_go(),
+            PacketRequest::End => {
                 self.life = Life::Over;
                 Ok(())
             }
-            Request::Malformed => self.answer(b"E01"),
-            Request::Unknown => self.answer(b""),
-            Request::Command(digits) => self.command(digits),
-            Request::Restart(arguments) => self.restart(arguments),
+            PacketRequest::Malformed => self.answer(b"E01"),
+            PacketRequest::Unknown => self.answer(b""),
+            PacketRequest::Command(digits) => self.command(digits),
+            PacketRequest::Restart(arguments) => self.restart(arguments),
             _ => self.handle_alive(request),
         }
     }
 
     /// Answers what a packet asks of the program, which is refused if it is gone.
-    fn handle_alive(&mut self, request: Request<'_>) -> Result<(), AllocError>
+    fn handle_alive(&mut self, request: PacketRequest<'_>) -> Result<(), AllocError>
         ensures { self.old.life ≡ Life.Alive → OnOk result (Replies self.old self.new request.entry) }
     {
         if self.life != Life::Alive {
             return self.answer(b"E01");
         }
         match request {
-            Request::Resume(actions) => self.resume(actions),
-            Request::ResumeSelected(motion) => self.resume_selected(motion),
-            Request::StepBack => self.step_back(),
-            Request::ContinueBack => self.continue_back(),
-            Request::SetPoint(kind, window) => self.set_point(kind, window),
-            Request::ClearPoint(kind, window) => self.clear_point(kind, window),
+            PacketRequest::Resume(actions) => self.resume(actions),
+            PacketRequest::ResumeSelected(motion) => self.resume_selected(motion),
+            PacketRequest::StepBack => self.step_back(),
+            PacketRequest::ContinueBack => self.continue_back(),
+            PacketRequest::SetPoint(kind, window) => self.set_point(kind, window),
+            PacketRequest::ClearPoint(kind, window) => self.clear_point(kind, window),
             _ => self.handle_state(request),
         }
     }
 
     /// Answers what a packet asks of threads, registers and memory.
-    fn handle_state(&mut self, request: Request<'_>) -> Result<(), AllocError>
+    fn handle_state(&mut self, request: PacketRequest<'_>) -> Result<(), AllocError>
         ensures { OnOk result (Replies self.old self.new request.entry) }
     {
         match request {
-            Request::Registers => self.answer_registers(),
-            Request::Register(number) => self.answer_register(number),
-            Request::Memory(window) => self.answer_memory(window),
-            Request::ChangeRegisters => self.answer(b"E.a deterministic run is read-only"),
-            Request::ChangeMemory => self.answer(b"E01"),
-            Request::ThreadsText(window) => self.answer_threads(window),
-            Request::FirstThreads => self.answer_ids(),
-            Request::MoreThreads => self.answer(b"l"),
-            Request::ThreadText(id) => self.answer_thread_text(id),
-            Request::IsThread(id) => self.answer_is_thread(id),
-            Request::CurrentThread => self.answer_current(),
-            Request::SelectGeneral(id) => self.select_general(id),
-            Request::SelectMoving(id) => self.select_moving(id),
+            PacketRequest::Registers => self.answer_registers(),
+            PacketRequest::Register(number) => self.answer_register(number),
+            PacketRequest::Memory(window) => self.answer_memory(window),
+            PacketRequest::ChangeRegisters => self.answer(b"E.a deterministic run is read-only"),
+            PacketRequest::ChangeMemory => self.answer(b"E01"),
+            PacketRequest::ThreadsText(window) => self.answer_threads(window),
+            PacketRequest::FirstThreads => self.answer_ids(),
+            PacketRequest::MoreThreads => self.answer(b"l"),
+            PacketRequest::ThreadText(id) => self.answer_thread_text(id),
+            PacketRequest::IsThread(id) => self.answer_is_thread(id),
+            PacketRequest::CurrentThread => self.answer_current(),
+            PacketRequest::SelectGeneral(id) => self.select_general(id),
+            PacketRequest::SelectMoving(id) => self.select_moving(id),
             _ => self.answer(b""),
         }
     }

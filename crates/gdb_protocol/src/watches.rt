@@ -1,7 +1,7 @@
 //! Tells watch events, and steps over those that were told.
 use crate::moving::anywhere;
 use crate::session::Session;
-use gdb_shown::{TRAP, Told};
+use gdb_shown::{TRAP, WatchHit};
 use std::alloc::AllocError;
 use timeline::{Halt, Stops, WatchKind};
 
@@ -32,7 +32,7 @@ impl Session {
     }
 
     /// Tells a range that a step changed beside the one that was told.
-    pub(crate) fn tell_other(&mut self, other: Told) -> Result<(), AllocError> {
+    pub(crate) fn tell_other(&mut self, other: WatchHit) -> Result<(), AllocError> {
         self.tell_range("watch", other.address, other.thread)
     }
 
@@ -47,7 +47,7 @@ impl Session {
     }
 
     /// The watch event that was told of this thread, if gdb steps it alone over that: all watchpoints are lifted.
-    pub(crate) fn told_at(&self, alone: Option<u32>) -> Option<Told> {
+    pub(crate) fn told_at(&self, alone: Option<u32>) -> Option<WatchHit> {
         let told = self.watching.told()?;
         if alone == Some(told.thread) && self.points.watches().is_empty() {
             Some(told)
@@ -57,7 +57,7 @@ impl Session {
     }
 
     /// Steps a thread alone over a watch event that was told.
-    pub(crate) fn step_over(&mut self, told: Told) -> Result<(), AllocError> {
+    pub(crate) fn step_over(&mut self, told: WatchHit) -> Result<(), AllocError> {
         self.watching.move_on();
         if told.is_still {
             return self.tell_step(told.thread);
@@ -72,7 +72,7 @@ impl Session {
     }
 
     /// Steps a thread back alone over a watch event that was told.
-    pub(crate) fn step_back_over(&mut self, told: Told) -> Result<(), AllocError> {
+    pub(crate) fn step_back_over(&mut self, told: WatchHit) -> Result<(), AllocError> {
         self.watching.move_on();
         if told.is_still {
             return self.tell_step(told.thread);

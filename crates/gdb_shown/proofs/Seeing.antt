@@ -6,15 +6,15 @@ use Rattle.std.proofs.lemmas.List.Edits.{map_over_more}
 use Rattle.std.proofs.lemmas.List.Elements.{filter_more}
 use Rattle.timeline.specs.Moment.{Moment}
 use Rattle.gdb_shown.specs.Watching.{Range, after_step, has, is_changed, other_of, range_of, seen_by}
-use Rattle.gdb_shown.specs.declared.seen.Seen.{Seen}
-use Rattle.gdb_shown.specs.declared.watching.Told.{Told}
+use Rattle.gdb_shown.specs.declared.seen_range.SeenRange.{SeenRange}
+use Rattle.gdb_shown.specs.declared.watching.WatchHit.{WatchHit}
 
 -- those before an index are as they are to be, and the others as they were
 abbrev pub AreSeen : (Range → Range) → (old new : List Range) → ℕ → Type 0
 AreSeen f old new index = new ≡ map f (take index old) ++ drop index old
 
 -- one more is seen
-pub one_seen : (f : Range → Range) (old seen : List Seen) (index : ℕ) (default after : Seen) → index < length old → index < length seen
+pub one_seen : (f : Range → Range) (old seen : List SeenRange) (index : ℕ) (default after : SeenRange) → index < length old → index < length seen
     → AreSeen f (map range_of old) (map range_of seen) index → range_of after ≡ f (range_of (get_or seen index default))
     → AreSeen f (map range_of old) (map range_of (slice_set seen index after)) (index + 1)
 one_seen f old seen index default after within there so_far is =
@@ -32,7 +32,7 @@ as_it_was f old new index default within so_far =
     ∙ get_or_at (map f (take index old)) (get_or old index default) (drop (index + 1) old) default index (length-map (take index old) f ∙ length-take-le index old (omega arith))
 
 -- the tellings, with those of one more range
-one_told : (f : Range → Range) (is : Range → Bool) (tell : Range → Told) (old seen : List Seen) (index : ℕ) (default : Seen) → index < length old → index < length seen
+one_told : (f : Range → Range) (is : Range → Bool) (tell : Range → WatchHit) (old seen : List SeenRange) (index : ℕ) (default : SeenRange) → index < length old → index < length seen
     → AreSeen f (map range_of old) (map range_of seen) index
     → map tell (filter is (take (index + 1) (map range_of old)))
     ≡ map tell (filter is (take index (map range_of old))) ++ (if is (range_of (get_or seen index default)) then tell (range_of (get_or seen index default)) ∷ [] else [])
@@ -51,7 +51,7 @@ one_told f is tell old seen index default within there so_far =
     by_test false range = refl
 
 -- one more range is told
-pub told_one : (f : Range → Range) (is : Range → Bool) (tell : Range → Told) (old seen : List Seen) (index : ℕ) (default : Seen) → index < length old → index < length seen
+pub told_one : (f : Range → Range) (is : Range → Bool) (tell : Range → WatchHit) (old seen : List SeenRange) (index : ℕ) (default : SeenRange) → index < length old → index < length seen
     → AreSeen f (map range_of old) (map range_of seen) index → is (range_of (get_or seen index default)) ≡ true
     → map tell (filter is (take index (map range_of old))) ++ tell (range_of (get_or seen index default)) ∷ [] ≡ map tell (filter is (take (index + 1) (map range_of old)))
 told_one f is tell old seen index default within there so_far told =
@@ -60,18 +60,18 @@ told_one f is tell old seen index default within there so_far told =
     ∙ sym (one_told f is tell old seen index default within there so_far)
 
 -- one more range isn't told
-pub told_none : (f : Range → Range) (is : Range → Bool) (tell : Range → Told) (old seen : List Seen) (index : ℕ) (default : Seen) → index < length old → index < length seen
+pub told_none : (f : Range → Range) (is : Range → Bool) (tell : Range → WatchHit) (old seen : List SeenRange) (index : ℕ) (default : SeenRange) → index < length old → index < length seen
     → AreSeen f (map range_of old) (map range_of seen) index → is (range_of (get_or seen index default)) ≡ false
     → map tell (filter is (take index (map range_of old))) ≡ map tell (filter is (take (index + 1) (map range_of old)))
 told_none f is tell old seen index default within there so_far not_told =
     let range : Range = range_of (get_or seen index default) in
-    let before : List Told = map tell (filter is (take index (map range_of old))) in
+    let before : List WatchHit = map tell (filter is (take index (map range_of old))) in
     sym (append-nil before)
     ∙ ap (λ test. before ++ (if test then tell range ∷ [] else [])) (sym not_told)
     ∙ sym (one_told f is tell old seen index default within there so_far)
 
 -- a range that is told is told as it was
-pub as_told : (moment : Moment) (told : Told) (before : List Seen) (thread : ℕ) (range after : Range) → after ≡ after_step moment told before range → other_of thread after ≡ other_of thread range
+pub as_told : (moment : Moment) (told : WatchHit) (before : List SeenRange) (thread : ℕ) (range after : Range) → after ≡ after_step moment told before range → other_of thread after ≡ other_of thread range
 as_told moment told before thread range after is =
     ap (other_of thread) is ∙ by_test (has range told.address || is_changed moment told.thread before range)
   where

@@ -2,10 +2,9 @@
 use Rattle.std.specs.Prelude.{ℕ, zero, suc, ◌+◌, ◌==◌, false, nat_lt, if◌then◌else◌, min, drop, take, find, Option, Some, None, option_map, List, [], ◌∷◌, ◌++◌, length, codes, decimal}
 use Rattle.std.specs.Fmt.{digits}
 use Rattle.std.specs.List.{list_any}
-use Rattle.abi.specs.declared.call.Call.{Call}
-use Rattle.abi.specs.declared.call.Call.TheVariants.{Join}
-use Rattle.condvar_barrier.specs.declared.place.Place.{Place}
-use Rattle.condvar_barrier.specs.declared.place.Place.TheVariants.{Condition, Barrier}
+use Rattle.abi.specs.Calls.{joined_in}
+use Rattle.condvar_barrier.specs.declared.wait_place.WaitPlace.{WaitPlace}
+use Rattle.condvar_barrier.specs.declared.wait_place.WaitPlace.TheVariants.{Condition, Barrier}
 use Rattle.condvar_barrier.specs.declared.waiter.Waiter.{Waiter}
 use Rattle.ecalls.specs.Request.{call_of}
 use Rattle.gdb_packets.specs.declared.window.Window.{Window}
@@ -24,14 +23,9 @@ abbrev pub id_shown : ℕ → List ℕ
 id_shown thread = digits 16 false (thread + 1)
 
 -- where a thread waits
-abbrev pub place_words : Place → List ℕ
+abbrev pub place_words : WaitPlace → List ℕ
 place_words (Condition condition mutex) = codes "waits at condition " ++ decimal condition ++ codes " for mutex " ++ decimal mutex
 place_words (Barrier barrier count) = codes "waits at barrier " ++ decimal barrier ++ codes " of " ++ decimal count
-
--- the thread that a call joins
-abbrev pub joined_in : Call → Option ℕ
-joined_in (Join thread) = Some thread
-joined_in _ = None
 
 abbrev pub joined_by : Option Thread → Option ℕ
 joined_by None = None

@@ -3,10 +3,9 @@ ghost use Rattle.std.specs.Prelude.{◌≡◌, ◌==◌, ◌++◌, IfOk, OnOk, d
 ghost use Rattle.std.specs.String.{string_bytes};
 ghost use Rattle.timeline.specs.Present.{moment_of};
 ghost use Rattle.timeline.specs.Shown.{row_at, sees_at};
-ghost use Rattle.gdb_shown.specs.Threads.{entry_shown, id_shown, ids_shown, join_words, joined_by, joined_in, name_shown, next_id, part_shown, place_words, ready_words, shared_words, thread_words, threads_shown, waiting_words};
+ghost use Rattle.gdb_shown.specs.Threads.{entry_shown, id_shown, ids_shown, join_words, joined_by, name_shown, next_id, part_shown, place_words, ready_words, shared_words, thread_words, threads_shown, waiting_words};
 
-use abi::Call;
-use condvar_barrier::{Place, Waiter};
+use condvar_barrier::{WaitPlace, Waiter};
 use ecalls::call_of;
 use gdb_packets::Window;
 use std::alloc::{AllocError, Global};
@@ -168,14 +167,17 @@ fn waiter_of(waiters: &[Waiter], thread: u32) -> Option<Waiter>
 }
 
 /// Writes where a thread waits.
-fn write_place(text: &mut String, place: Place) -> Result<(), AllocError>
+fn write_place(text: &mut String, place: WaitPlace) -> Result<(), AllocError>
     ensures { OnOk result (string_bytes text.new ≡ string_bytes text.old ++ place_words place) }
 {
     match place {
-        Place::Condition { condition, mutex } => {
+        WaitPlace::Condition { condition, mutex } => {
             write!(text, "waits at condition {condition} for mutex {mutex}")
         }
-        Place::Barrier { barrier, count } => write!(text, "waits at barrier {barrier} of {count}"),
+        WaitPlace::Barrier { barrier, count } => write!(
+            text,
+            "waits at barrier {barrier} of {count}"
+        ),
     }
 }
 
@@ -185,19 +187,9 @@ fn joined_by(timeline: &Timeline, thread: u32) -> Option<u32>
 {
     let threads = timeline.serial().threads();
     if (thread as usize) < threads.len() {
-        return joined_in(call_of(&threads.get(thread).hart));
+        return call_of(&threads.get(thread).hart).joined();
     }
     None
-}
-
-/// The thread that a call joins.
-fn joined_in(call: Call) -> Option<u32>
-    ensures { result ≡ joined_in call }
-{
-    match call {
-        Call::Join { thread } => Some(thread),
-        _ => None,
-    }
 }
 
 /// Writes what a thread waits for that waits at no object.

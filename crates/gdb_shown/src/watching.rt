@@ -3,7 +3,7 @@ ghost use Rattle.std.specs.Prelude.{◌≡◌, ◌&&◌};
 ghost use Rattle.gdb_shown.specs.Watching.{is_kept, other_of, range_of};
 
 use crate::memory::bytes_seen;
-use crate::seen::{Seen, is_known, seen_of};
+use crate::seen_range::{SeenRange, is_known, seen_of};
 use std::alloc::{AllocError, Global};
 use std::mem;
 use timeline::{Timeline, Watch, WatchKind};
@@ -13,7 +13,7 @@ const SEEN_LIMIT: u32 = 4096;
 
 /// A watch event that was told.
 #[derive(Clone, Copy, Debug, PartialEq, Eq)]
-pub struct Told {
+pub struct WatchHit {
     /// The thread that makes the step.
     pub thread: u32,
     /// The address that was told: the first of the range.
@@ -26,11 +26,11 @@ pub struct Told {
 #[derive(Drop)]
 pub struct Watching {
     alloc: Global,
-    seen: Vec<Seen>,
+    seen: Vec<SeenRange>,
     /// The event that was told last, if nothing moved since.
-    told: Option<Told>,
+    told: Option<WatchHit>,
     /// The ranges of the same step that are told next.
-    others: Vec<Told>,
+    others: Vec<WatchHit>,
 }
 
 impl Watching {
@@ -75,14 +75,14 @@ impl Watching {
     }
 
     /// The event that was told last, if nothing moved since.
-    pub fn told(&self) -> Option<Told>
+    pub fn told(&self) -> Option<WatchHit>
         ensures { result ≡ self.now.told }
     {
         self.told
     }
 
     /// The next range of the same step that is to be told, which is told by this.
-    pub fn tell_other(&mut self) -> Option<Told>
+    pub fn tell_other(&mut self) -> Option<WatchHit>
         ensures other { MatchOption result (self.old.others.items ≡ [])
             (λ other. self.old.others.items ≡ self.new.others.items ++ other ∷ []) }
         ensures told { self.new ≡ record self.old { told = tells result self.old.told; others = self.new.others } }
@@ -126,7 +126,7 @@ impl Watching {
     {
         let is_still = self.sees_anew(timeline, &watch, thread)?;
         self.others.clear();
-        self.told = Some(Told {
+        self.told = Some(WatchHit {
             thread,
             address: watch.start,
             is_still,
@@ -173,7 +173,7 @@ impl Watching {
     }
 
     /// The ranges of which it is kept what gdb saw last, as a thread sees them.
-    pub fn look(&self, timeline: &Timeline, thread: u32) -> Result<Vec<Seen>, AllocError>
+    pub fn look(&self, timeline: &Timeline, thread: u32) -> Result<Vec<SeenRange>, AllocError>
         ensures { IfOk result
             (λ seen. map range_of seen.items ≡ map (seen_by (moment_of timeline.now.present) thread) (ranges_of self.now)) }
     {
@@ -189,8 +189,8 @@ impl Watching {
     pub fn see_step(
         &mut self,
         timeline: &Timeline,
-        told: Told,
-        before: &[Seen],
+        told: WatchHit,
+        before: &[SeenRange],
     ) -> Result<(), AllocError>
         ensures seen { OnOk result
             (ranges_of self.new ≡ map (after_step (moment_of timeline.now.present) told before.now) (ranges_of self.old)) }
@@ -218,10 +218,10 @@ fn is_kept(watch: &Watch) -> bool
 }
 
 /// What is told of a range that a step of this thread changed.
-fn other_of(thread: u32, seen: &Seen) -> Told
+fn other_of(thread: u32, seen: &SeenRange) -> WatchHit
     ensures { result ≡ other_of thread (range_of seen.now) }
 {
-    Told {
+    WatchHit {
         thread,
         address: seen.start,
         is_still: true,

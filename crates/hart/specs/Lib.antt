@@ -1,3 +1,4 @@
+pub mod Accesses
 pub mod Arithmetic
 pub mod Cause
 pub mod Executes

@@ -6,7 +6,7 @@ ghost use Rattle.hart.specs.Flows.{Computes, ComputesAt};
 use crate::arithmetic::sum;
 use crate::cause::Cause;
 use crate::flow::{Flow, trapped};
-use crate::place::Place;
+use crate::instruction_place::InstructionPlace;
 use crate::state::Hart;
 use decoder::{BranchOffset, Register};
 
@@ -23,7 +23,7 @@ impl Hart {
     /// Jumps from a place to a target, with the address of the next instruction in a register.
     #[tactic(auto, unfolding(crate::specs::Next::jumps))]
     #[inline(always)]
-    pub(crate) fn jump(&mut self, place: Place, rd: Register, target: u32) -> Flow
+    pub(crate) fn jump(&mut self, place: InstructionPlace, rd: Register, target: u32) -> Flow
         ensures { ComputesAt (λ hart memory. jumps hart memory rd target) (pc_of place) result self.old self.new }
     {
         if target % 4 != 0 {
@@ -36,7 +36,12 @@ impl Hart {
     /// Jumps from a place if the branch is taken, and else goes on.
     #[tactic(auto, unfolding(crate::specs::Next::branches, crate::specs::Arithmetic::sum))]
     #[inline(always)]
-    pub(crate) fn branch(&mut self, place: Place, taken: bool, offset: BranchOffset) -> Flow
+    pub(crate) fn branch(
+        &mut self,
+        place: InstructionPlace,
+        taken: bool,
+        offset: BranchOffset,
+    ) -> Flow
         ensures { ComputesAt (λ hart memory. branches hart memory taken offset) (pc_of place) result self.old self.new }
     {
         if !taken {

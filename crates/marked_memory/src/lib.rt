@@ -11,5 +11,5 @@ mod running;
 mod watch;
 
 pub use marks::Marks;
-pub use running::{Ran, run_to_mark};
+pub use running::{RunToMark, run_to_mark};
 pub use watch::{Watch, WatchKind};

@@ -16,7 +16,7 @@ use twins::View;
 
 /// What was run up to a mark.
 #[derive(Drop)]
-pub struct Ran {
+pub struct RunToMark {
     /// The memory.
     pub view: View,
     /// How many instructions were executed.
@@ -32,7 +32,7 @@ pub fn run_to_mark(
     view: View,
     marks: Marks<'_>,
     most: u64,
-) -> Result<Ran, AllocError>
+) -> Result<RunToMark, AllocError>
     requires { HasCode code.start code.entries.now (cells_of view) }
     ensures runs { IfOk result (λ ran.
         RunsUnmarked (places_of marks.entry) hart.old (cells_of view) ran.count hart.new (cells_of ran.view)) }
@@ -49,7 +49,7 @@ pub fn run_to_mark(
         marks,
     };
     let end = run_coded_slice(marked_code, hart, &mut marked, most, None, 0, most)?;
-    Ok(Ran {
+    Ok(RunToMark {
         view: marked.memory,
         count: steps_of(end),
     })

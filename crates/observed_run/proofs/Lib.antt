@@ -1,5 +1,5 @@
-pub mod Ending
 pub mod Going
+pub mod Instructions
 pub mod Sliced
 pub mod Told
 pub mod Turning

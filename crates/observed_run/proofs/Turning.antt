@@ -2,7 +2,7 @@
 use Rattle.std.proofs.Common.{◌≡◌, ◌∙◌, ◌∷◌, ◌++◌, ℕ, ◌+◌, true, false, Bool, Option, Some, None, List, [], ap, arith, refl, sym, subst}
 use Rattle.std.specs.Prelude.{◌==◌, ◌||◌, if◌then◌else◌, is_some, length, nat_lt}
 use Rattle.races.specs.Recording.{Records}
-use Rattle.races.specs.declared.event.Event.{Event}
+use Rattle.races.specs.declared.observed_event.ObservedEvent.{ObservedEvent}
 use Rattle.races.specs.declared.recorder.RaceRecorder.{RaceRecorder}
 use Rattle.segment.specs.declared.segment_end.SegmentEnd.{SegmentEnd}
 use Rattle.token.specs.Outcome.{quiet_outcome}
@@ -48,7 +48,7 @@ no_end (need.Wake thread) turn = refl
 no_end (need.Ended outcome) turn = absurd (turn outcome refl)
 
 -- what follows the segment of a turn, by what was looked up for it
-pub last_is : (actor given : Actor) (point : Point) (thread : ℕ) (end : Option SegmentEnd) (step : Step) (held passed : List ℕ) (stop : TurnStop) (events : List Event)
+pub last_is : (actor given : Actor) (point : Point) (thread : ℕ) (end : Option SegmentEnd) (step : Step) (held passed : List ℕ) (stop : TurnStop) (events : List ObservedEvent)
     → given ≡ actor → held ≡ held_by point.state.objects thread → passed ≡ let_go (blocked_in point.state.threads) step.after.threads → stop ≡ step.turn.stop
     → AreOfEnd given end held passed stop events → AreLast actor point thread end step events
 last_is actor given point thread end step held passed stop events same holds goes stops are =
@@ -57,10 +57,10 @@ last_is actor given point thread end step held passed stop events same holds goe
     (subst (λ (it : List ℕ). AreOfEnd actor end it passed stop events) holds
     (subst (λ (it : Actor). AreOfEnd it end held passed stop events) same are)))
 
-module _ (start point after : Point) (events last : List Event) (before between now : RaceRecorder)
+module _ (start point after : Point) (events last : List ObservedEvent) (before between now : RaceRecorder)
     (are : AreEvents start point events) (records : Records before events) (told_last : IsTold between now last) where
   abbrev Leads : Type 0
-  Leads = (more : List Event) × AreEvents start after more × Records now more
+  Leads = (more : List ObservedEvent) × AreEvents start after more × Records now more
 
   -- a turn that needs this, with this end of its segment and these events of it
   pub by_need : (asked : Need) (end : Option SegmentEnd) → need_at point ≡ asked → IsNeededBy point asked end
@@ -68,7 +68,7 @@ module _ (start point after : Point) (events last : List Event) (before between 
       → AreLast (actor_of point.done (thread_by asked)) point (thread_by asked) end (step_at point end) last
       → after ≡ moved point (step_at point end) → Leads
   by_need asked end is needed told are_last moves =
-      let first : List Event = needed_events (actor_of point.done (thread_by (need_at point))) point (need_at point) end in
+      let first : List ObservedEvent = needed_events (actor_of point.done (thread_by (need_at point))) point (need_at point) end in
       let needed_now : IsNeededAt point end = subst (λ (n : Need). IsNeededBy point n end) (sym is) needed in
       let told_now : IsTold before between first = subst (λ (n : Need). IsTold before between (needed_events (actor_of point.done (thread_by n)) point n end)) (sym is) told in
       let last_now : AreLast (actor_of point.done (thread_by (need_at point))) point (thread_by (need_at point)) end (step_at point end) last =

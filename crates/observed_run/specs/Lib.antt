@@ -1,5 +1,4 @@
 pub mod Calls
-pub mod Ended
 pub mod Events
 pub mod Runs
 pub mod Slices

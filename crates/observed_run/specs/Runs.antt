@@ -4,7 +4,7 @@ use Rattle.guest_memory.specs.Memory.{Memory}
 use Rattle.races.specs.Races.{AreRaces}
 use Rattle.races.specs.Recording.{Records}
 use Rattle.races.specs.Steps.{steps_in}
-use Rattle.races.specs.declared.event.Event.{Event}
+use Rattle.races.specs.declared.observed_event.ObservedEvent.{ObservedEvent}
 use Rattle.races.specs.declared.race.Race.{Race}
 use Rattle.races.specs.declared.recorder.RaceRecorder.{RaceRecorder}
 use Rattle.runtime.specs.Recorded.{Recording}
@@ -38,30 +38,30 @@ abbrev pub actor_of : (done thread : ℕ) → Actor
 actor_of done thread = record { thread = byte_of thread; turn = (done + 1) % 2 ^ 64 }
 
 -- the events of a segment on a copy of a memory, up to this end
-abbrev pub segment_events : Actor → Segment → Memory → SegmentEnd → List Event
+abbrev pub segment_events : Actor → Segment → Memory → SegmentEnd → List ObservedEvent
 segment_events actor segment copy end = events_upto actor segment.hart copy (steps_before end.stop end.count)
 
 -- the events of the segment that a turn needs
-abbrev pub needed_events : Actor → Point → Need → Option SegmentEnd → List Event
+abbrev pub needed_events : Actor → Point → Need → Option SegmentEnd → List ObservedEvent
 needed_events actor point (need.Segment work) (Some end) = segment_events actor work.segment point.base end
 needed_events actor point (need.Keeper work) (Some end) = segment_events actor work.segment point.state.memory end
 needed_events actor point _ _ = []
 
 -- what follows them in the turn of a thread: what the call orders, or the wake
-abbrev pub AreLast : Actor → Point → (thread : ℕ) → Option SegmentEnd → Step → List Event → Type 0
+abbrev pub AreLast : Actor → Point → (thread : ℕ) → Option SegmentEnd → Step → List ObservedEvent → Type 0
 AreLast actor point thread end step events =
     AreOfEnd actor end (held_by point.state.objects thread) (let_go (blocked_in point.state.threads) step.after.threads) step.turn.stop events
 
 -- the events of the next turn, with this end of its segment: those of its instructions, then those of its call
-pub record AreOfTurn (point : Point) (end : Option SegmentEnd) (events : List Event) : Type 0 where
-  pub last : List Event
+pub record AreOfTurn (point : Point) (end : Option SegmentEnd) (events : List ObservedEvent) : Type 0 where
+  pub last : List ObservedEvent
   pub is_last : AreLast (actor_of point.done (thread_by (need_at point))) point (thread_by (need_at point)) end (step_at point end) last
   pub all : events ≡ needed_events (actor_of point.done (thread_by (need_at point))) point (need_at point) end ++ last
 
 -- the events of the turns that lead from one point of a run to another
-pub data AreEvents (start : Point) : Point → List Event → Type 0 where
+pub data AreEvents (start : Point) : Point → List ObservedEvent → Type 0 where
   none : AreEvents start start []
-  turn : {point : Point} {events more : List Event} {end : Option SegmentEnd} → AreEvents start point events → IsNeededAt point end → AreOfTurn point end more
+  turn : {point : Point} {events more : List ObservedEvent} {end : Option SegmentEnd} → AreEvents start point events → IsNeededAt point end → AreOfTurn point end more
       → AreEvents start (moved point (step_at point end)) (events ++ more)
 
 -- The races are those of the events of all turns of a run that was given this, from its beginning to its end.
@@ -70,7 +70,7 @@ pub record AreRacesOf (setup : Setup) (races : List Race) : Type 0 where
   pub begins : StandsAfter start []
   pub setup_is : start.setup ≡ setup
   pub point : Point
-  pub events : List Event
+  pub events : List ObservedEvent
   pub ended : IsSome point.ended
   pub are_events : AreEvents start point events
   pub are_races : AreRaces (steps_in events) races
@@ -94,8 +94,8 @@ IsLegalPoint point = (history : History) × StandsAfter point history
 -- The run has moved from one point to another, and its recorder of races was told the events of the turns between.
 abbrev pub Leads : (run run' : RunInTurn) (races races' : RaceRecorder) → Type 0
 Leads run run' races races' =
-    (start : Point) (events : List Event) → AreEvents start (point_of run) events → Records races events
-    → (more : List Event) × AreEvents start (point_of run') more × Records races' more
+    (start : Point) (events : List ObservedEvent) → AreEvents start (point_of run) events → Records races events
+    → (more : List ObservedEvent) × AreEvents start (point_of run') more × Records races' more
 
 -- Turns of a run were legal, and its recorder of races was told their events.
 pub record LeadsLegally (run run' : RunInTurn) (races races' : RaceRecorder) : Type 0 where
@@ -105,7 +105,7 @@ pub record LeadsLegally (run run' : RunInTurn) (races races' : RaceRecorder) : T
 -- the recorder of races was told what follows the segment of a turn
 abbrev pub TellsLast : RunInTurn → (races races' : RaceRecorder) → (thread : ℕ) → Option SegmentEnd → Type 0
 TellsLast run races races' thread end =
-    (last : List Event)
+    (last : List ObservedEvent)
     × AreLast (actor_of (point_of run).done thread) (point_of run) thread end (step_at (point_of run) end) last
     × IsTold races races' last
 

@@ -9,43 +9,33 @@ use crate::actor::Actor;
 use decoded_code::{CodeSlice, entry as entry_of_word};
 use decoder::{Instr, Register};
 use guest_memory::GuestMemory;
-use hart::Hart;
-use races::{Access, ByteSet, Event, Site};
+use hart::{Hart, MemoryAccess};
+use races::{Access, ByteSet, ObservedEvent, Site};
 
 /// The event that an instruction of a thread is at an address, none if it loads and stores nothing and is no hint.
-fn event_of(actor: Actor, hart: &Hart, pc: u32, instr: &Instr) -> Option<Event>
+fn event_of(actor: Actor, hart: &Hart, pc: u32, instr: &Instr) -> Option<ObservedEvent>
     ensures { result ≡ spec.event_of actor (with_pc hart.now pc) instr.now }
 {
     match access_of(actor, hart, pc, instr) {
-        Some(access) => Some(Event::Access(access)),
+        Some(access) => Some(ObservedEvent::Access(access)),
         None => hint_of(actor, hart, instr),
     }
 }
 
 /// The access that an instruction of a thread makes at an address, if it loads or stores.
-#[tactic(auto, unfolding(crate::specs::Events::access_of))]
 #[inline(always)]
 pub(crate) fn access_of(actor: Actor, hart: &Hart, pc: u32, instr: &Instr) -> Option<Access>
     ensures { result ≡ spec.access_of actor (with_pc hart.now pc) instr.now }
 {
-    match *instr {
-        Instr::Lb { rs1, offset, .. } | Instr::Lbu { rs1, offset, .. } => {
-            Some(load(actor, hart, pc, rs1, offset.word(), 1))
-        }
-        Instr::Lh { rs1, offset, .. } | Instr::Lhu { rs1, offset, .. } => {
-            Some(load(actor, hart, pc, rs1, offset.word(), 2))
-        }
-        Instr::Lw { rs1, offset, .. } => Some(load(actor, hart, pc, rs1, offset.word(), 4)),
-        Instr::Sb { rs1, offset, .. } => Some(store(actor, hart, pc, rs1, offset.word(), 1)),
-        Instr::Sh { rs1, offset, .. } => Some(store(actor, hart, pc, rs1, offset.word(), 2)),
-        Instr::Sw { rs1, offset, .. } => Some(store(actor, hart, pc, rs1, offset.word(), 4)),
-        _ => None,
+    match MemoryAccess::of(hart, instr) {
+        Some(made) => Some(made_by(actor, pc, &made)),
+        None => None,
     }
 }
 
 /// The hint that an instruction of a thread is.
 #[tactic(auto, unfolding(crate::specs::Events::hint_of))]
-fn hint_of(actor: Actor, hart: &Hart, instr: &Instr) -> Option<Event>
+fn hint_of(actor: Actor, hart: &Hart, instr: &Instr) -> Option<ObservedEvent>
     ensures { (pc : ℕ) → result ≡ spec.hint_of actor (with_pc hart.now pc) instr.now }
 {
     match *instr {
@@ -56,49 +46,29 @@ fn hint_of(actor: Actor, hart: &Hart, instr: &Instr) -> Option<Event>
 }
 
 /// Whether an instruction is no event, whatever the hart: it neither loads nor stores and is no hint.
-#[tactic(auto, unfolding(crate::specs::Events::access_of, crate::specs::Events::hint_of))]
+#[tactic(auto, unfolding(crate::specs::Events::access_of, crate::specs::Events::hint_of, hart::specs::Accesses::access_of))]
 #[inline(always)]
 pub(crate) fn is_silent(instr: &Instr) -> bool
     ensures { IsTrue result → (actor : Author) (hart : HartState) → spec.event_of actor hart instr.now ≡ None }
 {
     match *instr {
-        Instr::Lb { .. }
-        | Instr::Lh { .. }
-        | Instr::Lw { .. }
-        | Instr::Lbu { .. }
-        | Instr::Lhu { .. }
-        | Instr::Sb { .. }
-        | Instr::Sh { .. }
-        | Instr::Sw { .. } => false,
         Instr::Slt { rd, .. } | Instr::Sltu { rd, .. } => rd.number() != 0,
-        _ => true,
+        _ => !MemoryAccess::is_made_by(instr),
     }
 }
 
-/// A load of so many bytes at a register's address plus an offset.
+/// The access of a thread that its instruction at an address makes.
 #[inline(always)]
-fn load(actor: Actor, hart: &Hart, pc: u32, base: Register, offset: u32, width: u32) -> Access
-    requires { width ≤ 4 }
-    ensures { result ≡ spec.load actor (with_pc hart.now pc) base offset width }
+fn made_by(actor: Actor, pc: u32, made: &MemoryAccess) -> Access
+    requires { made.now.width ≤ 4 }
+    ensures { result ≡ spec.made_by actor pc made.now }
 {
-    access_at(actor.load(pc), address_of(hart, base, offset), width)
-}
-
-/// A store of so many bytes at a register's address plus an offset.
-#[inline(always)]
-fn store(actor: Actor, hart: &Hart, pc: u32, base: Register, offset: u32, width: u32) -> Access
-    requires { width ≤ 4 }
-    ensures { result ≡ spec.store actor (with_pc hart.now pc) base offset width }
-{
-    access_at(actor.store(pc), address_of(hart, base, offset), width)
-}
-
-/// A register's address plus an offset.
-#[tactic(auto, unfolding(hart::specs::Arithmetic::sum))]
-fn address_of(hart: &Hart, base: Register, offset: u32) -> u32
-    ensures { result ≡ spec.address_of hart.now base offset }
-{
-    hart.reg(usize::from(base.number())).wrapping_add(offset)
+    let site = if made.is_store {
+        actor.store(pc)
+    } else {
+        actor.load(pc)
+    };
+    access_at(site, made.address, made.width)
 }
 
 /// An access of so many bytes at an address, all in one word.
@@ -146,17 +116,17 @@ fn is_within(place: u32, from: u32, width: u32) -> bool
 }
 
 /// The hint that SLT into x0 is.
-fn signed_hint(actor: Actor, hart: &Hart, rs1: Register, rs2: Register) -> Option<Event>
+fn signed_hint(actor: Actor, hart: &Hart, rs1: Register, rs2: Register) -> Option<ObservedEvent>
     ensures { result ≡ spec.signed_hint actor hart.now rs1 rs2 }
 {
     let thread = actor.thread;
     match (rs1.number(), rs2.number()) {
-        (0, 0) => Some(Event::Leave { thread }),
-        (0, object) => Some(Event::Release {
+        (0, 0) => Some(ObservedEvent::Leave { thread }),
+        (0, object) => Some(ObservedEvent::Release {
             thread,
             object: hart.reg(usize::from(object)),
         }),
-        (object, 0) => Some(Event::Acquire {
+        (object, 0) => Some(ObservedEvent::Acquire {
             thread,
             object: hart.reg(usize::from(object)),
         }),
@@ -165,14 +135,14 @@ fn signed_hint(actor: Actor, hart: &Hart, rs1: Register, rs2: Register) -> Optio
 }
 
 /// The hint that SLTU into x0 is.
-fn unsigned_hint(actor: Actor, hart: &Hart, rs1: Register, rs2: Register) -> Option<Event>
+fn unsigned_hint(actor: Actor, hart: &Hart, rs1: Register, rs2: Register) -> Option<ObservedEvent>
     ensures { result ≡ spec.unsigned_hint actor hart.now rs1 rs2 }
 {
     let thread = actor.thread;
     match (rs1.number(), rs2.number()) {
-        (0, 0) => Some(Event::Enter { thread }),
+        (0, 0) => Some(ObservedEvent::Enter { thread }),
         (0, _) | (_, 0) => None,
-        (address, length) => Some(Event::Fresh {
+        (address, length) => Some(ObservedEvent::Fresh {
             address: hart.reg(usize::from(address)),
             length: hart.reg(usize::from(length)),
         }),
@@ -185,7 +155,7 @@ pub(crate) fn next_event<M: GuestMemory>(
     code: &CodeSlice<'_>,
     hart: &Hart,
     memory: &M,
-) -> Option<Event>
+) -> Option<ObservedEvent>
     requires { HasCode code.now.start code.now.entries.now (M.cells memory.now) }
     ensures { result ≡ spec.next_event actor hart.now (M.cells memory.now) }
 {

@@ -12,7 +12,7 @@ ghost use Rattle.observed_run.specs.Told.{IsTold};
 
 use crate::actor::{Actor, byte_of};
 use crate::before::Before;
-use crate::call_events::{Ended, end_events, let_go};
+use crate::call_events::{EndedTurn, end_events, let_go};
 use crate::observing::observe;
 use crate::telling::tell_all;
 use races::RaceRecorder;
@@ -130,7 +130,7 @@ impl Observer {
         let before = Before::of(alloc, serial, thread)?;
         let turn = serial.turn(end)?;
         let passed = let_go(alloc, &before, serial.threads())?;
-        let ended = Ended {
+        let ended = EndedTurn {
             actor,
             held: before.held.as_slice(),
             passed: passed.as_slice(),

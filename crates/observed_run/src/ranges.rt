@@ -2,7 +2,7 @@
 ghost use Rattle.std.specs.Prelude.{◌≡◌, ◌+◌, ◌/◌, ◌<◌, ◌^◌, IfOk, OnOk, map};
 ghost use Rattle.observed_run.specs.Events as spec;
 
-use races::{Access, ByteSet, Event, Site};
+use races::{Access, ByteSet, ObservedEvent, Site};
 use std::alloc::{AllocError, Global};
 
 /// The accesses of so many bytes from an address on, one for each word.
@@ -12,14 +12,14 @@ pub(crate) fn accesses(
     site: Site,
     address: u32,
     length: u32,
-) -> Result<Vec<Event>, AllocError>
+) -> Result<Vec<ObservedEvent>, AllocError>
     ensures { IfOk result (λ events. events.items ≡ spec.accesses site address length) }
 {
     let mut events = Vec::new(alloc);
     let first = address / 4;
     for step in 0..word_count(address, length) {
         let word = first.wrapping_add(step);
-        events.push(Event::Access(access(site, word, address, length)))?;
+        events.push(ObservedEvent::Access(access(site, word, address, length)))?;
     }
     Ok(events)
 }

@@ -3,12 +3,15 @@ ghost use Rattle.std.specs.Prelude.{OnOk};
 ghost use Rattle.observed_run.specs.Events.{listed};
 ghost use Rattle.observed_run.specs.Told.{IsTold};
 
-use races::{Event, RaceRecorder};
+use races::{ObservedEvent, RaceRecorder};
 use std::alloc::AllocError;
 
 /// Tells an event, if there is one.
 #[inline(always)]
-pub(crate) fn tell(recorder: &mut RaceRecorder, event: Option<Event>) -> Result<(), AllocError>
+pub(crate) fn tell(
+    recorder: &mut RaceRecorder,
+    event: Option<ObservedEvent>,
+) -> Result<(), AllocError>
     ensures { OnOk result (IsTold recorder.old recorder.new (listed event)) }
 {
     match event {
@@ -18,7 +21,10 @@ pub(crate) fn tell(recorder: &mut RaceRecorder, event: Option<Event>) -> Result<
 }
 
 /// Tells some events, one after another.
-pub(crate) fn tell_all(recorder: &mut RaceRecorder, events: &[Event]) -> Result<(), AllocError>
+pub(crate) fn tell_all(
+    recorder: &mut RaceRecorder,
+    events: &[ObservedEvent],
+) -> Result<(), AllocError>
     ensures { OnOk result (IsTold recorder.old recorder.new events.now) }
 {
     for event in events {

@@ -9,16 +9,16 @@ use std::{fs, io, rt};
 #[derive(Debug, PartialEq, Eq, Drop)]
 pub(crate) enum Identity {
     /// A file that is there.
-    Found(Node),
+    Found(FileNode),
     /// A file that isn't there yet, by the folder that it would be in and its name there.
-    Wanted { folder: Node, name: String },
+    Wanted { folder: FileNode, name: String },
     /// There is no such folder either.
     Nowhere(String),
 }
 
 /// A file by its device and its number there.
 #[derive(Clone, Copy, Debug, PartialEq, Eq)]
-pub(crate) struct Node {
+pub(crate) struct FileNode {
     device: u64,
     number: u64,
 }
@@ -67,9 +67,9 @@ fn folder_of(path: &str) -> Option<&str> {
 }
 
 /// The file at a path, where there is one.
-fn node_at<R: rt::Files>(host: &R, path: &str) -> Option<Node> {
+fn node_at<R: rt::Files>(host: &R, path: &str) -> Option<FileNode> {
     let metadata = fs::metadata(host, path).ok()?;
-    Some(Node {
+    Some(FileNode {
         device: metadata.dev(),
         number: metadata.ino(),
     })

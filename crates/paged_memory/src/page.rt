@@ -10,7 +10,7 @@ ghost use Rattle.paged_memory.specs.Number.{width_of, value_of};
 
 use crate::little_endian::{read16, read32, write8, write16, write32};
 use crate::number::Number;
-use elf32_reader::Segment;
+use elf32_reader::ImageSegment;
 use guest_memory::Perm;
 use guest_memory::layout::PAGE_SIZE;
 use std::marker::Model;
@@ -128,7 +128,7 @@ impl Page {
     }
 
     /// The page of a number as a segment has it: its bytes, with zeros around them.
-    pub(crate) fn of_segment(segment: &Segment, number: u32) -> Self
+    pub(crate) fn of_segment(segment: &ImageSegment, number: u32) -> Self
         requires { (first_page segment.now ≤ number) × (number ≤ last_page segment.now) }
         ensures perm { result.perm ≡ segment.now.perm }
         ensures bytes { (offset : ℕ) → offset < page_size →

@@ -4,7 +4,7 @@ use Rattle.std.proofs.lemmas.Bool.Decides.{nat_tests}
 use Rattle.std.specs.Prelude.{slice_get, slice_set, min, nat_lt, ◌&&◌, if◌then◌else◌}
 use Rattle.schedule.specs.Phase.{Counts, Leads, Verdicts, is_enabled, is_enabled_at, made, made_for, advanced, is_end, with_worker}
 use Rattle.schedule.specs.Verdict.{Verdict, GoesOn, Stops, EndsRun}
-use Rattle.schedule.specs.declared.progress.Progress.{Progress}
+use Rattle.schedule.specs.declared.job_progress.JobProgress.{JobProgress}
 use Rattle.schedule.specs.declared.event.Event.{Event}
 use Rattle.schedule.specs.declared.event.Event.TheVariants.{Draw, Step, Note, Skip, Post}
 use Rattle.schedule.specs.declared.fate.Fate.{Fate}
@@ -114,7 +114,7 @@ module _ (v : Verdicts) (drawn least : ℕ) (fates : List Fate) (workers worker 
       ap (λ (state : Option Worker). is_enabled_at v least state (Step worker)) (has (held_at job steps false false)),
       ap (λ (state : Option Worker). made_for v (at steps false false) worker state (Step worker)) (has (held_at job steps false false))
           ∙ ap (λ (verdict : Verdict). with_worker (at steps false false) worker (Working (record (held_at job steps false false) { progress = advanced verdict (record { steps = steps; stopped = false }) }))) is
-          ∙ ap (λ (progress : Progress). with_worker (at steps false false) worker (Working (record { job = job; progress = progress; noted = false }))) (stopped_by test steps)
+          ∙ ap (λ (progress : JobProgress). with_worker (at steps false false) worker (Working (record { job = job; progress = progress; noted = false }))) (stopped_by test steps)
           ∙ ap counts_with (again (held_at job steps false false) (held_at job steps true false)),
     )
       where

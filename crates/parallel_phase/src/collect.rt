@@ -8,7 +8,7 @@ ghost use Rattle.parallel_phase.specs.Work.{IsWorkOf};
 
 use crate::drawn::Drawn;
 use crate::outcome::Outcome;
-use crate::phase::Phase;
+use crate::parallel_phase::ParallelPhase;
 use crate::work_done::WorkDone;
 use claim_table::DrawSeat;
 use std::alloc::{AllocError, Global};
@@ -58,7 +58,7 @@ fn file(outcomes: &mut [Outcome], drawn: Vec<Drawn>)
     }
 }
 
-impl Phase {
+impl ParallelPhase {
     /// What became of each job, in the order of the jobs. Err also where memory was refused to a seat.
     ///
     /// The works are those of all seats of this phase.

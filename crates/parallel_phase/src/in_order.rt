@@ -10,14 +10,14 @@ ghost use Rattle.parallel_phase.specs.declared.taker_stage.TakerStage.TheVariant
 ghost use denote.Param.Send.{IsSend, IsSync};
 
 use crate::ends_of_phase::EndsOfPhase;
+use crate::finished_job::FinishedJob;
 use crate::of_phase::OfPhase;
-use crate::ran::Ran;
 use crate::turn_taker::TurnTaker;
 use crate::whole_phase::seats_for;
 use claim_table::DrawSeat;
 use paged_memory::Snapshot;
 use phase_jobs::{Gate, SharedJobs};
-use phase_workers::{Crew, Desk, Hand, SharedPhase};
+use phase_workers::{Dispatcher, Hand, SharedPhase, WorkerChannels};
 use segment::Segment;
 use std::alloc::{AllocError, Global};
 use std::marker::Brand;
@@ -64,28 +64,28 @@ fn shared_phase<J: OfPhase>(
 /// A job of a phase, run to its end, whoever ran it.
 fn result_of<J: OfPhase + Send + Sync, G: Gate, R: Wait>(
     rt: &R,
-    desk: &mut Desk<EndsOfPhase<J>>,
+    dispatcher: &mut Dispatcher<EndsOfPhase<J>>,
     gate: &G,
     jobs: &[Segment],
     base: &Snapshot,
     number: u32,
-) -> Result<Ran, AllocError>
+) -> Result<FinishedJob, AllocError>
     requires named { (J.jobs ≡ jobs.now) × (J.memory ≡ cells_of base.now) }
     requires inside { number < length jobs.now }
     ensures { IfOk result (IsRanOf jobs.now (cells_of base.now) number) }
 {
     let job = jobs[number as usize];
-    let end = match desk.awaited(rt, gate, PHASE, number) {
+    let end = match dispatcher.awaited(rt, gate, PHASE, number) {
         Some(end) => end,
         None => job.run(base)?,
     };
-    Ok(Ran::new(number, job, base.try_clone()?, end))
+    Ok(FinishedJob::new(number, job, base.try_clone()?, end))
 }
 
 /// Lets a taker take the turns of the jobs in order.
 fn take_turns<J: OfPhase + Send + Sync, G: Gate, R: Wait, T: TurnTaker>(
     rt: &R,
-    desk: &mut Desk<EndsOfPhase<J>>,
+    dispatcher: &mut Dispatcher<EndsOfPhase<J>>,
     gate: &G,
     jobs: &[Segment],
     base: &Snapshot,
@@ -98,7 +98,7 @@ fn take_turns<J: OfPhase + Send + Sync, G: Gate, R: Wait, T: TurnTaker>(
         return Ok(());
     }
     for number in 0..jobs.len() as u32 {
-        let ran = result_of(rt, desk, gate, jobs, base, number)?;
+        let ran = result_of(rt, dispatcher, gate, jobs, base, number)?;
         if !taker.take(number, ran)? {
             return Ok(());
         }
@@ -110,8 +110,8 @@ fn take_turns<J: OfPhase + Send + Sync, G: Gate, R: Wait, T: TurnTaker>(
 #[cycle(serving)]
 fn take_beside<J: OfPhase + Send + Sync, G: Gate + Sync, R: Threads + Wait + Sync, T: TurnTaker>(
     rt: &R,
-    desk: &mut Desk<EndsOfPhase<J>>,
-    crew: &Crew<EndsOfPhase<J>>,
+    dispatcher: &mut Dispatcher<EndsOfPhase<J>>,
+    worker_channels: &WorkerChannels<EndsOfPhase<J>>,
     workers: usize,
     gate: &G,
     jobs: &[Segment],
@@ -122,19 +122,30 @@ fn take_beside<J: OfPhase + Send + Sync, G: Gate + Sync, R: Threads + Wait + Syn
     ensures { TakesTurns T.turns_of T.begins_with T.taker_stage result jobs.now taker.old taker.new }
 {
     if workers == 0 {
-        let taken = take_turns(rt, desk, gate, jobs, base, taker);
-        desk.dismiss();
+        let taken = take_turns(rt, dispatcher, gate, jobs, base, taker);
+        dispatcher.dismiss();
         return taken;
     }
     let others = workers - 1;
     let (_, taken) = join_mut(
         rt,
-        &mut || crew.serve(rt, gate),
+        &mut || worker_channels.serve(rt, gate),
         &mut || -> Result<(), AllocError>
             requires { IsSync R.row × IsSync G.row × IsSync J.row × IsSend J.row
                 × MayTakeTurns T.turns_of T.begins_with T.taker_stage J.jobs J.memory jobs.now (cells_of base.now) taker.now }
             ensures { TakesTurns T.turns_of T.begins_with T.taker_stage result jobs.entry.now taker.entry.now taker.exit.now }
-        { take_beside(rt, desk, crew, others, gate, jobs, base, taker) },
+        {
+            take_beside(
+                rt,
+                dispatcher,
+                worker_channels,
+                others,
+                gate,
+                jobs,
+                base,
+                taker,
+            )
+        },
     );
     taken
 }
@@ -153,12 +164,21 @@ fn in_order<J: OfPhase + Send + Sync, G: Gate + Sync, R: Threads + Wait + Sync, 
     requires turns { MayTakeTurns T.turns_of T.begins_with T.taker_stage J.jobs J.memory jobs.now (cells_of base.now) taker.old }
     ensures { TakesTurns T.turns_of T.begins_with T.taker_stage result jobs.now taker.old taker.new }
 {
-    let mut desk = Desk::new();
-    let crew = desk.hire(alloc)?;
+    let mut dispatcher = Dispatcher::new();
+    let worker_channels = dispatcher.hire(alloc)?;
     let (shared, hand, others) = shared_phase::<J>(alloc, jobs, seats, base)?;
     let workers = others.len();
-    desk.share(rt, alloc, shared, hand, others)?;
-    take_beside(rt, &mut desk, &crew, workers, gate, jobs, base, taker)
+    dispatcher.share(rt, alloc, shared, hand, others)?;
+    take_beside(
+        rt,
+        &mut dispatcher,
+        &worker_channels,
+        workers,
+        gate,
+        jobs,
+        base,
+        taker,
+    )
 }
 
 /// Runs the jobs of a phase, at most 256, on a memory by 1 to 64 workers, of which the caller's thread is one, and lets

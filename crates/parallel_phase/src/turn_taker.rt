@@ -8,7 +8,7 @@ ghost use Rattle.parallel_phase.specs.declared.taker_stage.TakerStage.{TakerStag
 ghost use Rattle.parallel_phase.specs.declared.taker_stage.TakerStage.TheVariants.{New, Going};
 ghost use Rattle.claim_table.specs.Logs.{most_jobs};
 
-use crate::ran::Ran;
+use crate::finished_job::FinishedJob;
 use std::alloc::AllocError;
 
 /// Who takes the turns of a phase's jobs, in the order of the jobs.
@@ -29,7 +29,7 @@ pub trait TurnTaker {
         ensures stage { taker_stage self.new ≡ after_call result 0 };
 
     /// Takes the turn of the next job, which was run. Whether further turns are to be taken.
-    fn take(&mut self, job: u32, ran: Ran) -> Result<bool, AllocError>
+    fn take(&mut self, job: u32, ran: FinishedJob) -> Result<bool, AllocError>
         requires next { taker_stage self.old ≡ Going job }
         requires below { job < most_jobs }
         requires ran { IsRanOf (turns_of self.old) (begins_with self.old) job ran }

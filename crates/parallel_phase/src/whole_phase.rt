@@ -10,7 +10,7 @@ ghost use Rattle.parallel_phase.specs.Work.{IsUnbegun, IsWorkOf};
 ghost use denote.Param.Send.{IsSync};
 
 use crate::outcome::Outcome;
-use crate::phase::Phase;
+use crate::parallel_phase::ParallelPhase;
 use crate::work_done::WorkDone;
 use claim_table::DrawSeat;
 use paged_memory::Snapshot;
@@ -28,7 +28,7 @@ pub fn seats_for(jobs: usize, workers: u32) -> u32
     workers.min(jobs.max(1) as u32)
 }
 
-impl Phase {
+impl ParallelPhase {
     /// The works of seats that have drawn nothing, the last seat's first.
     fn unbegun(&self, mut seats: Vec<DrawSeat>) -> Result<Vec<WorkDone>, AllocError>
         requires { All (λ seat. (seat.row ≡ self.now.row) × (seat.log ≡ new_log 1)) seats.items }
@@ -86,7 +86,7 @@ pub fn run_phase<G: Gate + Sync, R: Threads + Sync>(
     ensures events { IfOk result (λ outcomes. (seats : ℕ) × (events : List Event) × (seats ≤ workers)
         × LeadTo jobs.now (cells_of base.now) seats events outcomes.items) }
 {
-    let (phase, seats) = Phase::open(alloc, jobs, seats_for(jobs.len(), workers), base)?;
+    let (phase, seats) = ParallelPhase::open(alloc, jobs, seats_for(jobs.len(), workers), base)?;
     let mut works = phase.unbegun(seats)?;
     phase.work_all(rt, gate, works.as_mut_slice());
     phase.collect(works)

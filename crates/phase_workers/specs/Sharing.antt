@@ -8,8 +8,8 @@ use Rattle.segment.specs.declared.segment_end.SegmentEnd.{SegmentEnd}
 use Rattle.phase_workers.specs.Hands.{HasStepped}
 use Rattle.phase_workers.specs.Posts.{PostState}
 use Rattle.phase_workers.specs.declared.hand.Hand.{Hand}
-use Rattle.phase_workers.specs.declared.stepped.Stepped.{Stepped}
-use Rattle.phase_workers.specs.declared.stepped.Stepped.TheVariants.{NoneLeft, GoesOn, Over}
+use Rattle.phase_workers.specs.declared.step_outcome.StepOutcome.{StepOutcome}
+use Rattle.phase_workers.specs.declared.step_outcome.StepOutcome.TheVariants.{NoneLeft, GoesOn, Over}
 
 -- a phase's number, and its jobs with their names
 pub record SharedState : Type 0 where
@@ -28,15 +28,15 @@ pub record OfferState : Type 0 where
   pub seat : SeatState
 
 -- what the caller has of a phase: its hand, the messages that came, and whether one was lost
-pub record BoardState : Type 0 where
+pub record DispatchedState : Type 0 where
   pub shared : SharedState
   pub hand : Hand
   pub posts : List PostState
   pub missed : Bool
 
 -- what the caller has of its host threads: whether there may be workers, and the phase that is shared out
-pub record DeskState : Type 0 where
-  pub crew : Bool
+pub record DispatcherState : Type 0 where
+  pub has_workers : Bool
   pub shared : Option SharedState
 
 -- the phase that is shared out once it was to be, if there may be workers
@@ -45,17 +45,17 @@ shared_by false shared = None
 shared_by true shared = Some shared
 
 -- a message was kept, or there was no room for it
-abbrev pub IsFiled : BoardState → BoardState → PostState → Type 0
+abbrev pub IsFiled : DispatchedState → DispatchedState → PostState → Type 0
 IsFiled old new post = (new ≡ record old { posts = old.posts ++ post ∷ [] }) ⊎ (new ≡ record old { missed = true })
 
 -- messages came, and nothing else happened
-pub record KeepsPhase (old new : BoardState) : Type 0 where
+pub record KeepsPhase (old new : DispatchedState) : Type 0 where
   pub shared : new.shared ≡ old.shared
   pub hand : new.hand ≡ old.hand
   pub posts : (more : List PostState) × (new.posts ≡ old.posts ++ more)
 
 -- a message came and was kept, or none came
-abbrev pub HasWaited : BoardState → BoardState → Bool → Type 0
+abbrev pub HasWaited : DispatchedState → DispatchedState → Bool → Type 0
 HasWaited old new false = new ≡ old
 HasWaited old new true = (post : PostState) × IsFiled old new post
 
@@ -64,7 +64,7 @@ abbrev pub IsPostOf : ℕ → ℕ → PostState → Type 0
 IsPostOf phase name post = (post.phase ≡ phase) × (post.name ≡ name)
 
 -- what the caller tells itself after a step
-abbrev pub IsFiledAfter : BoardState → BoardState → Bool → Stepped → Type 0
+abbrev pub IsFiledAfter : DispatchedState → DispatchedState → Bool → StepOutcome → Type 0
 IsFiledAfter old new went NoneLeft = (went ≡ false) × (new.posts ≡ old.posts)
 IsFiledAfter old new went GoesOn = (went ≡ true) × (new.posts ≡ old.posts)
 IsFiledAfter old new went (Over number told) =
@@ -73,5 +73,5 @@ IsFiledAfter old new went (Over number told) =
     ⊎ (post : PostState) × (new.posts ≡ old.posts ++ post ∷ []) × (post.told ≡ told) × (post.phase ≡ old.shared.number) × (slice_get old.shared.names number ≡ Some post.name))
 
 -- the caller took a step at the phase, and kept what became of a job that is over
-abbrev pub StepsOn : BoardState → BoardState → Bool → Type 0
-StepsOn old new went = (new.shared ≡ old.shared) × (stepped : Stepped) × HasStepped old.shared.phase old.hand new.hand stepped × IsFiledAfter old new went stepped
+abbrev pub StepsOn : DispatchedState → DispatchedState → Bool → Type 0
+StepsOn old new went = (new.shared ≡ old.shared) × (stepped : StepOutcome) × HasStepped old.shared.phase old.hand new.hand stepped × IsFiledAfter old new went stepped

@@ -3,9 +3,9 @@ ghost use Rattle.std.specs.Prelude.{◌≡◌, ◌<◌, length};
 ghost use Rattle.claim_table.specs.Logs.{times};
 ghost use Rattle.phase_workers.specs.Hands.{Has, HasStepped, IsKept};
 
-use crate::held::Held;
-use crate::stepped::Stepped;
-use crate::told::Told;
+use crate::drawn_job::DrawnJob;
+use crate::job_outcome::JobOutcome;
+use crate::step_outcome::StepOutcome;
 use claim_table::DrawSeat;
 use phase_jobs::{Gate, SharedJobs};
 use segment::Progress;
@@ -17,23 +17,23 @@ pub struct Hand {
     /// Its seat.
     pub seat: DrawSeat,
     /// The job that it holds.
-    pub held: Option<Held>,
+    pub held: Option<DrawnJob>,
 }
 
 impl Hand {
     /// Goes on with the job that it holds, by a slice, or draws one and begins it. The gate is passed before a job
     /// begins.
-    pub(crate) fn step<G: Gate>(&mut self, jobs: &SharedJobs, gate: &G) -> Stepped
+    pub(crate) fn step<G: Gate>(&mut self, jobs: &SharedJobs, gate: &G) -> StepOutcome
         requires { Has jobs.now self.old }
         ensures has { Has jobs.now self.new }
         ensures stepped { HasStepped jobs.now self.old self.new result }
     {
-        if let Some(Held { number, job }) = self.held.take() {
+        if let Some(DrawnJob { number, job }) = self.held.take() {
             let slice = jobs.go_on(&mut self.seat, number, job);
             return self.keep(number, slice);
         }
         let Some(number) = jobs.draw(&mut self.seat) else {
-            return Stepped::NoneLeft;
+            return StepOutcome::NoneLeft;
         };
         gate.pass(self.seat.number(), number);
         let slice = jobs.begin(&mut self.seat, number);
@@ -41,25 +41,25 @@ impl Hand {
     }
 
     /// Keeps a job that goes on after a slice, or tells what became of it.
-    fn keep(&mut self, number: u32, slice: Result<Option<Progress>, AllocError>) -> Stepped
+    fn keep(&mut self, number: u32, slice: Result<Option<Progress>, AllocError>) -> StepOutcome
         ensures { IsKept self.old self.new number slice result }
     {
         match slice {
             Ok(Some(Progress::GoesOn(job))) => {
-                self.held = Some(Held { number, job });
-                Stepped::GoesOn
+                self.held = Some(DrawnJob { number, job });
+                StepOutcome::GoesOn
             }
-            Ok(Some(Progress::Over(end))) => Stepped::Over {
+            Ok(Some(Progress::Over(end))) => StepOutcome::Over {
                 number,
-                told: Told::Ended(end),
+                told: JobOutcome::Ended(end),
             },
-            Ok(None) => Stepped::Over {
+            Ok(None) => StepOutcome::Over {
                 number,
-                told: Told::Skipped,
+                told: JobOutcome::Skipped,
             },
-            Err(_) => Stepped::Over {
+            Err(_) => StepOutcome::Over {
                 number,
-                told: Told::Refused,
+                told: JobOutcome::Refused,
             },
         }
     }

@@ -3,7 +3,7 @@ ghost use Rattle.std.specs.Prelude.{◌≡◌, ◌↔◌, IsTrue};
 ghost use Rattle.phase_workers.specs.Posts.{IsPost};
 
 use crate::end_facts::EndFacts;
-use crate::told::Told;
+use crate::job_outcome::JobOutcome;
 use segment::SegmentEnd;
 use std::marker::{Model, PhantomData};
 
@@ -12,7 +12,7 @@ use std::marker::{Model, PhantomData};
 pub(crate) struct Post<F: EndFacts> {
     phase: u64,
     name: u32,
-    told: Told,
+    told: JobOutcome,
     of: PhantomData<F>,
 }
 
@@ -35,7 +35,7 @@ impl<F: EndFacts> Post<F> {
     ghost use Rattle.phase_workers.specs.Posts.{end_told};
 
     /// What became of the job of this name in a phase.
-    pub(crate) fn new(phase: u64, name: u32, told: Told) -> Self
+    pub(crate) fn new(phase: u64, name: u32, told: JobOutcome) -> Self
         requires { IsPost F.is_end_of phase name told }
         ensures { result ≡ record { phase = phase; name = name; told = told } }
     {
@@ -66,8 +66,8 @@ impl<F: EndFacts> Post<F> {
             of: _,
         } = self;
         match told {
-            Told::Ended(end) => Some(end),
-            Told::Skipped | Told::Refused => None,
+            JobOutcome::Ended(end) => Some(end),
+            JobOutcome::Skipped | JobOutcome::Refused => None,
         }
     }
 }

@@ -4,9 +4,9 @@ ghost use Rattle.phase_workers.specs.Hands.{IsTold};
 ghost use Rattle.phase_workers.specs.Sharing.{IsShared};
 
 use crate::end_facts::EndFacts;
+use crate::job_outcome::JobOutcome;
 use crate::once_told::OnceTold;
 use crate::post::Post;
-use crate::told::Told;
 use phase_jobs::{Gate, SharedJobs};
 use std::marker::{Model, PhantomData};
 
@@ -74,7 +74,7 @@ impl<F: EndFacts> SharedPhase<F> {
     }
 
     /// What is told of a job.
-    pub(crate) fn post(&self, number: u32, told: Told) -> Post<F>
+    pub(crate) fn post(&self, number: u32, told: JobOutcome) -> Post<F>
         requires job { number < length self.now.phase.jobs }
         requires told { IsTold self.now.phase number told }
         ensures { (result.phase ≡ self.now.number) × (slice_get self.now.names number ≡ Some result.name) × (result.told ≡ told) }

@@ -5,7 +5,7 @@ use Rattle.std.proofs.lemmas.List.{get_or-set_same, get_or-set_other, length-set
 use Rattle.races.specs.Blocks.{AreKnown, IsBlockAt, IsBlockOf, IsKnown}
 use Rattle.races.specs.Linked.{IsAt}
 use Rattle.races.specs.declared.block.Block.{Block}
-use Rattle.races.specs.declared.entry.Entry.{Entry}
+use Rattle.races.specs.declared.kept_access.KeptAccess.{KeptAccess}
 use Rattle.races.specs.declared.latest.Latest.{Latest}
 use Rattle.races.specs.declared.site.Site.{Site}
 use Rattle.races.proofs.Linked.{push_at_cases, set_at_cases}
@@ -19,19 +19,19 @@ known_same block one other site step known =
       others = λ apart alone. let had = known.others (λ same. apart (thread ∙ same)) alone in (had.0, had.1 ∙ sym thread, omega (arith, had.2));
     }
 
-pub known_set : (blocks : List Block) (entries : List Entry) (index : ℕ) (was now : Entry) → IsAt entries index was → now.place ≡ was.place → now.latest.site ≡ was.latest.site → now.latest.step ≡ was.latest.step → AreKnown blocks entries
+pub known_set : (blocks : List Block) (entries : List KeptAccess) (index : ℕ) (was now : KeptAccess) → IsAt entries index was → now.place ≡ was.place → now.latest.site ≡ was.latest.site → now.latest.step ≡ was.latest.step → AreKnown blocks entries
     → AreKnown blocks (set entries index now)
 known_set blocks entries index was now is_at place site step known at entry block there of = ⊎_elim
     (λ same.
-    let place_is : entry.place ≡ was.place = ap (λ (one : Entry). one.place) same.1 ∙ place in
-    known_same block was.latest entry.latest (ap (λ (one : Entry). one.latest.site) same.1 ∙ site) (ap (λ (one : Entry). one.latest.step) same.1 ∙ step)
+    let place_is : entry.place ≡ was.place = ap (λ (one : KeptAccess). one.place) same.1 ∙ place in
+    known_same block was.latest entry.latest (ap (λ (one : KeptAccess). one.latest.site) same.1 ∙ site) (ap (λ (one : KeptAccess). one.latest.step) same.1 ∙ step)
     (known index was block is_at (subst (λ (n : ℕ). IsBlockOf blocks n block) place_is of)))
     (λ other. known at entry block other.1 of)
     (set_at_cases entries index now at entry is_at.0 there)
 
-pub known_push : (blocks : List Block) (entries : List Entry) (new : Entry) → ((block : Block) → IsBlockOf blocks new.place block → IsKnown block new.latest) → AreKnown blocks entries → AreKnown blocks (entries ++ new ∷ [])
+pub known_push : (blocks : List Block) (entries : List KeptAccess) (new : KeptAccess) → ((block : Block) → IsBlockOf blocks new.place block → IsKnown block new.latest) → AreKnown blocks entries → AreKnown blocks (entries ++ new ∷ [])
 known_push blocks entries new own known at entry block there of = ⊎_elim
-    (λ last. subst (λ (one : Entry). IsKnown block one.latest) (sym last.1) (own block (subst (λ (one : Entry). IsBlockOf blocks one.place block) last.1 of)))
+    (λ last. subst (λ (one : KeptAccess). IsKnown block one.latest) (sym last.1) (own block (subst (λ (one : KeptAccess). IsBlockOf blocks one.place block) last.1 of)))
     (λ before. known at entry block before of)
     (push_at_cases entries new at entry there)
 
@@ -39,7 +39,7 @@ known_push blocks entries new own known at entry block there of = ⊎_elim
 block_is : (blocks : List Block) (index : ℕ) (now block : Block) → index < length blocks → (index < length (set blocks index now)) × (get_or (set blocks index now) index block ≡ block) → now ≡ block
 block_is blocks index now block inside of = sym (get_or-set_same blocks index now block inside) ∙ of.1
 
-pub known_taken : (blocks : List Block) (entries : List Entry) (index : ℕ) (was now : Block) → index < length blocks → was ≡ get_or blocks index was → ((past : Latest) → IsKnown was past → IsKnown now past)
+pub known_taken : (blocks : List Block) (entries : List KeptAccess) (index : ℕ) (was now : Block) → index < length blocks → was ≡ get_or blocks index was → ((past : Latest) → IsKnown was past → IsKnown now past)
     → AreKnown blocks entries → AreKnown (set blocks index now) entries
 known_taken blocks entries index was now inside is kept known at entry block there of = ⊎_elim
     (λ same.

@@ -9,8 +9,8 @@ use Rattle.std.proofs.lemmas.List.Elements.{Contains-append_left, Contains-push,
 use Rattle.std.proofs.lemmas.Option.{slice_get_read}
 use Rattle.races.specs.Clocks.{time, time_by, time_in, time_of, times_of, times_with, IsJoined, IsAfterOrder}
 use Rattle.races.specs.declared.clock.Clock.{Clock}
-use Rattle.races.specs.declared.place.Place.{Place}
-use Rattle.races.specs.declared.place.Place.TheVariants.{Thread, Ended, Mutex, Object}
+use Rattle.races.specs.declared.clock_owner.ClockOwner.{ClockOwner}
+use Rattle.races.specs.declared.clock_owner.ClockOwner.TheVariants.{Thread, Ended, Mutex, Object}
 use Rattle.races.proofs.Follow.{with_own}
 
 pub none_contained : {X : Type 0} (x : X) → Contains [] x → ⊥
@@ -105,8 +105,8 @@ abbrev pub IsThreadJoined : (old new : List Clock) (key : ℕ) (past : ℕ → �
 IsThreadJoined old new key past = (other thread index : ℕ) → (index < time_of new other thread) ↔ ((index < time_of old other thread) ⊎ ((key ≡ other) × (index < past thread)))
 
 -- and to the clock of a place
-abbrev pub IsPlaceJoined : (old new : Place → ℕ → ℕ) (place : Place) (past : ℕ → ℕ) → Type 0
-IsPlaceJoined old new place past = (other : Place) (thread index : ℕ) → (index < new other thread) ↔ ((index < old other thread) ⊎ ((place ≡ other) × (index < past thread)))
+abbrev pub IsPlaceJoined : (old new : ClockOwner → ℕ → ℕ) (place : ClockOwner) (past : ℕ → ℕ) → Type 0
+IsPlaceJoined old new place past = (other : ClockOwner) (thread index : ℕ) → (index < new other thread) ↔ ((index < old other thread) ⊎ ((place ≡ other) × (index < past thread)))
 
 module _ (threads : List Clock) (ended mutexes objects : BTreeMap ℕ Clock) where
   pub thread_joined : (new : List Clock) (key : ℕ) (past : ℕ → ℕ) → IsThreadJoined threads new key past → IsPlaceJoined (times_of threads ended mutexes objects) (times_of new ended mutexes objects) (Thread key) past
@@ -136,7 +136,7 @@ module _ (threads : List Clock) (ended mutexes objects : BTreeMap ℕ Clock) whe
 -- ---- a place's past at a step
 
 -- joined with times, and raised to a thread's own
-pub thread_added : (kept : Place → ℕ → ℕ) (step key : ℕ) (old middle new : ℕ → ℕ) → IsJoined old middle (kept (Thread key)) → ((other index : ℕ) → (index < new other) ↔ ((index < middle other) ⊎ ((key ≡ other) × (index < step))))
+pub thread_added : (kept : ClockOwner → ℕ → ℕ) (step key : ℕ) (old middle new : ℕ → ℕ) → IsJoined old middle (kept (Thread key)) → ((other index : ℕ) → (index < new other) ↔ ((index < middle other) ⊎ ((key ≡ other) × (index < step))))
     → IsJoined old new (times_with step kept (Thread key))
 thread_added kept step key old middle new joined raised other index = (
   λ small. ⊎_elim
@@ -159,13 +159,13 @@ other_added old new kept joined thread index = (
 -- ---- the pasts of several places
 
 -- the past of the places of a list
-abbrev pub IsPastOf : (times : Place → ℕ → ℕ) → List Place → (past : ℕ → ℕ) → Type 0
-IsPastOf times places past = (thread index : ℕ) → (index < past thread) ↔ ((taken : Place) × Contains places taken × (index < times taken thread))
+abbrev pub IsPastOf : (times : ClockOwner → ℕ → ℕ) → List ClockOwner → (past : ℕ → ℕ) → Type 0
+IsPastOf times places past = (thread index : ℕ) → (index < past thread) ↔ ((taken : ClockOwner) × Contains places taken × (index < times taken thread))
 
-pub past_none : (times : Place → ℕ → ℕ) (past : ℕ → ℕ) → ((thread : ℕ) → past thread ≡ 0) → IsPastOf times [] past
+pub past_none : (times : ClockOwner → ℕ → ℕ) (past : ℕ → ℕ) → ((thread : ℕ) → past thread ≡ 0) → IsPastOf times [] past
 past_none times past zeros thread index = (λ small. let z = zeros thread in absurd (omega arith), λ has. absurd (none_contained has.0 has.1))
 
-pub past_more : (times : Place → ℕ → ℕ) (places : List Place) (place : Place) (past new : ℕ → ℕ) → IsPastOf times places past → IsJoined past new (times place) → IsPastOf times (places ++ place ∷ []) new
+pub past_more : (times : ClockOwner → ℕ → ℕ) (places : List ClockOwner) (place : ClockOwner) (past new : ℕ → ℕ) → IsPastOf times places past → IsJoined past new (times place) → IsPastOf times (places ++ place ∷ []) new
 past_more times places place past new was joined thread index = (
   λ small. ⊎_elim
       (λ before. let has = (was thread index).0 before in (has.0, Contains-append_left places (place ∷ []) has.0 has.1, has.2))
@@ -173,18 +173,18 @@ past_more times places place past new was joined thread index = (
       ((joined thread index).0 small),
   λ has. (joined thread index).1 (⊎_elim
       (λ before. inl ((was thread index).1 (has.0, before, has.2)))
-      (λ same. inr (subst (λ (one : Place). index < times one thread) (sym same) has.2))
+      (λ same. inr (subst (λ (one : ClockOwner). index < times one thread) (sym same) has.2))
       (Contains-push_cases places place has.0 has.1)),
 )
 
 -- a past joined to the clocks of the places of a list
-abbrev pub ArePlacesJoined : (old new : Place → ℕ → ℕ) (places : List Place) (past : ℕ → ℕ) → Type 0
-ArePlacesJoined old new places past = (place : Place) (thread index : ℕ) → (index < new place thread) ↔ ((index < old place thread) ⊎ (Contains places place × (index < past thread)))
+abbrev pub ArePlacesJoined : (old new : ClockOwner → ℕ → ℕ) (places : List ClockOwner) (past : ℕ → ℕ) → Type 0
+ArePlacesJoined old new places past = (place : ClockOwner) (thread index : ℕ) → (index < new place thread) ↔ ((index < old place thread) ⊎ (Contains places place × (index < past thread)))
 
-pub joined_none : (old : Place → ℕ → ℕ) (past : ℕ → ℕ) → ArePlacesJoined old old [] past
+pub joined_none : (old : ClockOwner → ℕ → ℕ) (past : ℕ → ℕ) → ArePlacesJoined old old [] past
 joined_none old past place thread index = not_named (none_contained place)
 
-pub joined_more : (old part new : Place → ℕ → ℕ) (places : List Place) (place : Place) (past : ℕ → ℕ) → ArePlacesJoined old part places past → IsPlaceJoined part new place past → ArePlacesJoined old new (places ++ place ∷ []) past
+pub joined_more : (old part new : ClockOwner → ℕ → ℕ) (places : List ClockOwner) (place : ClockOwner) (past : ℕ → ℕ) → ArePlacesJoined old part places past → IsPlaceJoined part new place past → ArePlacesJoined old new (places ++ place ∷ []) past
 joined_more old part new places place past was joined other thread index = (
   λ small. ⊎_elim
       (λ before. ⊎_elim (λ first. inl first) (λ both. inr (Contains-append_left places (place ∷ []) other both.0, both.1)) ((was other thread index).0 before))
@@ -199,7 +199,7 @@ joined_more old part new places place past was joined other thread index = (
       either),
 )
 
-pub ordered : (old new taken : Place → ℕ → ℕ) (acquired released : List Place) (past : ℕ → ℕ) → IsPastOf taken acquired past → ArePlacesJoined old new released past → IsAfterOrder old new taken acquired released
+pub ordered : (old new taken : ClockOwner → ℕ → ℕ) (acquired released : List ClockOwner) (past : ℕ → ℕ) → IsPastOf taken acquired past → ArePlacesJoined old new released past → IsAfterOrder old new taken acquired released
 ordered old new taken acquired released past is joined place thread index = (
   λ small. ⊎_elim (λ before. inl before) (λ both. inr (both.0, (is thread index).0 both.1)) ((joined place thread index).0 small),
   λ either. (joined place thread index).1 (⊎_elim (λ before. inl before) (λ both. inr (both.0, (is thread index).1 both.1)) either),

@@ -14,7 +14,7 @@ use Rattle.races.specs.Words.{IsFinding, IsHit, IsLatest, IsNoted, KnowsFound, K
 use Rattle.races.specs.declared.clocks.Clocks.{Clocks}
 use Rattle.races.specs.declared.site.Access.{Access}
 use Rattle.races.specs.declared.site.Site.{Site}
-use Rattle.races.specs.declared.found.Found.{Found}
+use Rattle.races.specs.declared.found_race.FoundRace.{FoundRace}
 use Rattle.races.specs.declared.latest.Latest.{Latest}
 use Rattle.races.proofs.Clocked.{none_contained}
 use Rattle.races.proofs.Follow.{access_inside}
@@ -23,7 +23,7 @@ use Rattle.races.proofs.Order.{at_last}
 use Rattle.races.proofs.Racing.{hit_race, race_hit, race_more, racing_less}
 
 module _ (steps : List Step) (access : Access) (clocks : Clocks) where
-  pub finding_none : (found : List Found) → KnowsFound steps access.word found → IsFinding steps access clocks [] found
+  pub finding_none : (found : List FoundRace) → KnowsFound steps access.word found → IsFinding steps access clocks [] found
   finding_none found knows = record {
     sound = λ race among. race_more steps (Touch access) (race_of access.word race) (knows.sound race among);
     old = knows.complete;
@@ -31,7 +31,7 @@ module _ (steps : List Step) (access : Access) (clocks : Clocks) where
   }
 
   -- held against accesses of which none races
-  pub finding_unhit : (latest : List Latest) (found : List Found) → ((past : Latest) → Contains latest past → IsHit (time_of clocks.threads.clocks.items access.site.thread) past access → ⊥) → IsFinding steps access clocks [] found
+  pub finding_unhit : (latest : List Latest) (found : List FoundRace) → ((past : Latest) → Contains latest past → IsHit (time_of clocks.threads.clocks.items access.site.thread) past access → ⊥) → IsFinding steps access clocks [] found
       → IsFinding steps access clocks latest found
   finding_unhit latest found none finding = record {
     sound = finding.sound;
@@ -40,7 +40,7 @@ module _ (steps : List Step) (access : Access) (clocks : Clocks) where
   }
 
   -- held against one more that doesn't race
-  pub finding_skip : (done : List Latest) (past : Latest) (found : List Found) → ((place : ℕ) → IsHit (time_of clocks.threads.clocks.items access.site.thread) past access → has past.bytes place ≡ true → has access.bytes place ≡ true → ⊥)
+  pub finding_skip : (done : List Latest) (past : Latest) (found : List FoundRace) → ((place : ℕ) → IsHit (time_of clocks.threads.clocks.items access.site.thread) past access → has past.bytes place ≡ true → has access.bytes place ≡ true → ⊥)
       → IsFinding steps access clocks done found → IsFinding steps access clocks (done ++ past ∷ []) found
   finding_skip done past found none finding = record {
     sound = finding.sound;
@@ -52,7 +52,7 @@ module _ (steps : List Step) (access : Access) (clocks : Clocks) where
   }
 
   -- held against one more that races
-  pub finding_hit : (latest done : List Latest) (past : Latest) (found more : List Found) (race : Found) → Times steps clocks → KnowsLatest steps access.word latest → Contains latest past
+  pub finding_hit : (latest done : List Latest) (past : Latest) (found more : List FoundRace) (race : FoundRace) → Times steps clocks → KnowsLatest steps access.word latest → Contains latest past
       → IsHit (time_of clocks.threads.clocks.items access.site.thread) past access → race.first ≡ past.site → race.second ≡ access.site
       → ((place : ℕ) → has race.bytes place ≡ true → (has past.bytes place ≡ true) × (has access.bytes place ≡ true)) → ((place : ℕ) → has past.bytes place ≡ true → has access.bytes place ≡ true → has race.bytes place ≡ true)
       → (place : ℕ) → has race.bytes place ≡ true
@@ -103,7 +103,7 @@ module _ (steps : List Step) (access : Access) (clocks : Clocks) where
       }
 
   -- held against all
-  pub finding_all : (latest : List Latest) (found : List Found) → Times steps clocks → KnowsLatest steps access.word latest → IsFinding steps access clocks latest found → KnowsFound (steps ++ Touch access ∷ []) access.word found
+  pub finding_all : (latest : List Latest) (found : List FoundRace) → Times steps clocks → KnowsLatest steps access.word latest → IsFinding steps access clocks latest found → KnowsFound (steps ++ Touch access ∷ []) access.word found
   finding_all latest found times knows finding = record {
     sound = finding.sound;
     complete = λ earlier later one other place race. ⊎_elim
@@ -116,7 +116,7 @@ module _ (steps : List Step) (access : Access) (clocks : Clocks) where
       longer = steps ++ Touch access ∷ []
 
       at_end : (earlier later : ℕ) (one other : Access) (place : ℕ) → AreRacing longer earlier later one other access.word place → length steps ≤ later
-          → (race : Found) × Contains found race × IsToldBy (race_of access.word race) one.site other.site access.word place
+          → (race : FoundRace) × Contains found race × IsToldBy (race_of access.word race) one.site other.site access.word place
       at_end earlier later one other place race past =
           let inside = access_inside longer later other race.second_is in
           let long = length_push steps (Touch access) in

@@ -7,8 +7,8 @@ use Rattle.races.specs.Before.{at, Releases}
 use Rattle.races.specs.Clocks.{Follows, IsAfterOrder, Reaches, own_time, times_with}
 use Rattle.races.specs.Steps.{Step}
 use Rattle.races.specs.Steps.Step.{Touch, Order, Renew}
-use Rattle.races.specs.declared.place.Place.{Place}
-use Rattle.races.specs.declared.place.Place.TheVariants.{Thread, Ended, Mutex, Object}
+use Rattle.races.specs.declared.clock_owner.ClockOwner.{ClockOwner}
+use Rattle.races.specs.declared.clock_owner.ClockOwner.TheVariants.{Thread, Ended, Mutex, Object}
 use Rattle.races.specs.declared.site.Access.{Access}
 use Rattle.races.proofs.Order.{at_before, at_last, reaches_cases, reaches_more, reaches_through, releases_inside, forward}
 
@@ -33,7 +33,7 @@ access_cases steps step index access is =
 -- ---- what a thread did is in its own past
 
 -- the place of a thread itself, or another
-pub own_cases : (step : ℕ) (place : Place) (thread : ℕ) → ((place ≡ Thread thread) × (own_time step place thread ≡ step)) ⊎ ((place ≡ Thread thread → ⊥) × (own_time step place thread ≡ 0))
+pub own_cases : (step : ℕ) (place : ClockOwner) (thread : ℕ) → ((place ≡ Thread thread) × (own_time step place thread ≡ step)) ⊎ ((place ≡ Thread thread → ⊥) × (own_time step place thread ≡ 0))
 own_cases step (Thread one) thread = ⊎_elim
     (λ same. inl (ap Thread same, ap (λ (b : Bool). cond b step 0) (eq-eqb one thread same)))
     (λ apart. inr (λ same. apart (cc same), ap (λ (b : Bool). cond b step 0) (ne_eqb one thread apart)))
@@ -42,18 +42,18 @@ own_cases step (Ended one) thread = inr (λ same. cc same, refl)
 own_cases step (Mutex one) thread = inr (λ same. cc same, refl)
 own_cases step (Object one) thread = inr (λ same. cc same, refl)
 
-own_bound : (step : ℕ) (place : Place) (thread : ℕ) → own_time step place thread ≤ step
+own_bound : (step : ℕ) (place : ClockOwner) (thread : ℕ) → own_time step place thread ≤ step
 own_bound step place thread = ⊎_elim (λ own. let o = own.1 in omega arith) (λ other. let o = other.1 in omega arith) (own_cases step place thread)
 
 -- of another place only the times that are kept count
-pub apart_kept : (step : ℕ) (kept : Place → ℕ → ℕ) (place : Place) (thread index : ℕ) → (place ≡ Thread thread → ⊥) → index < times_with step kept place thread → index < kept place thread
+pub apart_kept : (step : ℕ) (kept : ClockOwner → ℕ → ℕ) (place : ClockOwner) (thread index : ℕ) → (place ≡ Thread thread → ⊥) → index < times_with step kept place thread → index < kept place thread
 apart_kept step kept place thread index apart small = ⊎_elim (λ own. absurd (apart own.0)) (λ other. let o = other.1 in omega arith) (own_cases step place thread)
 
-pub kept_with : (step : ℕ) (kept : Place → ℕ → ℕ) (place : Place) (thread index : ℕ) → index < kept place thread → index < times_with step kept place thread
+pub kept_with : (step : ℕ) (kept : ClockOwner → ℕ → ℕ) (place : ClockOwner) (thread index : ℕ) → index < kept place thread → index < times_with step kept place thread
 kept_with step kept place thread index small = omega arith
 
 -- a past of a thread with what it did itself
-pub with_own : (step : ℕ) (kept : Place → ℕ → ℕ) (thread other index : ℕ)
+pub with_own : (step : ℕ) (kept : ClockOwner → ℕ → ℕ) (thread other index : ℕ)
     → (index < times_with step kept (Thread thread) other) ↔ ((index < kept (Thread thread) other) ⊎ ((thread ≡ other) × (index < step)))
 with_own step kept thread other index = (
   λ small. ⊎_elim
@@ -67,7 +67,7 @@ with_own step kept thread other index = (
 )
 
 -- at first
-pub follows_none : (kept : Place → ℕ → ℕ) → ((place : Place) (thread : ℕ) → kept place thread ≡ 0) → Follows [] (times_with 0 kept)
+pub follows_none : (kept : ClockOwner → ℕ → ℕ) → ((place : ClockOwner) (thread : ℕ) → kept place thread ≡ 0) → Follows [] (times_with 0 kept)
 follows_none kept zeros = record {
   known = λ place index access is. absurd (cc is);
   bound = λ place thread. let z = zeros place thread in let o = own_bound 0 place thread in omega arith;
@@ -75,7 +75,7 @@ follows_none kept zeros = record {
 
 module _ (steps : List Step) where
   -- nothing is passed on by an index past the end
-  pub later_last : (step : Step) (place : Place) → Reaches (steps ++ step ∷ []) (length steps) place → Releases step place
+  pub later_last : (step : Step) (place : ClockOwner) → Reaches (steps ++ step ∷ []) (length steps) place → Releases step place
   later_last step place reaches =
       let last = releases_inside (steps ++ step ∷ []) reaches.last place reaches.releases in
       let long = length_push steps step in
@@ -83,9 +83,9 @@ module _ (steps : List Step) where
       subst (λ (one : Step). Releases one place) (at_last steps step) (subst (λ (n : ℕ). Releases (at (steps ++ step ∷ []) n) place) is reaches.releases)
 
   -- it is enough to look at the pasts of other places
-  follows_by : (step : Step) (new : Place → ℕ → ℕ)
-      → ((place : Place) (index : ℕ) → (access : Access) → (place ≡ Thread access.site.thread → ⊥) → at (steps ++ step ∷ []) index ≡ Touch access → Reaches (steps ++ step ∷ []) index place ↔ (index < new place access.site.thread))
-      → ((place : Place) (thread : ℕ) → new place thread ≤ length steps + 1) → Follows (steps ++ step ∷ []) (times_with (length (steps ++ step ∷ [])) new)
+  follows_by : (step : Step) (new : ClockOwner → ℕ → ℕ)
+      → ((place : ClockOwner) (index : ℕ) → (access : Access) → (place ≡ Thread access.site.thread → ⊥) → at (steps ++ step ∷ []) index ≡ Touch access → Reaches (steps ++ step ∷ []) index place ↔ (index < new place access.site.thread))
+      → ((place : ClockOwner) (thread : ℕ) → new place thread ≤ length steps + 1) → Follows (steps ++ step ∷ []) (times_with (length (steps ++ step ∷ [])) new)
   follows_by step new others bounds = record {
     known = λ place index access is.
         let inside = access_inside more index access is in
@@ -103,18 +103,18 @@ module _ (steps : List Step) where
       more : List Step
       more = steps ++ step ∷ []
 
-module _ (steps : List Step) (old : Place → ℕ → ℕ) (follows : Follows steps (times_with (length steps) old)) where
+module _ (steps : List Step) (old : ClockOwner → ℕ → ℕ) (follows : Follows steps (times_with (length steps) old)) where
   -- the past of another place
-  known_kept : (place : Place) (index : ℕ) (access : Access) → (place ≡ Thread access.site.thread → ⊥) → at steps index ≡ Touch access → Reaches steps index place ↔ (index < old place access.site.thread)
+  known_kept : (place : ClockOwner) (index : ℕ) (access : Access) → (place ≡ Thread access.site.thread → ⊥) → at steps index ≡ Touch access → Reaches steps index place ↔ (index < old place access.site.thread)
   known_kept place index access apart is = (
     λ reaches. apart_kept (length steps) old place access.site.thread index apart ((follows.known place index access is).0 reaches),
     λ small. (follows.known place index access is).1 (kept_with (length steps) old place access.site.thread index small),
   )
 
-  kept_bound : (place : Place) (thread : ℕ) → old place thread ≤ length steps
+  kept_bound : (place : ClockOwner) (thread : ℕ) → old place thread ≤ length steps
   kept_bound place thread = let b = follows.bound place thread in omega arith
 
-  pub after_order : (new : Place → ℕ → ℕ) (acquired released : List Place) → IsAfterOrder old new (times_with (length steps) old) acquired released
+  pub after_order : (new : ClockOwner → ℕ → ℕ) (acquired released : List ClockOwner) → IsAfterOrder old new (times_with (length steps) old) acquired released
       → Follows (steps ++ Order acquired released ∷ []) (times_with (length (steps ++ Order acquired released ∷ [])) new)
   after_order new acquired released after = follows_by steps step new (λ place index access apart is. (to place index access apart is, from place index access is))
       (λ place thread. ⊎_elim (λ small. absurd (past place thread small)) (λ small. small) (cases_lt (length steps + 1) (new place thread)))
@@ -122,14 +122,14 @@ module _ (steps : List Step) (old : Place → ℕ → ℕ) (follows : Follows st
       step : Step
       step = Order acquired released
 
-      past : (place : Place) (thread : ℕ) → length steps + 1 < new place thread → ⊥
+      past : (place : ClockOwner) (thread : ℕ) → length steps + 1 < new place thread → ⊥
       past place thread small =
           ⊎_elim (λ was. let b = kept_bound place thread in omega arith) (λ has. let b = follows.bound has.1.0 thread in let w = has.1.2 in omega arith) ((after place thread (length steps + 1)).0 small)
 
       before : (index : ℕ) (access : Access) → at (steps ++ step ∷ []) index ≡ Touch access → (index < length steps) × (at steps index ≡ Touch access)
       before index access is = ⊎_elim (λ was. was) (λ last. cc (last.1)) (access_cases steps step index access is)
 
-      to : (place : Place) (index : ℕ) (access : Access) → (place ≡ Thread access.site.thread → ⊥) → at (steps ++ step ∷ []) index ≡ Touch access → Reaches (steps ++ step ∷ []) index place → index < new place access.site.thread
+      to : (place : ClockOwner) (index : ℕ) (access : Access) → (place ≡ Thread access.site.thread → ⊥) → at (steps ++ step ∷ []) index ≡ Touch access → Reaches (steps ++ step ∷ []) index place → index < new place access.site.thread
       to place index access apart is reaches =
           let was = before index access is in
           (after place access.site.thread index).1 (⊎_elim
@@ -137,7 +137,7 @@ module _ (steps : List Step) (old : Place → ℕ → ℕ) (follows : Follows st
           (λ has. inr (has.0, (has.1.0, has.1.1, (follows.known has.1.0 index access was.1).0 has.1.2)))
           (reaches_cases steps step index place was.0 reaches))
 
-      from : (place : Place) (index : ℕ) (access : Access) → at (steps ++ step ∷ []) index ≡ Touch access → index < new place access.site.thread → Reaches (steps ++ step ∷ []) index place
+      from : (place : ClockOwner) (index : ℕ) (access : Access) → at (steps ++ step ∷ []) index ≡ Touch access → index < new place access.site.thread → Reaches (steps ++ step ∷ []) index place
       from place index access is small =
           let was = before index access is in
           ⊎_elim
@@ -156,24 +156,24 @@ module _ (steps : List Step) (old : Place → ℕ → ℕ) (follows : Follows st
       step : Step
       step = Touch touched
 
-      to : (place : Place) (index : ℕ) (access : Access) → (place ≡ Thread access.site.thread → ⊥) → index < length steps → at steps index ≡ Touch access → Reaches (steps ++ step ∷ []) index place → index < old place access.site.thread
+      to : (place : ClockOwner) (index : ℕ) (access : Access) → (place ≡ Thread access.site.thread → ⊥) → index < length steps → at steps index ≡ Touch access → Reaches (steps ++ step ∷ []) index place → index < old place access.site.thread
       to place index access apart inside is reaches =
           (known_kept place index access apart is).0 (⊎_elim
           (λ one. one)
           (λ has. subst (Reaches steps index) (sym has.1.1 ∙ has.0) has.1.2)
           (reaches_cases steps step index place inside reaches))
 
-      from : (place : Place) (index : ℕ) (access : Access) → (place ≡ Thread access.site.thread → ⊥) → at steps index ≡ Touch access → index < old place access.site.thread → Reaches (steps ++ step ∷ []) index place
+      from : (place : ClockOwner) (index : ℕ) (access : Access) → (place ≡ Thread access.site.thread → ⊥) → at steps index ≡ Touch access → index < old place access.site.thread → Reaches (steps ++ step ∷ []) index place
       from place index access apart is small = reaches_more steps step index place ((known_kept place index access apart is).1 small)
 
       same_thread : (access : Access) → step ≡ Touch access → touched.site.thread ≡ access.site.thread
       same_thread access is = let same : touched ≡ access = cc (is) in ap (λ (one : Access). one.site.thread) same
 
-      to_last : (place : Place) (index : ℕ) (access : Access) → (place ≡ Thread access.site.thread → ⊥) → index ≡ length steps → step ≡ Touch access → Reaches (steps ++ step ∷ []) index place → index < old place access.site.thread
+      to_last : (place : ClockOwner) (index : ℕ) (access : Access) → (place ≡ Thread access.site.thread → ⊥) → index ≡ length steps → step ≡ Touch access → Reaches (steps ++ step ∷ []) index place → index < old place access.site.thread
       to_last place index access apart last is reaches =
           absurd (apart (sym (later_last steps step place (subst (λ (n : ℕ). Reaches (steps ++ step ∷ []) n place) last reaches)) ∙ ap Thread (same_thread access is)))
 
-      from_last : (place : Place) (index : ℕ) (access : Access) → index ≡ length steps → index < old place access.site.thread → Reaches (steps ++ step ∷ []) index place
+      from_last : (place : ClockOwner) (index : ℕ) (access : Access) → index ≡ length steps → index < old place access.site.thread → Reaches (steps ++ step ∷ []) index place
       from_last place index access last small = let b = kept_bound place access.site.thread in absurd (omega arith)
 
   pub after_renew : (address length_of : ℕ) → Follows (steps ++ Renew address length_of ∷ []) (times_with (length (steps ++ Renew address length_of ∷ [])) old)
@@ -185,10 +185,10 @@ module _ (steps : List Step) (old : Place → ℕ → ℕ) (follows : Follows st
       before : (index : ℕ) (access : Access) → at (steps ++ step ∷ []) index ≡ Touch access → (index < length steps) × (at steps index ≡ Touch access)
       before index access is = ⊎_elim (λ was. was) (λ last. cc (last.1)) (access_cases steps step index access is)
 
-      to : (place : Place) (index : ℕ) (access : Access) → (place ≡ Thread access.site.thread → ⊥) → at (steps ++ step ∷ []) index ≡ Touch access → Reaches (steps ++ step ∷ []) index place → index < old place access.site.thread
+      to : (place : ClockOwner) (index : ℕ) (access : Access) → (place ≡ Thread access.site.thread → ⊥) → at (steps ++ step ∷ []) index ≡ Touch access → Reaches (steps ++ step ∷ []) index place → index < old place access.site.thread
       to place index access apart is reaches =
           let was = before index access is in
           (known_kept place index access apart was.1).0 (⊎_elim (λ one. one) (λ has. absurd has.0) (reaches_cases steps step index place was.0 reaches))
 
-      from : (place : Place) (index : ℕ) (access : Access) → (place ≡ Thread access.site.thread → ⊥) → at (steps ++ step ∷ []) index ≡ Touch access → index < old place access.site.thread → Reaches (steps ++ step ∷ []) index place
+      from : (place : ClockOwner) (index : ℕ) (access : Access) → (place ≡ Thread access.site.thread → ⊥) → at (steps ++ step ∷ []) index ≡ Touch access → index < old place access.site.thread → Reaches (steps ++ step ∷ []) index place
       from place index access apart is small = reaches_more steps step index place ((known_kept place index access apart (before index access is).1).1 small)

@@ -14,8 +14,8 @@ use Rattle.races.specs.Steps.{Step}
 use Rattle.races.specs.Words.{KnowsWords, KnowsFound, PageList, found_by, race_of, told_at, told_of}
 use Rattle.races.specs.declared.race.Race.{Race}
 use Rattle.races.specs.declared.site.Access.{Access}
-use Rattle.races.specs.declared.told.Told.{Told}
-use Rattle.races.specs.declared.found.Found.{Found}
+use Rattle.races.specs.declared.ordered_race.OrderedRace.{OrderedRace}
+use Rattle.races.specs.declared.found_race.FoundRace.{FoundRace}
 use Rattle.races.specs.declared.word_races.WordRaces.{WordRaces}
 use Rattle.races.proofs.Clocked.{none_contained}
 use Rattle.races.proofs.Kept.{contains_cases}
@@ -41,15 +41,15 @@ map_into f (first ∷ xs) x there = ⊎_elim
     (contains_cases first xs x there)
 
 -- a race that is told was found at a word
-pub record ToldFrom (entries : List (ℕ × WordRaces)) (told : Told) : Type 0 where
+pub record ToldFrom (entries : List (ℕ × WordRaces)) (told : OrderedRace) : Type 0 where
   pub number : ℕ
   pub word : WordRaces
-  pub found : Found
+  pub found : FoundRace
   pub entry : Contains entries (number, word)
   pub among : Contains word.found.items found
   pub is : told_at number found ≡ told
 
-told_from : (entries : List (ℕ × WordRaces)) (told : Told) → Contains (told_of entries) told → ToldFrom entries told
+told_from : (entries : List (ℕ × WordRaces)) (told : OrderedRace) → Contains (told_of entries) told → ToldFrom entries told
 told_from [] told there = absurd (none_contained told there)
 told_from (entry ∷ entries) told there = ⊎_elim
     (λ here.
@@ -60,7 +60,7 @@ told_from (entry ∷ entries) told there = ⊎_elim
     record { number = rest.number; word = rest.word; found = rest.found; entry = contains_later entry entries (rest.number, rest.word) rest.entry; among = rest.among; is = rest.is })
     (Contains-append_cases (map (told_at entry.0) entry.1.found.items) (told_of entries) told there)
 
-told_into : (entries : List (ℕ × WordRaces)) (number : ℕ) (word : WordRaces) (found : Found) → Contains entries (number, word) → Contains word.found.items found → Contains (told_of entries) (told_at number found)
+told_into : (entries : List (ℕ × WordRaces)) (number : ℕ) (word : WordRaces) (found : FoundRace) → Contains entries (number, word) → Contains word.found.items found → Contains (told_of entries) (told_at number found)
 told_into [] number word found entry among = absurd (none_contained {X = ℕ × WordRaces} (number, word) entry)
 told_into (first ∷ entries) number word found entry among = ⊎_elim
     (λ same.
@@ -70,29 +70,29 @@ told_into (first ∷ entries) number word found entry among = ⊎_elim
     (contains_cases {X = ℕ × WordRaces} first entries (number, word) entry)
 
 -- a race that was found at a word is in its entry
-found_in : (words : BTreeMap ℕ WordRaces) (number : ℕ) (kept : Option WordRaces) (found : Found) → get nat_cmp words number ≡ kept → IsOrdered nat_cmp words → Contains (found_by kept) found → Contains (told_of words.entries) (told_at number found)
+found_in : (words : BTreeMap ℕ WordRaces) (number : ℕ) (kept : Option WordRaces) (found : FoundRace) → get nat_cmp words number ≡ kept → IsOrdered nat_cmp words → Contains (found_by kept) found → Contains (told_of words.entries) (told_at number found)
 found_in words number None found is ordered among = absurd (none_contained found among)
 found_in words number (Some word) found is ordered among = told_into words.entries number word found ((btree_map_get_iff nat_cmp_total exact_unsigned words ordered number word).0 is) among
 
-pub told_races : (steps : List Step) (pages : PageList) (words : BTreeMap ℕ WordRaces) → IsOrdered nat_cmp words → KnowsWords steps pages words → (sorted : List Told) → IsPermutation (told_of words.entries) sorted
-    → AreRaces steps (map (λ (one : Told). one.race) sorted)
+pub told_races : (steps : List Step) (pages : PageList) (words : BTreeMap ℕ WordRaces) → IsOrdered nat_cmp words → KnowsWords steps pages words → (sorted : List OrderedRace) → IsPermutation (told_of words.entries) sorted
+    → AreRaces steps (map (λ (one : OrderedRace). one.race) sorted)
 told_races steps pages words ordered knows sorted permuted = record { sound = sound; complete = complete }
   where
-    sound : (race : Race) → Contains (map (λ (one : Told). one.race) sorted) race → IsRace steps race
+    sound : (race : Race) → Contains (map (λ (one : OrderedRace). one.race) sorted) race → IsRace steps race
     sound race there =
-        let told = map_from (λ (one : Told). one.race) sorted race there in
+        let told = map_from (λ (one : OrderedRace). one.race) sorted race there in
         let from = told_from words.entries told.0 (Contains-permutation sorted (told_of words.entries) told.0 (IsPermutation-sym (told_of words.entries) sorted permuted) told.1) in
         let found : get nat_cmp words from.number ≡ Some from.word = (btree_map_get_iff nat_cmp_total exact_unsigned words ordered from.number from.word).1 from.entry in
         let known : KnowsFound steps from.number from.word.found.items =
         subst (λ (races : Option WordRaces). KnowsFound steps from.number (found_by races)) found (knows from.number).races in
-        subst (IsRace steps) (ap (λ (one : Told). one.race) from.is ∙ told.2) (known.sound from.found from.among)
+        subst (IsRace steps) (ap (λ (one : OrderedRace). one.race) from.is ∙ told.2) (known.sound from.found from.among)
 
     complete : (earlier later : ℕ) (one other : Access) (word place : ℕ) → AreRacing steps earlier later one other word place
-        → (race : Race) × Contains (map (λ (one_told : Told). one_told.race) sorted) race × IsToldBy race one.site other.site word place
+        → (race : Race) × Contains (map (λ (one_told : OrderedRace). one_told.race) sorted) race × IsToldBy race one.site other.site word place
     complete earlier later one other word place racing =
         let found = (knows word).races.complete earlier later one other place racing in
         let there = found_in words word (get nat_cmp words word) found.0 refl ordered found.1 in (
           race_of word found.0,
-          map_into (λ (one_told : Told). one_told.race) sorted (told_at word found.0) (Contains-permutation (told_of words.entries) sorted (told_at word found.0) permuted there),
+          map_into (λ (one_told : OrderedRace). one_told.race) sorted (told_at word found.0) (Contains-permutation (told_of words.entries) sorted (told_at word found.0) permuted there),
           found.2,
         )

@@ -13,8 +13,8 @@ use Rattle.races.specs.Steps.Step.{Touch, Renew}
 use Rattle.races.specs.Linked.{IsErased}
 use Rattle.races.specs.Words.{IsCovered, IsKept, IsLatest, IsRenewed, KnowsLatest}
 use Rattle.races.specs.declared.byte_set.ByteSet.{ByteSet}
-use Rattle.races.specs.declared.place.Place.{Place}
-use Rattle.races.specs.declared.place.Place.TheVariants.{Thread}
+use Rattle.races.specs.declared.clock_owner.ClockOwner.{ClockOwner}
+use Rattle.races.specs.declared.clock_owner.ClockOwner.TheVariants.{Thread}
 use Rattle.races.specs.declared.site.Access.{Access}
 use Rattle.races.specs.declared.site.Site.{Site}
 use Rattle.races.specs.declared.latest.Latest.{Latest}
@@ -251,7 +251,7 @@ pub record WasMade (steps : List Step) (access : Access) (place : ℕ) : Type 0 
   pub author : IsSameAuthor first.site access.site
   pub of : IsOf first access.word place
   pub alive : (later : ℕ) → made < later → Renews (at steps later) access.word place → ⊥
-  pub only : (other : Place) → Reaches steps made other → Thread access.site.thread ≡ other
+  pub only : (other : ClockOwner) → Reaches steps made other → Thread access.site.thread ≡ other
 
 -- what stands for an access stands for it when it is made again
 pub latest_repeated : (steps : List Step) (access : Access) (latest : List Latest) → ((place : ℕ) → has access.bytes place ≡ true → WasMade steps access place)

@@ -10,8 +10,8 @@ use Rattle.races.specs.Steps.{IsSameAuthor, Step}
 use Rattle.races.specs.Words.{IsFinding, IsKept}
 use Rattle.races.specs.declared.byte_set.ByteSet.{ByteSet}
 use Rattle.races.specs.declared.clocks.Clocks.{Clocks}
-use Rattle.races.specs.declared.entry.Entry.{Entry}
-use Rattle.races.specs.declared.found.Found.{Found as Race}
+use Rattle.races.specs.declared.kept_access.KeptAccess.{KeptAccess}
+use Rattle.races.specs.declared.found_race.FoundRace.{FoundRace as Race}
 use Rattle.races.specs.declared.latest.Latest.{Latest}
 use Rattle.races.specs.declared.site.Access.{Access}
 use Rattle.races.proofs.Clocked.{none_contained}
@@ -19,42 +19,42 @@ use Rattle.races.proofs.Kept.{contains_cases, contains_head, contains_tail}
 
 -- ---- entries by their indices
 
-pub same_at : (entries : List Entry) (index : ℕ) (one other : Entry) → IsAt entries index one → IsAt entries index other → one ≡ other
+pub same_at : (entries : List KeptAccess) (index : ℕ) (one other : KeptAccess) → IsAt entries index one → IsAt entries index other → one ≡ other
 same_at entries index one other (inside, one_is) (there, other_is) = sym one_is ∙ get_or_default entries index one other inside ∙ other_is
 
-pub some_at : (entries : List Entry) (index : ℕ) (default : Entry) → index < length entries → IsAt entries index (get_or entries index default)
+pub some_at : (entries : List KeptAccess) (index : ℕ) (default : KeptAccess) → index < length entries → IsAt entries index (get_or entries index default)
 some_at entries index default inside = (inside, get_or_default entries index (get_or entries index default) default inside)
 
-pub set_at : (entries : List Entry) (index : ℕ) (now : Entry) → index < length entries → IsAt (set entries index now) index now
+pub set_at : (entries : List KeptAccess) (index : ℕ) (now : KeptAccess) → index < length entries → IsAt (set entries index now) index now
 set_at entries index now inside = (subst (λ (n : ℕ). index < n) (sym (length-set entries index now)) inside, get_or-set_same entries index now now inside)
 
 -- an entry after a change is the new one, or one that was there
-pub set_at_cases : (entries : List Entry) (index : ℕ) (now : Entry) (at : ℕ) (entry : Entry) → index < length entries → IsAt (set entries index now) at entry → ((at ≡ index) × (entry ≡ now)) ⊎ ((at ≢ index) × IsAt entries at entry)
+pub set_at_cases : (entries : List KeptAccess) (index : ℕ) (now : KeptAccess) (at : ℕ) (entry : KeptAccess) → index < length entries → IsAt (set entries index now) at entry → ((at ≡ index) × (entry ≡ now)) ⊎ ((at ≢ index) × IsAt entries at entry)
 set_at_cases entries index now at entry inside (there, is) = ⊎_elim
     (λ same. inl (same, same_at (set entries index now) index entry now (subst (λ (n : ℕ). IsAt (set entries index now) n entry) same (there, is)) (set_at entries index now inside)))
     (λ apart. inr (apart, (subst (λ (n : ℕ). at < n) (length-set entries index now) there, sym (get_or-set_other entries index at now entry apart) ∙ is)))
     (cases_eq at index)
 
 -- one that was there is there, unless it was the one that changed
-pub set_at_kept : (entries : List Entry) (index : ℕ) (now : Entry) (at : ℕ) (entry : Entry) → at ≢ index → IsAt entries at entry → IsAt (set entries index now) at entry
+pub set_at_kept : (entries : List KeptAccess) (index : ℕ) (now : KeptAccess) (at : ℕ) (entry : KeptAccess) → at ≢ index → IsAt entries at entry → IsAt (set entries index now) at entry
 set_at_kept entries index now at entry apart (there, is) = (subst (λ (n : ℕ). at < n) (sym (length-set entries index now)) there, get_or-set_other entries index at now entry apart ∙ is)
 
-get_push : (entries : List Entry) (new : Entry) (at : ℕ) (default : Entry) → at < length entries → get_or (entries ++ new ∷ []) at default ≡ get_or entries at default
+get_push : (entries : List KeptAccess) (new : KeptAccess) (at : ℕ) (default : KeptAccess) → at < length entries → get_or (entries ++ new ∷ []) at default ≡ get_or entries at default
 get_push [] new at default inside = absurd (omega arith)
 get_push (first ∷ entries) new zero default inside = refl
 get_push (first ∷ entries) new (suc at) default inside = get_push entries new at default (omega arith)
 
-get_last : (entries : List Entry) (new default : Entry) → get_or (entries ++ new ∷ []) (length entries) default ≡ new
+get_last : (entries : List KeptAccess) (new default : KeptAccess) → get_or (entries ++ new ∷ []) (length entries) default ≡ new
 get_last [] new default = refl
 get_last (first ∷ entries) new default = get_last entries new default
 
-pub push_at_kept : (entries : List Entry) (new : Entry) (at : ℕ) (entry : Entry) → IsAt entries at entry → IsAt (entries ++ new ∷ []) at entry
+pub push_at_kept : (entries : List KeptAccess) (new : KeptAccess) (at : ℕ) (entry : KeptAccess) → IsAt entries at entry → IsAt (entries ++ new ∷ []) at entry
 push_at_kept entries new at entry (there, is) = let long = length_push entries new in (omega arith, get_push entries new at entry there ∙ is)
 
-pub push_at_last : (entries : List Entry) (new : Entry) → IsAt (entries ++ new ∷ []) (length entries) new
+pub push_at_last : (entries : List KeptAccess) (new : KeptAccess) → IsAt (entries ++ new ∷ []) (length entries) new
 push_at_last entries new = let long = length_push entries new in (omega arith, get_last entries new new)
 
-pub push_at_cases : (entries : List Entry) (new : Entry) (at : ℕ) (entry : Entry) → IsAt (entries ++ new ∷ []) at entry → ((at ≡ length entries) × (entry ≡ new)) ⊎ IsAt entries at entry
+pub push_at_cases : (entries : List KeptAccess) (new : KeptAccess) (at : ℕ) (entry : KeptAccess) → IsAt (entries ++ new ∷ []) at entry → ((at ≡ length entries) × (entry ≡ new)) ⊎ IsAt entries at entry
 push_at_cases entries new at entry (there, is) =
     let long = length_push entries new in
     ⊎_elim
@@ -66,18 +66,18 @@ push_at_cases entries new at entry (there, is) =
 
 -- ---- what is kept of a word
 
-in_head : (entry : Entry) (entries : List Entry) (place : ℕ) → entry.place ≡ place → latest_in (entry ∷ entries) place ≡ entry.latest ∷ latest_in entries place
+in_head : (entry : KeptAccess) (entries : List KeptAccess) (place : ℕ) → entry.place ≡ place → latest_in (entry ∷ entries) place ≡ entry.latest ∷ latest_in entries place
 in_head entry entries place is = ap (λ (b : Bool). map (λ one. one.latest) (cond b (entry ∷ filter (λ one. one.place == place) entries) (filter (λ one. one.place == place) entries))) (eq-eqb entry.place place is)
 
-not_head : (entry : Entry) (entries : List Entry) (place : ℕ) → (entry.place ≡ place → ⊥) → latest_in (entry ∷ entries) place ≡ latest_in entries place
+not_head : (entry : KeptAccess) (entries : List KeptAccess) (place : ℕ) → (entry.place ≡ place → ⊥) → latest_in (entry ∷ entries) place ≡ latest_in entries place
 not_head entry entries place apart = ap (λ (b : Bool). map (λ one. one.latest) (cond b (entry ∷ filter (λ one. one.place == place) entries) (filter (λ one. one.place == place) entries))) (ne_eqb entry.place place apart)
 
 -- an entry of the word is among what is kept of it
-pub in_latest : (entries : List Entry) (index : ℕ) (entry : Entry) (place : ℕ) → IsAt entries index entry → entry.place ≡ place → Contains (latest_in entries place) entry.latest
+pub in_latest : (entries : List KeptAccess) (index : ℕ) (entry : KeptAccess) (place : ℕ) → IsAt entries index entry → entry.place ≡ place → Contains (latest_in entries place) entry.latest
 in_latest [] index entry place (inside, is) of = absurd (omega arith)
 in_latest (first ∷ entries) zero entry place (inside, is) of =
-    subst (λ (all : List Latest). Contains all entry.latest) (sym (in_head first entries place (ap (λ (one : Entry). one.place) is ∙ of)))
-    (subst (λ (one : Latest). Contains (one ∷ latest_in entries place) entry.latest) (ap (λ (one : Entry). one.latest) (sym is)) (contains_head entry.latest (latest_in entries place)))
+    subst (λ (all : List Latest). Contains all entry.latest) (sym (in_head first entries place (ap (λ (one : KeptAccess). one.place) is ∙ of)))
+    (subst (λ (one : Latest). Contains (one ∷ latest_in entries place) entry.latest) (ap (λ (one : KeptAccess). one.latest) (sym is)) (contains_head entry.latest (latest_in entries place)))
 in_latest (first ∷ entries) (suc index) entry place (inside, is) of =
     let later = in_latest entries index entry place (omega arith, is) of in
     ⊎_elim
@@ -86,14 +86,14 @@ in_latest (first ∷ entries) (suc index) entry place (inside, is) of =
     (cases_eq first.place place)
 
 -- what is kept of a word is in an entry of it
-pub record Found (entries : List Entry) (place : ℕ) (past : Latest) : Type 0 where
+pub record Found (entries : List KeptAccess) (place : ℕ) (past : Latest) : Type 0 where
   pub index : ℕ
-  pub entry : Entry
+  pub entry : KeptAccess
   pub is_at : IsAt entries index entry
   pub of : entry.place ≡ place
   pub is : entry.latest ≡ past
 
-one_later : (first : Entry) (entries : List Entry) (place : ℕ) (past : Latest) → Found entries place past → Found (first ∷ entries) place past
+one_later : (first : KeptAccess) (entries : List KeptAccess) (place : ℕ) (past : Latest) → Found entries place past → Found (first ∷ entries) place past
 one_later first entries place past found = let there = found.is_at.0 in record {
   index = suc found.index;
   entry = found.entry;
@@ -102,7 +102,7 @@ one_later first entries place past found = let there = found.is_at.0 in record {
   is = found.is;
 }
 
-pub from_latest : (entries : List Entry) (place : ℕ) (past : Latest) → Contains (latest_in entries place) past → Found entries place past
+pub from_latest : (entries : List KeptAccess) (place : ℕ) (past : Latest) → Contains (latest_in entries place) past → Found entries place past
 from_latest [] place past among = absurd (none_contained past among)
 from_latest (first ∷ entries) place past among = ⊎_elim
     (λ same. ⊎_elim
@@ -113,14 +113,14 @@ from_latest (first ∷ entries) place past among = ⊎_elim
     (cases_eq first.place place)
 
 -- a changed entry changes nothing of the words of which it is not, and none if its access stays
-pub latest_set : (entries : List Entry) (index : ℕ) (was now : Entry) (place : ℕ) → IsAt entries index was → now.place ≡ was.place → (was.place ≡ place → now.latest ≡ was.latest) → latest_in (set entries index now) place ≡ latest_in entries place
+pub latest_set : (entries : List KeptAccess) (index : ℕ) (was now : KeptAccess) (place : ℕ) → IsAt entries index was → now.place ≡ was.place → (was.place ≡ place → now.latest ≡ was.latest) → latest_in (set entries index now) place ≡ latest_in entries place
 latest_set [] index was now place (inside, is) of same = refl
 latest_set (first ∷ entries) zero was now place (inside, is) of same = ⊎_elim
     (λ here.
-    in_head now entries place (of ∙ ap (λ (one : Entry). one.place) (sym is) ∙ here)
-    ∙ ap (λ (one : Latest). one ∷ latest_in entries place) (same (ap (λ (one : Entry). one.place) (sym is) ∙ here) ∙ ap (λ (one : Entry). one.latest) (sym is))
+    in_head now entries place (of ∙ ap (λ (one : KeptAccess). one.place) (sym is) ∙ here)
+    ∙ ap (λ (one : Latest). one ∷ latest_in entries place) (same (ap (λ (one : KeptAccess). one.place) (sym is) ∙ here) ∙ ap (λ (one : KeptAccess). one.latest) (sym is))
     ∙ sym (in_head first entries place here))
-    (λ apart. not_head now entries place (λ here. apart (ap (λ (one : Entry). one.place) is ∙ sym of ∙ here)) ∙ sym (not_head first entries place apart))
+    (λ apart. not_head now entries place (λ here. apart (ap (λ (one : KeptAccess). one.place) is ∙ sym of ∙ here)) ∙ sym (not_head first entries place apart))
     (cases_eq first.place place)
 latest_set (first ∷ entries) (suc index) was now place (inside, is) of same =
     let later = latest_set entries index was now place (omega arith, is) of same in
@@ -130,7 +130,7 @@ latest_set (first ∷ entries) (suc index) was now place (inside, is) of same =
     (cases_eq first.place place)
 
 -- a new entry is of one word alone
-pub latest_push : (entries : List Entry) (new : Entry) (place : ℕ) → (new.place ≡ place → ⊥) → latest_in (entries ++ new ∷ []) place ≡ latest_in entries place
+pub latest_push : (entries : List KeptAccess) (new : KeptAccess) (place : ℕ) → (new.place ≡ place → ⊥) → latest_in (entries ++ new ∷ []) place ≡ latest_in entries place
 latest_push [] new place apart = not_head new [] place apart
 latest_push (first ∷ entries) new place apart =
     let later = latest_push entries new place apart in
@@ -141,7 +141,7 @@ latest_push (first ∷ entries) new place apart =
 
 -- ---- the links
 
-no_entry : Entry
+no_entry : KeptAccess
 no_entry = record {
   latest = record { site = record { turn = 0; pc = 0; thread = 0; is_store = false }; bytes = record { first = false; second = false; third = false; fourth = false }; step = 0 };
   place = 0;
@@ -149,27 +149,27 @@ no_entry = record {
 }
 
 -- the entry of a number
-abbrev HasEntry : (entries : List Entry) (from place number : ℕ) → Type 0
-HasEntry entries from place number = (entry : Entry) × IsAt entries (number - 1) entry × (entry.place ≡ place) × (from < number)
+abbrev HasEntry : (entries : List KeptAccess) (from place number : ℕ) → Type 0
+HasEntry entries from place number = (entry : KeptAccess) × IsAt entries (number - 1) entry × (entry.place ≡ place) × (from < number)
 
-there_of : (entries : List Entry) (from place number : ℕ) → IsFirst entries from place number → number ≢ 0 → HasEntry entries from place number
+there_of : (entries : List KeptAccess) (from place number : ℕ) → IsFirst entries from place number → number ≢ 0 → HasEntry entries from place number
 there_of entries from place number first some =
     let bound = first.inside some in
     let late = first.late some in
     let is_at = some_at entries (number - 1) no_entry (omega arith) in
     (get_or entries (number - 1) no_entry, is_at, first.of (get_or entries (number - 1) no_entry) some is_at, late)
 
-first_by : (entries : List Entry) (from place number : ℕ) → (number ≢ 0 → HasEntry entries from place number)
-    → ((index : ℕ) (entry : Entry) → from ≤ index → IsAt entries index entry → entry.place ≡ place → (number ≢ 0) × (number ≤ index + 1)) → IsFirst entries from place number
+first_by : (entries : List KeptAccess) (from place number : ℕ) → (number ≢ 0 → HasEntry entries from place number)
+    → ((index : ℕ) (entry : KeptAccess) → from ≤ index → IsAt entries index entry → entry.place ≡ place → (number ≢ 0) × (number ≤ index + 1)) → IsFirst entries from place number
 first_by entries from place number there first = record {
   inside = λ some. let had = there some in let inside = had.1.0 in let late = had.3 in omega arith;
   late = λ some. (there some).3;
-  of = λ entry some is_at. let had = there some in ap (λ (one : Entry). one.place) (same_at entries (number - 1) entry had.0 is_at had.1) ∙ had.2;
+  of = λ entry some is_at. let had = there some in ap (λ (one : KeptAccess). one.place) (same_at entries (number - 1) entry had.0 is_at had.1) ∙ had.2;
   first = first;
 }
 
 -- an entry changes, but for its place and its link
-first_set : (entries : List Entry) (index : ℕ) (was now : Entry) (from place number : ℕ) → IsAt entries index was → now.place ≡ was.place → IsFirst entries from place number → IsFirst (set entries index now) from place number
+first_set : (entries : List KeptAccess) (index : ℕ) (was now : KeptAccess) (from place number : ℕ) → IsAt entries index was → now.place ≡ was.place → IsFirst entries from place number → IsFirst (set entries index now) from place number
 first_set entries index was now from place number is_at of first = first_by (set entries index now) from place number
     (λ some.
     let had = there_of entries from place number first some in
@@ -177,42 +177,42 @@ first_set entries index was now from place number is_at of first = first_by (set
     (λ same. (
       now,
       subst (λ (n : ℕ). IsAt (set entries index now) n now) (sym same) (set_at entries index now is_at.0),
-      of ∙ ap (λ (one : Entry). one.place) (same_at entries index was had.0 is_at (subst (λ (n : ℕ). IsAt entries n had.0) same had.1)) ∙ had.2,
+      of ∙ ap (λ (one : KeptAccess). one.place) (same_at entries index was had.0 is_at (subst (λ (n : ℕ). IsAt entries n had.0) same had.1)) ∙ had.2,
       had.3,
     ))
     (λ apart. (had.0, set_at_kept entries index now (number - 1) had.0 apart had.1, had.2, had.3))
     (cases_eq (number - 1) index))
     (λ at entry after there is. ⊎_elim
-    (λ same. first.first at was after (subst (λ (n : ℕ). IsAt entries n was) (sym same.0) is_at) (sym of ∙ ap (λ (one : Entry). one.place) (sym same.1) ∙ is))
+    (λ same. first.first at was after (subst (λ (n : ℕ). IsAt entries n was) (sym same.0) is_at) (sym of ∙ ap (λ (one : KeptAccess). one.place) (sym same.1) ∙ is))
     (λ other. first.first at entry after other.1 is)
     (set_at_cases entries index now at entry is_at.0 there))
 
-pub linked_set : (firsts : List ℕ) (entries : List Entry) (index : ℕ) (was now : Entry) → IsAt entries index was → now.place ≡ was.place → now.next ≡ was.next → AreLinked firsts entries → AreLinked firsts (set entries index now)
+pub linked_set : (firsts : List ℕ) (entries : List KeptAccess) (index : ℕ) (was now : KeptAccess) → IsAt entries index was → now.place ≡ was.place → now.next ≡ was.next → AreLinked firsts entries → AreLinked firsts (set entries index now)
 linked_set firsts entries index was now is_at of next linked = record {
   begin = λ place. first_set entries index was now 0 place (get_or firsts place 0) is_at of (linked.begin place);
   go_on = λ at entry there. ⊎_elim
       (λ same.
       let was_first : IsFirst entries (at + 1) was.place was.next = linked.go_on at was (subst (λ (n : ℕ). IsAt entries n was) (sym same.0) is_at) in
-      let place_is : was.place ≡ entry.place = sym of ∙ ap (λ (one : Entry). one.place) (sym same.1) in
-      let next_is : was.next ≡ entry.next = sym next ∙ ap (λ (one : Entry). one.next) (sym same.1) in
+      let place_is : was.place ≡ entry.place = sym of ∙ ap (λ (one : KeptAccess). one.place) (sym same.1) in
+      let next_is : was.next ≡ entry.next = sym next ∙ ap (λ (one : KeptAccess). one.next) (sym same.1) in
       first_set entries index was now (at + 1) entry.place entry.next is_at of (subst (λ (p : ℕ). IsFirst entries (at + 1) p entry.next) place_is (subst (λ (n : ℕ). IsFirst entries (at + 1) was.place n) next_is was_first)))
       (λ other. first_set entries index was now (at + 1) entry.place entry.next is_at of (linked.go_on at entry other.1))
       (set_at_cases entries index now at entry is_at.0 there);
 }
 
 -- an entry comes: of another word, or the word has a first one from there on already, or now it has
-first_push : (entries : List Entry) (new : Entry) (from place number : ℕ) → (new.place ≡ place → ⊥) ⊎ (number ≢ 0) → IsFirst entries from place number → IsFirst (entries ++ new ∷ []) from place number
+first_push : (entries : List KeptAccess) (new : KeptAccess) (from place number : ℕ) → (new.place ≡ place → ⊥) ⊎ (number ≢ 0) → IsFirst entries from place number → IsFirst (entries ++ new ∷ []) from place number
 first_push entries new from place number either first = first_by (entries ++ new ∷ []) from place number
     (λ some. let had = there_of entries from place number first some in (had.0, push_at_kept entries new (number - 1) had.0 had.1, had.2, had.3))
     (λ at entry after there is. ⊎_elim
     (λ last. ⊎_elim
-    (λ apart. absurd (apart (ap (λ (one : Entry). one.place) (sym last.1) ∙ is)))
+    (λ apart. absurd (apart (ap (λ (one : KeptAccess). one.place) (sym last.1) ∙ is)))
     (λ some. let inside = first.inside some in let at_end = last.0 in (some, omega arith))
     either)
     (λ before. first.first at entry after before is)
     (push_at_cases entries new at entry there))
 
-first_new : (entries : List Entry) (new : Entry) (from place : ℕ) → from ≤ length entries → new.place ≡ place → IsFirst entries from place 0 → IsFirst (entries ++ new ∷ []) from place (length entries + 1)
+first_new : (entries : List KeptAccess) (new : KeptAccess) (from place : ℕ) → from ≤ length entries → new.place ≡ place → IsFirst entries from place 0 → IsFirst (entries ++ new ∷ []) from place (length entries + 1)
 first_new entries new from place early of first = first_by (entries ++ new ∷ []) from place (length entries + 1)
     (λ some. (new, subst (λ (n : ℕ). IsAt (entries ++ new ∷ []) n new) (omega arith) (push_at_last entries new), of, omega arith))
     (λ at entry after there is. ⊎_elim
@@ -221,7 +221,7 @@ first_new entries new from place early of first = first_by (entries ++ new ∷ [
     (push_at_cases entries new at entry there))
 
 -- the last entry has no next one
-last_first : (entries : List Entry) (new : Entry) (from place : ℕ) → length entries < from → IsFirst (entries ++ new ∷ []) from place 0
+last_first : (entries : List KeptAccess) (new : KeptAccess) (from place : ℕ) → length entries < from → IsFirst (entries ++ new ∷ []) from place 0
 last_first entries new from place late = first_by (entries ++ new ∷ []) from place 0
     (λ some. absurd (some refl))
     (λ at entry after there is. let long = length_push entries new in let inside = there.0 in absurd (omega arith))
@@ -230,7 +230,7 @@ get_set_zero : (firsts : List ℕ) (place number : ℕ) (other : ℕ) → (place
 get_set_zero firsts place number other apart = get_or-set_other firsts place other number 0 (λ same. apart (sym same))
 
 -- an entry comes as the first one of its word
-pub linked_first : (firsts : List ℕ) (entries : List Entry) (new : Entry) (place : ℕ) → place < length firsts → get_or firsts place 0 ≡ 0 → new.place ≡ place → new.next ≡ 0 → AreLinked firsts entries
+pub linked_first : (firsts : List ℕ) (entries : List KeptAccess) (new : KeptAccess) (place : ℕ) → place < length firsts → get_or firsts place 0 ≡ 0 → new.place ≡ place → new.next ≡ 0 → AreLinked firsts entries
     → AreLinked (set firsts place (length entries + 1)) (entries ++ new ∷ [])
 linked_first firsts entries new place inside none of next linked = record {
   begin = λ other. ⊎_elim
@@ -245,7 +245,7 @@ linked_first firsts entries new place inside none of next linked = record {
   go_on = λ at entry there. ⊎_elim
       (λ last.
       let at_end = last.0 in
-      subst (λ (n : ℕ). IsFirst (entries ++ new ∷ []) (at + 1) entry.place n) (sym next ∙ ap (λ (one : Entry). one.next) (sym last.1)) (last_first entries new (at + 1) entry.place (omega arith)))
+      subst (λ (n : ℕ). IsFirst (entries ++ new ∷ []) (at + 1) entry.place n) (sym next ∙ ap (λ (one : KeptAccess). one.next) (sym last.1)) (last_first entries new (at + 1) entry.place (omega arith)))
       (λ before. ⊎_elim
       (λ same. absurd (((linked.begin place).first at entry (omega arith) before (sym same)).0 none))
       (λ apart. first_push entries new (at + 1) entry.place entry.next (inl (λ same. apart (sym of ∙ same))) (linked.go_on at entry before))
@@ -254,7 +254,7 @@ linked_first firsts entries new place inside none of next linked = record {
 }
 
 -- an entry comes after the last one of its word
-pub linked_after : (firsts : List ℕ) (entries : List Entry) (index : ℕ) (last now new : Entry) → IsAt entries index last → last.next ≡ 0 → new.place ≡ last.place → new.next ≡ 0 → now.place ≡ last.place → now.next ≡ length entries + 1
+pub linked_after : (firsts : List ℕ) (entries : List KeptAccess) (index : ℕ) (last now new : KeptAccess) → IsAt entries index last → last.next ≡ 0 → new.place ≡ last.place → new.next ≡ 0 → now.place ≡ last.place → now.next ≡ length entries + 1
     → AreLinked firsts entries → AreLinked firsts (set (entries ++ new ∷ []) index now)
 linked_after firsts entries index last now new is_at end of next now_of now_next linked = record {
   begin = λ place. first_set more index last now 0 place (get_or firsts place 0) at_more now_of (⊎_elim
@@ -267,31 +267,31 @@ linked_after firsts entries index last now new is_at end of next now_of now_next
       let inside = is_at.0 in
       let own : IsFirst more (at + 1) last.place (length entries + 1) =
       first_new entries new (at + 1) last.place (omega arith) of (subst (λ (n : ℕ). IsFirst entries (at + 1) last.place n) end (linked.go_on at last (subst (λ (n : ℕ). IsAt entries n last) (sym here) is_at))) in
-      let place_is : last.place ≡ entry.place = sym now_of ∙ ap (λ (one : Entry). one.place) (sym same.1) in
-      let next_is : length entries + 1 ≡ entry.next = sym now_next ∙ ap (λ (one : Entry). one.next) (sym same.1) in
+      let place_is : last.place ≡ entry.place = sym now_of ∙ ap (λ (one : KeptAccess). one.place) (sym same.1) in
+      let next_is : length entries + 1 ≡ entry.next = sym now_next ∙ ap (λ (one : KeptAccess). one.next) (sym same.1) in
       first_set more index last now (at + 1) entry.place entry.next at_more now_of (subst (λ (p : ℕ). IsFirst more (at + 1) p entry.next) place_is (subst (λ (n : ℕ). IsFirst more (at + 1) last.place n) next_is own)))
       (λ other. first_set more index last now (at + 1) entry.place entry.next at_more now_of (in_more at entry other.0 other.1))
       (set_at_cases more index now at entry at_more.0 there);
 }
   where
-    more : List Entry
+    more : List KeptAccess
     more = entries ++ new ∷ []
 
     at_more : IsAt more index last
     at_more = push_at_kept entries new index last is_at
 
     -- an entry of the word that isn't the last one has a next one
-    has_next : (at : ℕ) (entry : Entry) → at ≢ index → IsAt entries at entry → entry.place ≡ last.place → entry.next ≢ 0
+    has_next : (at : ℕ) (entry : KeptAccess) → at ≢ index → IsAt entries at entry → entry.place ≡ last.place → entry.next ≢ 0
     has_next at entry apart there same = ⊎_elim
         (λ before. ((linked.go_on at entry there).first index last (omega arith) is_at (sym same)).0)
         (λ late. absurd (((linked.go_on index last is_at).first at entry (omega arith) there same).0 end))
         (cases_lt at index)
 
-    in_more : (at : ℕ) (entry : Entry) → at ≢ index → IsAt more at entry → IsFirst more (at + 1) entry.place entry.next
+    in_more : (at : ℕ) (entry : KeptAccess) → at ≢ index → IsAt more at entry → IsFirst more (at + 1) entry.place entry.next
     in_more at entry apart there = ⊎_elim
         (λ new_is.
         let at_end = new_is.0 in
-        subst (λ (n : ℕ). IsFirst more (at + 1) entry.place n) (sym next ∙ ap (λ (one : Entry). one.next) (sym new_is.1)) (last_first entries new (at + 1) entry.place (omega arith)))
+        subst (λ (n : ℕ). IsFirst more (at + 1) entry.place n) (sym next ∙ ap (λ (one : KeptAccess). one.next) (sym new_is.1)) (last_first entries new (at + 1) entry.place (omega arith)))
         (λ before. ⊎_elim
         (λ same. first_push entries new (at + 1) entry.place entry.next (inr (has_next at entry apart before same)) (linked.go_on at entry before))
         (λ other. first_push entries new (at + 1) entry.place entry.next (inl (λ same. other (sym (sym of ∙ same)))) (linked.go_on at entry before))
@@ -300,20 +300,20 @@ linked_after firsts entries index last now new is_at end of next now_of now_next
 
 -- ---- an access is kept
 
-pub kept_at : (entries : List Entry) (index : ℕ) (was now : Entry) (own : Latest) → IsAt entries index was → GivesWay was.latest own → now.place ≡ was.place → now.latest ≡ own → IsKept own (latest_in entries was.place) (latest_in (set entries index now) was.place)
+pub kept_at : (entries : List KeptAccess) (index : ℕ) (was now : KeptAccess) (own : Latest) → IsAt entries index was → GivesWay was.latest own → now.place ≡ was.place → now.latest ≡ own → IsKept own (latest_in entries was.place) (latest_in (set entries index now) was.place)
 kept_at entries index was now own is_at gives of own_is = record {
   there = subst (λ (one : Latest). Contains (latest_in (set entries index now) was.place) one) own_is (in_latest (set entries index now) index now was.place (set_at entries index now is_at.0) of);
   less = λ past among.
       let found = from_latest (set entries index now) was.place past among in
       ⊎_elim
-      (λ same. inl (sym own_is ∙ ap (λ (one : Entry). one.latest) (sym same.1) ∙ found.is))
+      (λ same. inl (sym own_is ∙ ap (λ (one : KeptAccess). one.latest) (sym same.1) ∙ found.is))
       (λ other. inr (past, subst (λ (one : Latest). Contains (latest_in entries was.place) one) found.is (in_latest entries found.index found.entry was.place other.1 found.of), (refl, refl), λ place there. there))
       (set_at_cases entries index now found.index found.entry is_at.0 found.is_at);
   rest = λ past place among there.
       let found = from_latest entries was.place past among in
       ⊎_elim
       (λ same.
-      let is : was.latest ≡ past = ap (λ (one : Entry). one.latest) (same_at entries index was found.entry is_at (subst (λ (n : ℕ). IsAt entries n found.entry) same found.is_at)) ∙ found.is in
+      let is : was.latest ≡ past = ap (λ (one : KeptAccess). one.latest) (same_at entries index was found.entry is_at (subst (λ (n : ℕ). IsAt entries n found.entry) same found.is_at)) ∙ found.is in
       inl (subst (λ (one : Latest). IsSameAuthor own.site one.site × (has own.bytes place ≡ true)) is (gives place (ap (λ (one : Latest). has one.bytes place) is ∙ there))))
       (λ apart. inr (
         past,
@@ -325,13 +325,13 @@ kept_at entries index was now own is_at gives of own_is = record {
       (cases_eq found.index index);
 }
 
-pub kept_push : (entries : List Entry) (new : Entry) (own : Latest) → new.latest ≡ own → IsKept own (latest_in entries new.place) (latest_in (entries ++ new ∷ []) new.place)
+pub kept_push : (entries : List KeptAccess) (new : KeptAccess) (own : Latest) → new.latest ≡ own → IsKept own (latest_in entries new.place) (latest_in (entries ++ new ∷ []) new.place)
 kept_push entries new own own_is = record {
   there = subst (λ (one : Latest). Contains (latest_in (entries ++ new ∷ []) new.place) one) own_is (in_latest (entries ++ new ∷ []) (length entries) new new.place (push_at_last entries new) refl);
   less = λ past among.
       let found = from_latest (entries ++ new ∷ []) new.place past among in
       ⊎_elim
-      (λ last. inl (sym own_is ∙ ap (λ (one : Entry). one.latest) (sym last.1) ∙ found.is))
+      (λ last. inl (sym own_is ∙ ap (λ (one : KeptAccess). one.latest) (sym last.1) ∙ found.is))
       (λ before. inr (past, subst (λ (one : Latest). Contains (latest_in entries new.place) one) found.is (in_latest entries found.index found.entry new.place before found.of), (refl, refl), λ place there. there))
       (push_at_cases entries new found.index found.entry found.is_at);
   rest = λ past place among there.
@@ -357,24 +357,24 @@ nearer count (suc index) zero some inside on = omega arith
 nearer count (suc index) (suc later) some inside on = let further = on (λ none. absurd (omega arith)) in omega arith
 
 -- A number is 0 or that of an entry of the word.
-abbrev pub IsOf : List Entry → (place number : ℕ) → Type 0
-IsOf entries place number = number ≢ 0 → (entry : Entry) × IsAt entries (number - 1) entry × (entry.place ≡ place)
+abbrev pub IsOf : List KeptAccess → (place number : ℕ) → Type 0
+IsOf entries place number = number ≢ 0 → (entry : KeptAccess) × IsAt entries (number - 1) entry × (entry.place ≡ place)
 
 -- an entry of the word before the one of a number
 abbrev pub IsSeen : (number index : ℕ) → Type 0
 IsSeen number index = (number ≡ 0) ⊎ (index + 1 < number)
 
-module _ (firsts : List ℕ) (entries : List Entry) (place : ℕ) (linked : AreLinked firsts entries) where
+module _ (firsts : List ℕ) (entries : List KeptAccess) (place : ℕ) (linked : AreLinked firsts entries) where
   pub first_of : IsOf entries place (get_or firsts place 0)
   first_of some = let had = there_of entries 0 place (get_or firsts place 0) (linked.begin place) some in (had.0, had.1, had.2)
 
   -- none was seen at first
-  pub none_seen : (index : ℕ) (entry : Entry) → IsAt entries index entry → entry.place ≡ place → IsSeen (get_or firsts place 0) index → ⊥
+  pub none_seen : (index : ℕ) (entry : KeptAccess) → IsAt entries index entry → entry.place ≡ place → IsSeen (get_or firsts place 0) index → ⊥
   none_seen index entry is_at of seen =
       let first = (linked.begin place).first index entry (omega arith) is_at of in
       ⊎_elim (λ none. first.0 none) (λ early. let late = first.1 in absurd (omega arith)) seen
 
-  module _ (number : ℕ) (entry : Entry) (some : number ≢ 0) (is_at : IsAt entries (number - 1) entry) (of : entry.place ≡ place) where
+  module _ (number : ℕ) (entry : KeptAccess) (some : number ≢ 0) (is_at : IsAt entries (number - 1) entry) (of : entry.place ≡ place) where
     pub next_first : IsFirst entries number place entry.next
     next_first = subst (λ (p : ℕ). IsFirst entries number p entry.next) of (subst (λ (n : ℕ). IsFirst entries n entry.place entry.next) (omega arith) (linked.go_on (number - 1) entry is_at))
 
@@ -385,7 +385,7 @@ module _ (firsts : List ℕ) (entries : List Entry) (place : ℕ) (linked : AreL
     next_nearer = let inside = is_at.0 in nearer (length entries) number entry.next some (omega arith) next_first.late
 
     -- once the entry was seen, those before the next one are the ones of before and it
-    pub seen_cases : (index : ℕ) (other : Entry) → IsAt entries index other → other.place ≡ place → IsSeen entry.next index → IsSeen number index ⊎ ((index ≡ number - 1) × (other ≡ entry))
+    pub seen_cases : (index : ℕ) (other : KeptAccess) → IsAt entries index other → other.place ≡ place → IsSeen entry.next index → IsSeen number index ⊎ ((index ≡ number - 1) × (other ≡ entry))
     seen_cases index other there same seen = ⊎_elim
         (λ before. inl (inr before))
         (λ late. ⊎_elim
@@ -399,12 +399,12 @@ module _ (firsts : List ℕ) (entries : List Entry) (place : ℕ) (linked : AreL
 -- ---- the races with what is kept of a word, one entry after another
 
 -- what was found so far
-pub record HasFound (steps : List Step) (access : Access) (clocks : Clocks) (entries : List Entry) (place number : ℕ) (found : List Race) : Type 0 where
+pub record HasFound (steps : List Step) (access : Access) (clocks : Clocks) (entries : List KeptAccess) (place number : ℕ) (found : List Race) : Type 0 where
   pub visited : List Latest
-  pub all : (index : ℕ) (entry : Entry) → IsAt entries index entry → entry.place ≡ place → IsSeen number index → Contains visited entry.latest
+  pub all : (index : ℕ) (entry : KeptAccess) → IsAt entries index entry → entry.place ≡ place → IsSeen number index → Contains visited entry.latest
   pub finding : IsFinding steps access clocks visited found
 
-module _ (steps : List Step) (access : Access) (clocks : Clocks) (firsts : List ℕ) (entries : List Entry) (place : ℕ) (linked : AreLinked firsts entries) where
+module _ (steps : List Step) (access : Access) (clocks : Clocks) (firsts : List ℕ) (entries : List KeptAccess) (place : ℕ) (linked : AreLinked firsts entries) where
   pub found_none : (found : List Race) → IsFinding steps access clocks [] found → HasFound steps access clocks entries place (get_or firsts place 0) found
   found_none found finding = record {
     visited = [];
@@ -412,14 +412,14 @@ module _ (steps : List Step) (access : Access) (clocks : Clocks) (firsts : List 
     finding = finding;
   }
 
-  pub found_next : (number : ℕ) (entry : Entry) (found more : List Race) → number ≢ 0 → IsAt entries (number - 1) entry → entry.place ≡ place
+  pub found_next : (number : ℕ) (entry : KeptAccess) (found more : List Race) → number ≢ 0 → IsAt entries (number - 1) entry → entry.place ≡ place
       → ((done : List Latest) → IsFinding steps access clocks done found → IsFinding steps access clocks (done ++ entry.latest ∷ []) more)
       → HasFound steps access clocks entries place number found → HasFound steps access clocks entries place entry.next more
   found_next number entry found more some is_at of one had = record {
     visited = had.visited ++ entry.latest ∷ [];
     all = λ index other there same seen. ⊎_elim
         (λ before. Contains-append_left had.visited (entry.latest ∷ []) other.latest (had.all index other there same before))
-        (λ here. subst (λ (e : Entry). Contains (had.visited ++ entry.latest ∷ []) e.latest) (sym here.1) (Contains-push had.visited entry.latest))
+        (λ here. subst (λ (e : KeptAccess). Contains (had.visited ++ entry.latest ∷ []) e.latest) (sym here.1) (Contains-push had.visited entry.latest))
         (seen_cases firsts entries place linked number entry some is_at of index other there same seen);
     finding = one had.visited had.finding;
   }
@@ -435,10 +435,10 @@ module _ (steps : List Step) (access : Access) (clocks : Clocks) (firsts : List 
 
 -- ---- bytes are taken from a word's entries, one after another
 
-pub record IsErasing (bytes : ByteSet) (old part : List Entry) (place number : ℕ) : Type 0 where
+pub record IsErasing (bytes : ByteSet) (old part : List KeptAccess) (place number : ℕ) : Type 0 where
   pub long : length part ≡ length old
-  pub seen : (index : ℕ) (was : Entry) → IsAt old index was → was.place ≡ place → IsSeen number index → (now : Entry) × IsAt part index now × IsCleared bytes was now
-  pub rest : (index : ℕ) (was : Entry) → IsAt old index was → (IsSeen number index → was.place ≡ place → ⊥) → IsAt part index was
+  pub seen : (index : ℕ) (was : KeptAccess) → IsAt old index was → was.place ≡ place → IsSeen number index → (now : KeptAccess) × IsAt part index now × IsCleared bytes was now
+  pub rest : (index : ℕ) (was : KeptAccess) → IsAt old index was → (IsSeen number index → was.place ≡ place → ⊥) → IsAt part index was
 
 both_true : (a b : Bool) → (a && not b) ≡ true → (a ≡ true) × (b ≢ true)
 both_true true true is = absurd (cc is)
@@ -450,7 +450,7 @@ and_true true true one other = absurd (other refl)
 and_true true false one other = refl
 and_true false b one other = absurd (cc one)
 
-module _ (bytes : ByteSet) (firsts : List ℕ) (old : List Entry) (place : ℕ) (linked : AreLinked firsts old) where
+module _ (bytes : ByteSet) (firsts : List ℕ) (old : List KeptAccess) (place : ℕ) (linked : AreLinked firsts old) where
   pub erasing_none : IsErasing bytes old old place (get_or firsts place 0)
   erasing_none = record {
     long = refl;
@@ -459,14 +459,14 @@ module _ (bytes : ByteSet) (firsts : List ℕ) (old : List Entry) (place : ℕ) 
   }
 
   -- the entry of the number is as it was
-  pub erasing_here : (part : List Entry) (number : ℕ) → number ≢ 0 → IsOf old place number → IsErasing bytes old part place number → (entry : Entry) → IsAt part (number - 1) entry → IsAt old (number - 1) entry
+  pub erasing_here : (part : List KeptAccess) (number : ℕ) → number ≢ 0 → IsOf old place number → IsErasing bytes old part place number → (entry : KeptAccess) → IsAt part (number - 1) entry → IsAt old (number - 1) entry
   erasing_here part number some of done entry is_at =
       let had = of some in
       let unseen : IsSeen number (number - 1) → had.0.place ≡ place → ⊥ = λ seen same. ⊎_elim (λ none. some none) (λ early. absurd (omega arith)) seen in
       let same = same_at part (number - 1) had.0 entry (done.rest (number - 1) had.0 had.1 unseen) is_at in
-      subst (λ (one : Entry). IsAt old (number - 1) one) same had.1
+      subst (λ (one : KeptAccess). IsAt old (number - 1) one) same had.1
 
-  pub erasing_next : (part : List Entry) (number : ℕ) (entry now : Entry) → number ≢ 0 → IsAt old (number - 1) entry → entry.place ≡ place → IsCleared bytes entry now → IsErasing bytes old part place number
+  pub erasing_next : (part : List KeptAccess) (number : ℕ) (entry now : KeptAccess) → number ≢ 0 → IsAt old (number - 1) entry → entry.place ≡ place → IsCleared bytes entry now → IsErasing bytes old part place number
       → IsErasing bytes old (set part (number - 1) now) place entry.next
   erasing_next part number entry now some is_at of clear done = record {
     long = length-set part (number - 1) now ∙ done.long;
@@ -479,12 +479,12 @@ module _ (bytes : ByteSet) (firsts : List ℕ) (old : List Entry) (place : ℕ) 
         let long = done.long in (
           now,
           subst (λ (n : ℕ). IsAt (set part (number - 1) now) n now) (sym here.0) (set_at part (number - 1) now (omega arith)),
-          subst (λ (one : Entry). IsCleared bytes one now) (sym here.1) clear,
+          subst (λ (one : KeptAccess). IsCleared bytes one now) (sym here.1) clear,
         ))
         (seen_cases firsts old place linked number entry some is_at of index was there same seen);
     rest = λ index was there unseen.
         set_at_kept part (number - 1) now index was
-        (λ here. unseen (seen_now index (omega arith)) (ap (λ (one : Entry). one.place) (same_at old index was entry there (subst (λ (n : ℕ). IsAt old n entry) (sym here) is_at)) ∙ of))
+        (λ here. unseen (seen_now index (omega arith)) (ap (λ (one : KeptAccess). one.place) (same_at old index was entry there (subst (λ (n : ℕ). IsAt old n entry) (sym here) is_at)) ∙ of))
         (done.rest index was there (λ seen same. unseen (seen_still index seen) same));
   }
     where
@@ -497,24 +497,24 @@ module _ (bytes : ByteSet) (firsts : List ℕ) (old : List Entry) (place : ℕ) 
       seen_still : (index : ℕ) → IsSeen number index → IsSeen entry.next index
       seen_still index seen = ⊎_elim (λ none. absurd (some none)) (λ early. seen_now index (omega arith)) seen
 
-  pub erased_all : (part : List Entry) (number : ℕ) → number ≡ 0 → IsErasing bytes old part place number → IsErased bytes (latest_in old place) (latest_in part place)
+  pub erased_all : (part : List KeptAccess) (number : ℕ) → number ≡ 0 → IsErasing bytes old part place number → IsErased bytes (latest_in old place) (latest_in part place)
   erased_all part number end done = record {
     less = λ now among.
         let found = from_latest part place now among in
         let long = done.long in
         let inside = found.is_at.0 in
-        let was : Entry = get_or old found.index found.entry in
+        let was : KeptAccess = get_or old found.index found.entry in
         let there : IsAt old found.index was = some_at old found.index found.entry (omega arith) in
         ⊎_elim
         (λ same.
         let one = done.seen found.index was there same (inl end) in
-        let is : one.0.latest ≡ now = ap (λ (e : Entry). e.latest) (same_at part found.index one.0 found.entry one.1 found.is_at) ∙ found.is in (
+        let is : one.0.latest ≡ now = ap (λ (e : KeptAccess). e.latest) (same_at part found.index one.0 found.entry one.1 found.is_at) ∙ found.is in (
           was.latest,
           in_latest old found.index was place there same,
           (ap (λ (l : Latest). l.site) (sym is) ∙ one.2.site, ap (λ (l : Latest). l.step) (sym is) ∙ one.2.step),
           λ at_place has_it. both_true (has was.latest.bytes at_place) (has bytes at_place) (sym (one.2.bytes_are at_place) ∙ ap (λ (l : Latest). has l.bytes at_place) is ∙ has_it),
         ))
-        (λ apart. absurd (apart (ap (λ (e : Entry). e.place) (same_at part found.index was found.entry (done.rest found.index was there (λ seen same. apart same)) found.is_at) ∙ found.of)))
+        (λ apart. absurd (apart (ap (λ (e : KeptAccess). e.place) (same_at part found.index was found.entry (done.rest found.index was there (λ seen same. apart same)) found.is_at) ∙ found.of)))
         (cases_eq was.place place);
     rest = λ past at_place among has_it free.
         let found = from_latest old place past among in

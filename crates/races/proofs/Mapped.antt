@@ -8,7 +8,7 @@ use Rattle.races.specs.Races.{Renews}
 use Rattle.races.specs.Steps.{Step}
 use Rattle.races.specs.Steps.Step.{Touch, Renew}
 use Rattle.races.specs.Words.{IsRenewed, KnowsWord, KnowsWords, PageList, found_at, latest_at}
-use Rattle.races.specs.declared.found.Found.{Found}
+use Rattle.races.specs.declared.found_race.FoundRace.{FoundRace}
 use Rattle.races.specs.declared.latest.Latest.{Latest}
 use Rattle.races.specs.declared.race_map.RaceMap.{RaceMap}
 use Rattle.races.specs.declared.site.Access.{Access}
@@ -18,7 +18,7 @@ use Rattle.races.proofs.Kept.{latest_other, latest_renewed}
 use Rattle.races.proofs.Racing.{found_more}
 
 -- a word that a step is not of
-pub word_other : (steps : List Step) (step : Step) (word : ℕ) (latest : List Latest) (found : List Found) → ((access : Access) → step ≡ Touch access → access.word ≡ word → ⊥) → ((place : ℕ) → place < 4 → Renews step word place → ⊥)
+pub word_other : (steps : List Step) (step : Step) (word : ℕ) (latest : List Latest) (found : List FoundRace) → ((access : Access) → step ≡ Touch access → access.word ≡ word → ⊥) → ((place : ℕ) → place < 4 → Renews step word place → ⊥)
     → KnowsWord steps word latest found → KnowsWord (steps ++ step ∷ []) word latest found
 word_other steps step word latest found not_of not_renews knows = record {
   accesses = latest_other steps step word latest not_of not_renews knows.accesses;
@@ -52,7 +52,7 @@ words_touched steps access old new was now own latest found knows other = ⊎_el
     let known : KnowsWord (steps ++ Touch access ∷ []) other (latest_at old other) (found_at was other) =
     word_other steps (Touch access) other _ _ (λ one is of. let same : access ≡ one = cc is in apart (ap (λ (a : Access). a.word) same ∙ of)) (λ place small renews. renews) (knows other) in
     subst (λ (kept : List Latest). KnowsWord (steps ++ Touch access ∷ []) other kept (found_at now other)) (sym (latest other apart))
-    (subst (λ (races : List Found). KnowsWord (steps ++ Touch access ∷ []) other (latest_at old other) races) (sym (found other apart)) known))
+    (subst (λ (races : List FoundRace). KnowsWord (steps ++ Touch access ∷ []) other (latest_at old other) races) (sym (found other apart)) known))
     (cases_eq access.word other)
 
 -- bytes begin a new life

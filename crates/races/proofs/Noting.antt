@@ -9,7 +9,7 @@ use Rattle.races.specs.Races.{IsRace, IsSamePair, IsToldBy, RaceAt}
 use Rattle.races.specs.Steps.{Step, IsSameInstruction}
 use Rattle.races.specs.Words.{IsGrown, IsNoted, race_of}
 use Rattle.races.specs.declared.site.Site.{Site}
-use Rattle.races.specs.declared.found.Found.{Found}
+use Rattle.races.specs.declared.found_race.FoundRace.{FoundRace}
 
 same_trans : (a b c : Site) → IsSameInstruction a b → IsSameInstruction b c → IsSameInstruction a c
 same_trans a b c one other = (one.0 ∙ other.0, one.1 ∙ other.1)
@@ -58,7 +58,7 @@ set_kept {X} xs index was now x inside at_index (k, small, is) = ⊎_elim
 
 module _ (steps : List Step) (word : ℕ) where
   -- a race with more bytes at which its instructions race
-  grown : (was now race : Found) → IsGrown was now race → IsRace steps (race_of word was) → IsRace steps (race_of word race) → IsRace steps (race_of word now)
+  grown : (was now race : FoundRace) → IsGrown was now race → IsRace steps (race_of word was) → IsRace steps (race_of word race) → IsRace steps (race_of word now)
   grown was now race is old new = record {
     earlier = old.earlier;
     later = old.later;
@@ -84,44 +84,44 @@ module _ (steps : List Step) (word : ℕ) where
         (or_cases (has was.bytes place) (has race.bytes place) (sym (is.bytes place) ∙ there))));
   }
 
-  pub noted_sound : (old new : List Found) (race : Found) → IsNoted old new race → ((one : Found) → Contains old one → IsRace steps (race_of word one)) → IsRace steps (race_of word race)
-      → (one : Found) → Contains new one → IsRace steps (race_of word one)
+  pub noted_sound : (old new : List FoundRace) (race : FoundRace) → IsNoted old new race → ((one : FoundRace) → Contains old one → IsRace steps (race_of word one)) → IsRace steps (race_of word race)
+      → (one : FoundRace) → Contains new one → IsRace steps (race_of word one)
   noted_sound old new race noted were is one among = ⊎_elim
-      (λ pushed. ⊎_elim (λ before. were one before) (λ same. subst (λ (f : Found). IsRace steps (race_of word f)) same is) (Contains-push_cases old race one (subst (λ (all : List Found). Contains all one) pushed among)))
+      (λ pushed. ⊎_elim (λ before. were one before) (λ same. subst (λ (f : FoundRace). IsRace steps (race_of word f)) same is) (Contains-push_cases old race one (subst (λ (all : List FoundRace). Contains all one) pushed among)))
       (λ (index, was, now, inside, at_index, grows, put).
       ⊎_elim
-      (λ same. subst (λ (f : Found). IsRace steps (race_of word f)) same (grown was now race grows (were was (index, inside, at_index)) is))
+      (λ same. subst (λ (f : FoundRace). IsRace steps (race_of word f)) same (grown was now race grows (were was (index, inside, at_index)) is))
       (λ before. were one before)
-      (set_cases old index now one inside (subst (λ (all : List Found). Contains all one) put among)))
+      (set_cases old index now one inside (subst (λ (all : List FoundRace). Contains all one) put among)))
       noted
 
-  pub noted_kept : (old new : List Found) (race : Found) → IsNoted old new race → (first second : Site) (place : ℕ)
-      → (one : Found) × Contains old one × IsToldBy (race_of word one) first second word place → (one : Found) × Contains new one × IsToldBy (race_of word one) first second word place
+  pub noted_kept : (old new : List FoundRace) (race : FoundRace) → IsNoted old new race → (first second : Site) (place : ℕ)
+      → (one : FoundRace) × Contains old one × IsToldBy (race_of word one) first second word place → (one : FoundRace) × Contains new one × IsToldBy (race_of word one) first second word place
   noted_kept old new race noted first second place (one, among, told) = ⊎_elim
-      (λ pushed. (one, subst (λ (all : List Found). Contains all one) (sym pushed) (Contains-append_left old (race ∷ []) one among), told))
+      (λ pushed. (one, subst (λ (all : List FoundRace). Contains all one) (sym pushed) (Contains-append_left old (race ∷ []) one among), told))
       (λ (index, was, now, inside, at_index, grows, put).
       ⊎_elim
       (λ same.
-      let tells = subst (λ (f : Found). IsToldBy (race_of word f) first second word place) (sym same) told in (
+      let tells = subst (λ (f : FoundRace). IsToldBy (race_of word f) first second word place) (sym same) told in (
         now,
-        subst (λ (all : List Found). Contains all now) (sym put) (set_here old index now inside),
+        subst (λ (all : List FoundRace). Contains all now) (sym put) (set_here old index now inside),
         record {
           word_is = refl;
           pair = subst (λ (f : Site). IsSamePair f now.second first second) (sym grows.first) (subst (λ (s : Site). IsSamePair was.first s first second) (sym grows.second) tells.pair);
           has_it = grows.bytes place ∙ or_left (has was.bytes place) (has race.bytes place) tells.has_it;
         },
       ))
-      (λ kept. (one, subst (λ (all : List Found). Contains all one) (sym put) kept, told))
+      (λ kept. (one, subst (λ (all : List FoundRace). Contains all one) (sym put) kept, told))
       (set_kept old index was now one inside at_index among))
       noted
 
-  pub noted_own : (old new : List Found) (race : Found) → IsNoted old new race → (place : ℕ) → has race.bytes place ≡ true
-      → (one : Found) × Contains new one × IsToldBy (race_of word one) race.first race.second word place
+  pub noted_own : (old new : List FoundRace) (race : FoundRace) → IsNoted old new race → (place : ℕ) → has race.bytes place ≡ true
+      → (one : FoundRace) × Contains new one × IsToldBy (race_of word one) race.first race.second word place
   noted_own old new race noted place there = ⊎_elim
-      (λ pushed. (race, subst (λ (all : List Found). Contains all race) (sym pushed) (Contains-push old race), record { word_is = refl; pair = pair_refl race.first race.second; has_it = there }))
+      (λ pushed. (race, subst (λ (all : List FoundRace). Contains all race) (sym pushed) (Contains-push old race), record { word_is = refl; pair = pair_refl race.first race.second; has_it = there }))
       (λ (index, was, now, inside, at_index, grows, put). (
         now,
-        subst (λ (all : List Found). Contains all now) (sym put) (set_here old index now inside),
+        subst (λ (all : List FoundRace). Contains all now) (sym put) (set_here old index now inside),
         record {
           word_is = refl;
           pair = subst (λ (f : Site). IsSamePair f now.second race.first race.second) (sym grows.first) (subst (λ (s : Site). IsSamePair was.first s race.first race.second) (sym grows.second) grows.pair);

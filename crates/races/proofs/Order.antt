@@ -8,7 +8,7 @@ use Rattle.races.specs.Before.HappensBefore.{directly, through}
 use Rattle.races.specs.Clocks.{IsUpTo, Reaches}
 use Rattle.races.specs.Steps.{Step}
 use Rattle.races.specs.Steps.Step.{Order}
-use Rattle.races.specs.declared.place.Place.{Place}
+use Rattle.races.specs.declared.clock_owner.ClockOwner.{ClockOwner}
 
 -- ---- one step more
 
@@ -22,11 +22,11 @@ none_contained : {X : Type 0} (x : X) → Contains [] x → ⊥
 none_contained x (k, inside, is) = absurd (omega arith)
 
 -- only steps that there are pass something on, or take something over
-pub releases_inside : (steps : List Step) (index : ℕ) (place : Place) → Releases (at steps index) place → index < length steps
+pub releases_inside : (steps : List Step) (index : ℕ) (place : ClockOwner) → Releases (at steps index) place → index < length steps
 releases_inside steps index place has =
     ⊎_elim (λ inside. inside) (λ past. absurd (none_contained place (subst (λ (step : Step). Releases step place) (get_or_past steps index (Order [] []) past) has))) (cases_lt index (length steps))
 
-pub acquires_inside : (steps : List Step) (index : ℕ) (place : Place) → Acquires (at steps index) place → index < length steps
+pub acquires_inside : (steps : List Step) (index : ℕ) (place : ClockOwner) → Acquires (at steps index) place → index < length steps
 acquires_inside steps index place has =
     ⊎_elim (λ inside. inside) (λ past. absurd (none_contained place (subst (λ (step : Step). Acquires step place) (get_or_past steps index (Order [] []) past) has))) (cases_lt index (length steps))
 
@@ -92,7 +92,7 @@ pub upto_less : (steps : List Step) (step : Step) {earlier later : ℕ} → IsUp
 upto_less steps step upto inside = ⊎_elim (λ same. inl same) (λ before. inr (before_less steps step before inside)) upto
 
 -- what happens before the last step is what its places have in their pasts
-pub before_last : (steps : List Step) (step : Step) (index : ℕ) → HappensBefore (steps ++ step ∷ []) index (length steps) → (place : Place) × Acquires step place × Reaches steps index place
+pub before_last : (steps : List Step) (step : Step) (index : ℕ) → HappensBefore (steps ++ step ∷ []) index (length steps) → (place : ClockOwner) × Acquires step place × Reaches steps index place
 before_last steps step index before =
     let part = last_part (steps ++ step ∷ []) before in
     let o = part.ordered.0 in
@@ -106,7 +106,7 @@ before_last steps step index before =
       },
     )
 
-pub last_after : (steps : List Step) (step : Step) (index : ℕ) (place : Place) → Acquires step place → Reaches steps index place → HappensBefore (steps ++ step ∷ []) index (length steps)
+pub last_after : (steps : List Step) (step : Step) (index : ℕ) (place : ClockOwner) → Acquires step place → Reaches steps index place → HappensBefore (steps ++ step ∷ []) index (length steps)
 last_after steps step index place acquires reaches =
     let inside = releases_inside steps reaches.last place reaches.releases in
     let ordered : HappensBefore (steps ++ step ∷ []) reaches.last (length steps) = directly (
@@ -121,7 +121,7 @@ last_after steps step index place acquires reaches =
 
 -- ---- the pasts of the places with one step more
 
-pub reaches_more : (steps : List Step) (step : Step) (index : ℕ) (place : Place) → Reaches steps index place → Reaches (steps ++ step ∷ []) index place
+pub reaches_more : (steps : List Step) (step : Step) (index : ℕ) (place : ClockOwner) → Reaches steps index place → Reaches (steps ++ step ∷ []) index place
 reaches_more steps step index place reaches =
     let inside = releases_inside steps reaches.last place reaches.releases in record {
       last = reaches.last;
@@ -129,14 +129,14 @@ reaches_more steps step index place reaches =
       releases = subst (λ (one : Step). Releases one place) (sym (at_before steps step reaches.last inside)) reaches.releases;
     }
 
-pub reaches_own : (steps : List Step) (step : Step) (place : Place) → Releases step place → Reaches (steps ++ step ∷ []) (length steps) place
+pub reaches_own : (steps : List Step) (step : Step) (place : ClockOwner) → Releases step place → Reaches (steps ++ step ∷ []) (length steps) place
 reaches_own steps step place releases = record {
   last = length steps;
   upto = inl refl;
   releases = subst (λ (one : Step). Releases one place) (sym (at_last steps step)) releases;
 }
 
-pub reaches_through : (steps : List Step) (step : Step) (index : ℕ) (taken place : Place) → Acquires step taken → Reaches steps index taken → Releases step place → Reaches (steps ++ step ∷ []) index place
+pub reaches_through : (steps : List Step) (step : Step) (index : ℕ) (taken place : ClockOwner) → Acquires step taken → Reaches steps index taken → Releases step place → Reaches (steps ++ step ∷ []) index place
 reaches_through steps step index taken place acquires reaches releases = record {
   last = length steps;
   upto = inr (last_after steps step index taken acquires reaches);
@@ -144,21 +144,21 @@ reaches_through steps step index taken place acquires reaches releases = record 
 }
 
 -- where a past of a place comes from
-pub reaches_cases : (steps : List Step) (step : Step) (index : ℕ) (place : Place) → index < length steps → Reaches (steps ++ step ∷ []) index place
-    → Reaches steps index place ⊎ (Releases step place × ((taken : Place) × Acquires step taken × Reaches steps index taken))
+pub reaches_cases : (steps : List Step) (step : Step) (index : ℕ) (place : ClockOwner) → index < length steps → Reaches (steps ++ step ∷ []) index place
+    → Reaches steps index place ⊎ (Releases step place × ((taken : ClockOwner) × Acquires step taken × Reaches steps index taken))
 reaches_cases steps step index place inside reaches = ⊎_elim before here (cases_lt reaches.last (length steps))
   where
     more : List Step
     more = steps ++ step ∷ []
 
-    before : reaches.last < length steps → Reaches steps index place ⊎ (Releases step place × ((taken : Place) × Acquires step taken × Reaches steps index taken))
+    before : reaches.last < length steps → Reaches steps index place ⊎ (Releases step place × ((taken : ClockOwner) × Acquires step taken × Reaches steps index taken))
     before earlier = inl (record {
       last = reaches.last;
       upto = upto_less steps step reaches.upto earlier;
       releases = subst (λ (one : Step). Releases one place) (at_before steps step reaches.last earlier) reaches.releases;
     })
 
-    here : length steps ≤ reaches.last → Reaches steps index place ⊎ (Releases step place × ((taken : Place) × Acquires step taken × Reaches steps index taken))
+    here : length steps ≤ reaches.last → Reaches steps index place ⊎ (Releases step place × ((taken : ClockOwner) × Acquires step taken × Reaches steps index taken))
     here past =
         let small = releases_inside more reaches.last place reaches.releases in
         let long = length_push steps step in

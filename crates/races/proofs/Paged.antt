@@ -8,19 +8,19 @@ use Rattle.races.specs.Races.{Renews}
 use Rattle.races.specs.Linked.{latest_in}
 use Rattle.races.specs.Steps.Step.{Renew}
 use Rattle.races.specs.Words.{IsKept, IsRenewed, PageList, latest_at, latest_on}
-use Rattle.races.specs.declared.entry.Entry.{Entry}
+use Rattle.races.specs.declared.kept_access.KeptAccess.{KeptAccess}
 use Rattle.races.specs.declared.latest.Latest.{Latest}
-use Rattle.races.specs.declared.page.Page.{Page}
+use Rattle.races.specs.declared.page_history.PageHistory.{PageHistory}
 use Rattle.races.proofs.Clocked.{get_set, get_set_apart}
 use Rattle.races.proofs.Kept.{renewed_none, renewed_outside, renewed_same}
 
 -- Words of a page below a place are renewed, and the others are as they were.
-abbrev pub ArePartRenewed : (address long base : ℕ) (old new : List Entry) (from count : ℕ) → Type 0
+abbrev pub ArePartRenewed : (address long base : ℕ) (old new : List KeptAccess) (from count : ℕ) → Type 0
 ArePartRenewed address long base old new from count =
     ((place : ℕ) → from ≤ place → place < count → IsRenewed address long (base + place) (latest_in old place) (latest_in new place))
     × ((place : ℕ) → (place < from) ⊎ (count ≤ place) → latest_in new place ≡ latest_in old place)
 
-pub renewed_more : (address long base : ℕ) (old part new : List Entry) (from count : ℕ) → from ≤ count → ((place : ℕ) → (count ≡ place → ⊥) → latest_in new place ≡ latest_in part place)
+pub renewed_more : (address long base : ℕ) (old part new : List KeptAccess) (from count : ℕ) → from ≤ count → ((place : ℕ) → (count ≡ place → ⊥) → latest_in new place ≡ latest_in part place)
     → IsRenewed address long (base + count) (latest_in part count) (latest_in new count) → ArePartRenewed address long base old part from count → ArePartRenewed address long base old new from (count + 1)
 renewed_more address long base old part new from count late others own done = (
   λ place after before. ⊎_elim
@@ -31,7 +31,7 @@ renewed_more address long base old part new from count late others own done = (
   λ place where_it. others place (λ same. ⊎_elim (λ less. absurd (omega arith)) (λ past. absurd (omega arith)) where_it) ∙ done.1 place (⊎_elim (λ less. inl less) (λ past. inr (omega arith)) where_it),
 )
 
-pub renewed_all : (address long base : ℕ) (old new : List Entry) (from end count : ℕ) → end ≤ count → ((place : ℕ) → place < 4096 → (place < from) ⊎ (end ≤ place) → (byte : ℕ) → byte < 4 → Renews (Renew address long) (base + place) byte → ⊥)
+pub renewed_all : (address long base : ℕ) (old new : List KeptAccess) (from end count : ℕ) → end ≤ count → ((place : ℕ) → place < 4096 → (place < from) ⊎ (end ≤ place) → (byte : ℕ) → byte < 4 → Renews (Renew address long) (base + place) byte → ⊥)
     → ArePartRenewed address long base old new from count → (place : ℕ) → place < 4096 → IsRenewed address long (base + place) (latest_in old place) (latest_in new place)
 renewed_all address long base old new from end count all outside done place small = ⊎_elim
     (λ before. stays (inl before))
@@ -45,29 +45,29 @@ renewed_all address long base old new from end count all outside done place smal
 
 -- ---- the pages
 
-pub more_pages : (pages : PageList) (page : Option (Box Page)) → ((place : ℕ) → latest_on (Some page) place ≡ []) → (number place : ℕ) → latest_on (slice_get (pages ++ page ∷ []) number) place ≡ latest_on (slice_get pages number) place
+pub more_pages : (pages : PageList) (page : Option (Box PageHistory)) → ((place : ℕ) → latest_on (Some page) place ≡ []) → (number place : ℕ) → latest_on (slice_get (pages ++ page ∷ []) number) place ≡ latest_on (slice_get pages number) place
 more_pages [] page none zero place = none place
 more_pages [] page none (suc number) place = refl
 more_pages (first ∷ pages) page none zero place = refl
 more_pages (first ∷ pages) page none (suc number) place = more_pages pages page none number place
 
 -- what is kept of a word of a page that is there
-pub latest_found : (slot : Option (Box Page)) (page : Box Page) (found : Page) → slot ≡ Some page → found ≡ page.value → (place : ℕ) → latest_on (Some slot) place ≡ latest_in found.entries.items place
+pub latest_found : (slot : Option (Box PageHistory)) (page : Box PageHistory) (found : PageHistory) → slot ≡ Some page → found ≡ page.value → (place : ℕ) → latest_on (Some slot) place ≡ latest_in found.entries.items place
 latest_found slot page found is value place =
-    ap (λ (slot : Option (Box Page)). latest_on (Some slot) place) is ∙ ap (λ (page : Page). latest_in page.entries.items place) (sym value)
+    ap (λ (slot : Option (Box PageHistory)). latest_on (Some slot) place) is ∙ ap (λ (page : PageHistory). latest_in page.entries.items place) (sym value)
 
-module _ (pages : PageList) (number : ℕ) (was now : Option (Box Page)) (inside : number < length pages) (is : was ≡ get_or pages number was) where
+module _ (pages : PageList) (number : ℕ) (was now : Option (Box PageHistory)) (inside : number < length pages) (is : was ≡ get_or pages number was) where
   pub page_was : (place : ℕ) → latest_on (slice_get pages number) place ≡ latest_on (Some was) place
-  page_was place = ap (λ (page : Option (Option (Box Page))). latest_on page place) (slice_get_read pages (length pages) number was refl inside is)
+  page_was place = ap (λ (page : Option (Option (Box PageHistory))). latest_on page place) (slice_get_read pages (length pages) number was refl inside is)
 
   pub page_is : (place : ℕ) → latest_on (slice_get (set pages number now) number) place ≡ latest_on (Some now) place
-  page_is place = ap (λ (page : Option (Option (Box Page))). latest_on page place) (get_set pages number now inside)
+  page_is place = ap (λ (page : Option (Option (Box PageHistory))). latest_on page place) (get_set pages number now inside)
 
   pub page_other : (other place : ℕ) → (number ≡ other → ⊥) → latest_on (slice_get (set pages number now) other) place ≡ latest_on (slice_get pages other) place
-  page_other other place apart = ap (λ (page : Option (Option (Box Page))). latest_on page place) (get_set_apart pages number other now apart)
+  page_other other place apart = ap (λ (page : Option (Option (Box PageHistory))). latest_on page place) (get_set_apart pages number other now apart)
 
 -- an access is kept of a word
-pub page_kept_own : (pages : PageList) (word number place : ℕ) (was now : Option (Box Page)) (own : Latest) (old : List Latest) → number ≡ word / 4096 → place ≡ word % 4096 → number < length pages → was ≡ get_or pages number was
+pub page_kept_own : (pages : PageList) (word number place : ℕ) (was now : Option (Box PageHistory)) (own : Latest) (old : List Latest) → number ≡ word / 4096 → place ≡ word % 4096 → number < length pages → was ≡ get_or pages number was
     → latest_at pages word ≡ old → IsKept own (latest_on (Some was) place) (latest_on (Some now) place) → IsKept own old (latest_at (set pages number now) word)
 page_kept_own pages word number place was now own old number_is place_is inside is old_is put =
     let here : latest_on (slice_get pages number) place ≡ latest_at pages word = ap (λ (n : ℕ). latest_on (slice_get pages n) place) number_is ∙ ap (λ (n : ℕ). latest_on (slice_get pages (word / 4096)) n) place_is in
@@ -76,7 +76,7 @@ page_kept_own pages word number place was now own old number_is place_is inside 
     subst (λ (before : List Latest). IsKept own before (latest_at (set pages number now) word)) (sym (page_was pages number was now inside is place) ∙ here ∙ old_is)
     (subst (λ (after : List Latest). IsKept own (latest_on (Some was) place) after) (sym (page_is pages number was now inside is place) ∙ there) put)
 
-pub page_kept : (pages : PageList) (word number place : ℕ) (was now : Option (Box Page)) → number ≡ word / 4096 → place ≡ word % 4096 → number < length pages → was ≡ get_or pages number was
+pub page_kept : (pages : PageList) (word number place : ℕ) (was now : Option (Box PageHistory)) → number ≡ word / 4096 → place ≡ word % 4096 → number < length pages → was ≡ get_or pages number was
     → ((other : ℕ) → (place ≡ other → ⊥) → latest_on (Some now) other ≡ latest_on (Some was) other) → (other : ℕ) → (word ≡ other → ⊥) → latest_at (set pages number now) other ≡ latest_at pages other
 page_kept pages word number place was now number_is place_is inside is same other apart = ⊎_elim
     (λ here.
@@ -91,7 +91,7 @@ ArePagesRenewed address long old new from count =
     ((word : ℕ) → from ≤ word / 4096 → word / 4096 < count → IsRenewed address long word (latest_at old word) (latest_at new word))
     × ((word : ℕ) → (word / 4096 < from) ⊎ (count ≤ word / 4096) → latest_at new word ≡ latest_at old word)
 
-pub pages_more : (address long : ℕ) (old part : PageList) (from count base : ℕ) (was now : Option (Box Page)) → from ≤ count → count < length part → was ≡ get_or part count was → base ≡ count * 4096
+pub pages_more : (address long : ℕ) (old part : PageList) (from count base : ℕ) (was now : Option (Box PageHistory)) → from ≤ count → count < length part → was ≡ get_or part count was → base ≡ count * 4096
     → ((place : ℕ) → place < 4096 → IsRenewed address long (base + place) (latest_on (Some was) place) (latest_on (Some now) place)) → ArePagesRenewed address long old part from count
     → ArePagesRenewed address long old (set part count now) from (count + 1)
 pages_more address long old part from count base was now late inside is base_is own done = (
@@ -132,6 +132,6 @@ pages_all address long old new from end count all from_is outside done word = �
         (renewed_outside address long word (latest_at old word)
         (⊎_elim (λ less byte small renews. let r = renews.0 in absurd (omega arith)) (λ past. outside word there (omega arith)) where_it)))
         (λ past.
-        let none = ap (λ (page : Option (Option (Box Page))). latest_on page (word % 4096)) (slice_get_past old (word / 4096) past) in
+        let none = ap (λ (page : Option (Option (Box PageHistory))). latest_on page (word % 4096)) (slice_get_past old (word / 4096) past) in
         renewed_same address long word [] [] (latest_at old word) (latest_at new word) (sym none) (sym (same ∙ none)) (renewed_none address long word))
         (cases_lt (word / 4096) (length old))

@@ -12,11 +12,11 @@ use Rattle.races.specs.Steps.Step.{Touch, Order}
 use Rattle.races.specs.Words.{IsCovered, IsHit, IsLatest, KnowsFound, KnowsLatest, Times, race_of}
 use Rattle.races.specs.declared.byte_set.ByteSet.{ByteSet}
 use Rattle.races.specs.declared.clocks.Clocks.{Clocks}
-use Rattle.races.specs.declared.place.Place.TheVariants.{Thread}
+use Rattle.races.specs.declared.clock_owner.ClockOwner.TheVariants.{Thread}
 use Rattle.races.specs.declared.race.Race.{Race}
 use Rattle.races.specs.declared.site.Access.{Access}
 use Rattle.races.specs.declared.site.Site.{Site}
-use Rattle.races.specs.declared.found.Found.{Found}
+use Rattle.races.specs.declared.found_race.FoundRace.{FoundRace}
 use Rattle.races.specs.declared.latest.Latest.{Latest}
 use Rattle.races.proofs.Follow.{access_inside, apart_kept, kept_with}
 use Rattle.races.proofs.Order.{at_before, at_last, before_last, before_less, before_more, last_after}
@@ -97,7 +97,7 @@ module _ (steps : List Step) (step : Step) where
   }
 
   -- the races found at a word, if the step is no access of it
-  pub found_more : (word : ℕ) (found : List Found) → ((access : Access) → step ≡ Touch access → access.word ≡ word → ⊥) → KnowsFound steps word found → KnowsFound (steps ++ step ∷ []) word found
+  pub found_more : (word : ℕ) (found : List FoundRace) → ((access : Access) → step ≡ Touch access → access.word ≡ word → ⊥) → KnowsFound steps word found → KnowsFound (steps ++ step ∷ []) word found
   found_more word found not_of knows = record {
     sound = λ race among. race_more (race_of word race) (knows.sound race among);
     complete = λ earlier later one other place race.

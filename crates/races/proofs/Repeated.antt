@@ -16,13 +16,13 @@ use Rattle.races.specs.Steps.Step.{Touch}
 use Rattle.races.specs.Words.{KnowsFound, KnowsWords, PageList, Times, found_at, latest_at, race_of}
 use Rattle.races.specs.declared.byte_set.ByteSet.{ByteSet}
 use Rattle.races.specs.declared.clocks.Clocks.{Clocks}
-use Rattle.races.specs.declared.found.Found.{Found}
-use Rattle.races.specs.declared.place.Place.{Place}
-use Rattle.races.specs.declared.place.Place.TheVariants.{Thread}
+use Rattle.races.specs.declared.found_race.FoundRace.{FoundRace}
+use Rattle.races.specs.declared.clock_owner.ClockOwner.{ClockOwner}
+use Rattle.races.specs.declared.clock_owner.ClockOwner.TheVariants.{Thread}
 use Rattle.races.specs.declared.recent.Recent.{Recent}
 use Rattle.races.specs.declared.site.Access.{Access}
 use Rattle.races.specs.declared.site.Site.{Site}
-use Rattle.races.specs.declared.slot.Slot.{Slot}
+use Rattle.races.specs.declared.recent_access.RecentAccess.{RecentAccess}
 use Rattle.races.specs.declared.steps.Steps.{Steps}
 use Rattle.races.specs.declared.word_races.WordRaces.{WordRaces}
 use Rattle.races.proofs.Follow.{access_inside, after_touch, apart_kept, own_cases}
@@ -115,8 +115,8 @@ module _ (steps : List Step) (access : Access) (place : ℕ) (before : WasMade s
       one_is = sym (at_before steps (Touch access) later race.order) ∙ race.first_is
 
   -- with the second time races only what raced with the first
-  told_before : (found : List Found) → KnowsFound steps access.word found → (earlier : ℕ) (one : Access) → AreRacing more earlier (length steps) one access access.word place
-      → (race : Found) × Contains found race × IsToldBy (race_of access.word race) one.site access.site access.word place
+  told_before : (found : List FoundRace) → KnowsFound steps access.word found → (earlier : ℕ) (one : Access) → AreRacing more earlier (length steps) one access access.word place
+      → (race : FoundRace) × Contains found race × IsToldBy (race_of access.word race) one.site access.site access.word place
   told_before found knows earlier one race = ⊎_elim
       (λ sooner.
       let told = knows.complete earlier made one was place (race_before earlier one race sooner) in (
@@ -150,7 +150,7 @@ module _ (steps : List Step) (access : Access) (before : (place : ℕ) → has a
   abbrev then : List Step
   then = steps ++ Touch access ∷ []
 
-  found_repeated : (found : List Found) → KnowsFound steps access.word found → KnowsFound then access.word found
+  found_repeated : (found : List FoundRace) → KnowsFound steps access.word found → KnowsFound then access.word found
   found_repeated found knows = record {
     sound = λ race among. race_more steps (Touch access) (race_of access.word race) (knows.sound race among);
     complete = λ earlier later one other place race. ⊎_elim
@@ -160,7 +160,7 @@ module _ (steps : List Step) (access : Access) (before : (place : ℕ) → has a
   }
     where
       at_end : (earlier later : ℕ) (one other : Access) (place : ℕ) → AreRacing then earlier later one other access.word place → length steps ≤ later
-          → (race : Found) × Contains found race × IsToldBy (race_of access.word race) one.site other.site access.word place
+          → (race : FoundRace) × Contains found race × IsToldBy (race_of access.word race) one.site other.site access.word place
       at_end earlier later one other place race past =
           let inside = access_inside then later other race.second_is in
           let long = length_push steps (Touch access) in
@@ -169,7 +169,7 @@ module _ (steps : List Step) (access : Access) (before : (place : ℕ) → has a
           let same : other ≡ access = cc is in
           let here : AreRacing then earlier (length steps) one access access.word place =
           subst (λ (n : ℕ). AreRacing then earlier n one access access.word place) last (subst (λ (a : Access). AreRacing then earlier later one a access.word place) same race) in
-          subst (λ (a : Access). (found_race : Found) × Contains found found_race × IsToldBy (race_of access.word found_race) one.site a.site access.word place) (sym same) (told_before steps access place (before place here.second_of.has_it) found knows earlier one here)
+          subst (λ (a : Access). (found_race : FoundRace) × Contains found found_race × IsToldBy (race_of access.word found_race) one.site a.site access.word place) (sym same) (told_before steps access place (before place here.second_of.has_it) found knows earlier one here)
 
   pub words_repeated : (pages : PageList) (races : BTreeMap ℕ WordRaces) → KnowsWords steps pages races → KnowsWords then pages races
   words_repeated pages races knows = words_touched steps access pages pages races races (record {
@@ -180,17 +180,17 @@ module _ (steps : List Step) (access : Access) (before : (place : ℕ) → has a
 -- ---- the recent accesses
 
 -- none at first
-pub recent_none : (recent : Recent) (clocks : Clocks) → recent.since ≡ 1 → recent.slots.items ≡ [] → ((place : Place) (thread : ℕ) → time_kept clocks place thread ≡ 0) → KnowsRecent recent clocks []
+pub recent_none : (recent : Recent) (clocks : Clocks) → recent.since ≡ 1 → recent.slots.items ≡ [] → ((place : ClockOwner) (thread : ℕ) → time_kept clocks place thread ≡ 0) → KnowsRecent recent clocks []
 recent_none recent clocks since none zeros = record {
   begun = omega arith;
-  past = λ slot among. absurd (none_contained slot (subst (λ (all : List Slot). Contains all slot) none among));
-  told = λ slot place among late there. absurd (none_contained slot (subst (λ (all : List Slot). Contains all slot) none among));
+  past = λ slot among. absurd (none_contained slot (subst (λ (all : List RecentAccess). Contains all slot) none among));
+  told = λ slot place among late there. absurd (none_contained slot (subst (λ (all : List RecentAccess). Contains all slot) none among));
   lives = λ later word place late renews. renews;
   apart = λ place thread apart. let z = zeros place thread in omega arith;
 }
 
 -- after an access, which may have been noted
-pub recent_touched : (old new : Recent) (clocks : Clocks) (steps : List Step) (access : Access) → new.since ≡ old.since → ((slot : Slot) → Contains new.slots.items slot → IsSlotOf old.slots.items old.since access (length steps) slot)
+pub recent_touched : (old new : Recent) (clocks : Clocks) (steps : List Step) (access : Access) → new.since ≡ old.since → ((slot : RecentAccess) → Contains new.slots.items slot → IsSlotOf old.slots.items old.since access (length steps) slot)
     → KnowsRecent old clocks steps → KnowsRecent new clocks (steps ++ Touch access ∷ [])
 recent_touched old new clocks steps access since noted knows = record {
   begun = let b = knows.begun in omega arith;
@@ -242,7 +242,7 @@ recent_touched old new clocks steps access since noted knows = record {
       of = record { word_is = refl; has_it = there };
     }
 
-    told_now : (slot : Slot) (place : ℕ) → old.since ≤ length steps → IsNotedIn old.slots.items old.since access (length steps) slot → has slot.access.bytes place ≡ true
+    told_now : (slot : RecentAccess) (place : ℕ) → old.since ≤ length steps → IsNotedIn old.slots.items old.since access (length steps) slot → has slot.access.bytes place ≡ true
         → WasAccessed then new.since slot.access.site slot.access.word place
     told_now slot place late own there =
         subst (λ (site : Site). WasAccessed then new.since site slot.access.word place) (sym own.site_is)
@@ -262,21 +262,21 @@ recent_touched old new clocks steps access since noted knows = record {
         own.bytes))
 
 -- after a step from which on they count
-pub recent_forgotten : (old new : Recent) (was now : Clocks) (steps : List Step) (step : Step) → new.since ≡ length steps + 1 → new.slots.items ≡ old.slots.items → ((place : Place) (thread : ℕ) → time_kept now place thread ≤ length steps + 1)
+pub recent_forgotten : (old new : Recent) (was now : Clocks) (steps : List Step) (step : Step) → new.since ≡ length steps + 1 → new.slots.items ≡ old.slots.items → ((place : ClockOwner) (thread : ℕ) → time_kept now place thread ≤ length steps + 1)
     → KnowsRecent old was steps → KnowsRecent new now (steps ++ step ∷ [])
 recent_forgotten old new was now steps step since same bound knows =
     let long = length_push steps step in
     record {
       begun = omega arith;
-      past = λ slot among. let small = knows.past slot (subst (λ (all : List Slot). Contains all slot) same among) in omega arith;
-      told = λ slot place among late there. let small = knows.past slot (subst (λ (all : List Slot). Contains all slot) same among) in absurd (omega arith);
+      past = λ slot among. let small = knows.past slot (subst (λ (all : List RecentAccess). Contains all slot) same among) in omega arith;
+      told = λ slot place among late there. let small = knows.past slot (subst (λ (all : List RecentAccess). Contains all slot) same among) in absurd (omega arith);
       lives = λ later word place late renews. let inside = renews_inside (steps ++ step ∷ []) later word place renews in absurd (omega arith);
       apart = λ place thread apart. let b = bound place thread in omega arith;
     }
 
 -- only its own thread has a recent access in its past
 only_own : (steps : List Step) (clocks : Clocks) (recent : Recent) (made : ℕ) (access : Access) → Times steps clocks → KnowsRecent recent clocks steps → at steps made ≡ Touch access → recent.since ≤ made
-    → (place : Place) → Reaches steps made place → Thread access.site.thread ≡ place
+    → (place : ClockOwner) → Reaches steps made place → Thread access.site.thread ≡ place
 only_own steps clocks recent made access times knows is late place reaches = ⊎_elim
     (λ same. sym same.0)
     (λ other.
@@ -286,7 +286,7 @@ only_own steps clocks recent made access times knows is late place reaches = ⊎
     (own_cases (length steps) place access.site.thread)
 
 -- a recent access that is made again changes nothing that is kept of words
-words_again : (steps : List Step) (clocks : Clocks) (recent : Recent) (access : Access) (slot : Slot) (pages : PageList) (races : BTreeMap ℕ WordRaces) → Times steps clocks → KnowsRecent recent clocks steps
+words_again : (steps : List Step) (clocks : Clocks) (recent : Recent) (access : Access) (slot : RecentAccess) (pages : PageList) (races : BTreeMap ℕ WordRaces) → Times steps clocks → KnowsRecent recent clocks steps
     → Contains recent.slots.items slot → IsWithin access slot.access → recent.since ≤ slot.step → KnowsWords steps pages races → KnowsWords (steps ++ Touch access ∷ []) pages races
 words_again steps clocks recent access slot pages races times knows_recent among within late knows = words_repeated steps access made_before pages races knows
   where

@@ -7,23 +7,23 @@ use Rattle.races.specs.Recording.{Adds, KnowsSteps, Records, RecordsMore, depth_
 use Rattle.races.specs.Steps.{Step, depth_after, outside, steps_from, steps_in, steps_of}
 use Rattle.races.specs.Steps.Step.{Touch}
 use Rattle.races.specs.declared.depths.Depths.{Depths}
-use Rattle.races.specs.declared.event.Event.{Event}
-use Rattle.races.specs.declared.event.Event.TheVariants.{Access as Accessed}
+use Rattle.races.specs.declared.observed_event.ObservedEvent.{ObservedEvent}
+use Rattle.races.specs.declared.observed_event.ObservedEvent.TheVariants.{Access as Accessed}
 use Rattle.races.specs.declared.recorder.RaceRecorder.{RaceRecorder}
 use Rattle.races.specs.declared.site.Access.{Access}
 
-depths_more : (depth : ℕ → ℕ) (history : List Event) (event : Event) → depths_from depth (history ++ event ∷ []) ≡ depth_after (depths_from depth history) event
+depths_more : (depth : ℕ → ℕ) (history : List ObservedEvent) (event : ObservedEvent) → depths_from depth (history ++ event ∷ []) ≡ depth_after (depths_from depth history) event
 depths_more depth [] event = refl
 depths_more depth (first ∷ history) event = depths_more (depth_after depth first) history event
 
-steps_more : (depth : ℕ → ℕ) (history : List Event) (event : Event) → steps_from depth (history ++ event ∷ []) ≡ steps_from depth history ++ steps_of (depths_from depth history) event
+steps_more : (depth : ℕ → ℕ) (history : List ObservedEvent) (event : ObservedEvent) → steps_from depth (history ++ event ∷ []) ≡ steps_from depth history ++ steps_of (depths_from depth history) event
 steps_more depth [] event = append-nil (steps_of depth event)
 steps_more depth (first ∷ history) event =
     ap (λ (rest : List Step). steps_of depth first ++ rest) (steps_more (depth_after depth first) history event)
     ∙ sym (append_assoc (steps_of depth first) (steps_from (depth_after depth first) history) (steps_of (depths_from (depth_after depth first) history) event))
 
 -- the depths and the steps with an event more
-pub told_more : (old new : RaceRecorder) (history : List Event) (event : Event) → ((thread : ℕ) → depth_of new.depths thread ≡ depth_after (depth_of old.depths) event thread)
+pub told_more : (old new : RaceRecorder) (history : List ObservedEvent) (event : ObservedEvent) → ((thread : ℕ) → depth_of new.depths thread ≡ depth_after (depth_of old.depths) event thread)
     → Adds old.steps (steps_of (depth_of old.depths) event) new.steps → Records old history → Records new (history ++ event ∷ [])
 told_more old new history event depths steps records =
     let same : depth_of old.depths ≡ depths_in history = fun_ext records.depths in record {
@@ -42,7 +42,7 @@ pub outside_is : (depth : ℕ → ℕ) (thread : ℕ) (step : Step) → (depth t
 outside_is depth thread step is = ap (λ (b : Bool). if b then step ∷ [] else []) is
 
 -- nothing more
-pub told_same : (old new : RaceRecorder) → new.depths ≡ old.depths → ((steps : List Step) → KnowsSteps old.steps steps → KnowsSteps new.steps steps) → (history : List Event) → Records old history → Records new history
+pub told_same : (old new : RaceRecorder) → new.depths ≡ old.depths → ((steps : List Step) → KnowsSteps old.steps steps → KnowsSteps new.steps steps) → (history : List ObservedEvent) → Records old history → Records new history
 told_same old new depths steps history records = record {
   depths = λ thread. ap (λ (one : Depths). depth_of one thread) depths ∙ records.depths thread;
   steps = steps (steps_in history) records.steps;

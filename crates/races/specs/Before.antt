@@ -1,28 +1,28 @@
 -- Which of the steps of a run comes before which.
 use Rattle.std.specs.Prelude.{◌≡◌, ℕ, ◌<◌, List, [], Contains, slice_index_or}
 use Rattle.races.specs.Steps.{Step, Touch, Order, Renew}
-use Rattle.races.specs.declared.place.Place.{Place}
-use Rattle.races.specs.declared.place.Place.TheVariants.{Thread}
+use Rattle.races.specs.declared.clock_owner.ClockOwner.{ClockOwner}
+use Rattle.races.specs.declared.clock_owner.ClockOwner.TheVariants.{Thread}
 
 -- the step at an index; past the end nothing happens
 abbrev pub at : List Step → ℕ → Step
 at steps index = slice_index_or steps index (Order [] [])
 
 -- a step takes over the past of a place; an access, of its thread
-abbrev pub Acquires : Step → Place → Type 0
+abbrev pub Acquires : Step → ClockOwner → Type 0
 Acquires (Touch access) place = Thread access.site.thread ≡ place
 Acquires (Order acquired released) place = Contains acquired place
 Acquires (Renew address length) place = ⊥
 
 -- a step passes its past on to a place; an access, to its thread
-abbrev pub Releases : Step → Place → Type 0
+abbrev pub Releases : Step → ClockOwner → Type 0
 Releases (Touch access) place = Thread access.site.thread ≡ place
 Releases (Order acquired released) place = Contains released place
 Releases (Renew address length) place = ⊥
 
 -- a step passes its past on to a place from which a later one takes it over
 abbrev pub IsOrdered : List Step → (earlier later : ℕ) → Type 0
-IsOrdered steps earlier later = (earlier < later) × ((place : Place) × Releases (at steps earlier) place × Acquires (at steps later) place)
+IsOrdered steps earlier later = (earlier < later) × ((place : ClockOwner) × Releases (at steps earlier) place × Acquires (at steps later) place)
 
 -- Happens before: the least transitive relation that holds of each two such steps.
 pub data HappensBefore (steps : List Step) : (earlier later : ℕ) → Type 0 where

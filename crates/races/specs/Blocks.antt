@@ -2,7 +2,7 @@
 use Rattle.std.specs.Prelude.{◌≡◌, ◌≢◌, ℕ, ◌/◌, ◌<◌, ◌≤◌, true, false, List, length, slice_index_or}
 use Rattle.races.specs.Linked.{IsAt}
 use Rattle.races.specs.declared.block.Block.{Block}
-use Rattle.races.specs.declared.entry.Entry.{Entry}
+use Rattle.races.specs.declared.kept_access.KeptAccess.{KeptAccess}
 use Rattle.races.specs.declared.latest.Latest.{Latest}
 
 -- An access is the owner's; or one of the only other thread, not after a step; or several other threads had accesses.
@@ -20,8 +20,8 @@ abbrev pub IsBlockOf : List Block → (place : ℕ) → Block → Type 0
 IsBlockOf blocks place block = IsBlockAt blocks (place / 64) block
 
 -- each entry is known to its block
-abbrev pub AreKnown : List Block → List Entry → Type 0
-AreKnown blocks entries = (index : ℕ) (entry : Entry) (block : Block) → IsAt entries index entry → IsBlockOf blocks entry.place block → IsKnown block entry.latest
+abbrev pub AreKnown : List Block → List KeptAccess → Type 0
+AreKnown blocks entries = (index : ℕ) (entry : KeptAccess) (block : Block) → IsAt entries index entry → IsBlockOf blocks entry.place block → IsKnown block entry.latest
 
 -- an access of the word at a place may be kept
 abbrev pub MayCome : List Block → (place : ℕ) → Latest → Type 0

@@ -7,9 +7,9 @@ use Rattle.races.specs.Steps.{Step}
 use Rattle.races.specs.Steps.Step.{Touch}
 use Rattle.races.specs.declared.clock.Clock.{Clock}
 use Rattle.races.specs.declared.clocks.Clocks.{Clocks}
-use Rattle.races.specs.declared.place.Place.{Place}
+use Rattle.races.specs.declared.clock_owner.ClockOwner.{ClockOwner}
 use Rattle.races.specs.declared.site.Access.{Access}
-use Rattle.races.specs.declared.place.Place.TheVariants.{Thread, Ended, Mutex, Object}
+use Rattle.races.specs.declared.clock_owner.ClockOwner.TheVariants.{Thread, Ended, Mutex, Object}
 
 -- a thread's time: the past holds its accesses before this step
 abbrev pub time : Clock → (thread : ℕ) → ℕ
@@ -36,27 +36,27 @@ abbrev pub time_of : List Clock → (key thread : ℕ) → ℕ
 time_of clocks key thread = time_by (slice_get clocks key) thread
 
 -- the times that are kept of a place of each kind
-abbrev pub times_of : (threads : List Clock) (ended mutexes objects : BTreeMap ℕ Clock) → Place → (thread : ℕ) → ℕ
+abbrev pub times_of : (threads : List Clock) (ended mutexes objects : BTreeMap ℕ Clock) → ClockOwner → (thread : ℕ) → ℕ
 times_of threads ended mutexes objects (Thread thread) other = time_of threads thread other
 times_of threads ended mutexes objects (Ended thread) other = time_in ended thread other
 times_of threads ended mutexes objects (Mutex mutex) other = time_in mutexes mutex other
 times_of threads ended mutexes objects (Object object) other = time_in objects object other
 
-abbrev pub time_kept : Clocks → Place → (thread : ℕ) → ℕ
+abbrev pub time_kept : Clocks → ClockOwner → (thread : ℕ) → ℕ
 time_kept clocks = times_of clocks.threads.clocks.items clocks.ended clocks.mutexes clocks.objects
 
 -- what a thread did before this step is in its own past
-abbrev pub own_time : (step : ℕ) → Place → (thread : ℕ) → ℕ
+abbrev pub own_time : (step : ℕ) → ClockOwner → (thread : ℕ) → ℕ
 own_time step (Thread thread) other = if thread == other then step else 0
 own_time step (Ended thread) other = 0
 own_time step (Mutex mutex) other = 0
 own_time step (Object object) other = 0
 
 -- the times of a place at a step
-abbrev pub times_with : (step : ℕ) → (kept : Place → ℕ → ℕ) → Place → (thread : ℕ) → ℕ
+abbrev pub times_with : (step : ℕ) → (kept : ClockOwner → ℕ → ℕ) → ClockOwner → (thread : ℕ) → ℕ
 times_with step kept place thread = max (kept place thread) (own_time step place thread)
 
-abbrev pub time_at : Clocks → (step : ℕ) → Place → (thread : ℕ) → ℕ
+abbrev pub time_at : Clocks → (step : ℕ) → ClockOwner → (thread : ℕ) → ℕ
 time_at clocks step = times_with step (time_kept clocks)
 
 -- the same step or one that happens before
@@ -64,17 +64,17 @@ abbrev pub IsUpTo : List Step → (earlier later : ℕ) → Type 0
 IsUpTo steps earlier later = (earlier ≡ later) ⊎ HappensBefore steps earlier later
 
 -- a step is in the past that a place has
-pub record Reaches (steps : List Step) (index : ℕ) (place : Place) : Type 0 where
+pub record Reaches (steps : List Step) (index : ℕ) (place : ClockOwner) : Type 0 where
   pub last : ℕ
   pub upto : IsUpTo steps index last
   pub releases : Releases (at steps last) place
 
 -- The times of each place say which accesses its past has.
-pub record Follows (steps : List Step) (times : Place → ℕ → ℕ) : Type 0 where
-  pub known : (place : Place) (index : ℕ) → (access : Access) → at steps index ≡ Touch access → Reaches steps index place ↔ (index < times place access.site.thread)
-  pub bound : (place : Place) (thread : ℕ) → times place thread ≤ length steps
+pub record Follows (steps : List Step) (times : ClockOwner → ℕ → ℕ) : Type 0 where
+  pub known : (place : ClockOwner) (index : ℕ) → (access : Access) → at steps index ≡ Touch access → Reaches steps index place ↔ (index < times place access.site.thread)
+  pub bound : (place : ClockOwner) (thread : ℕ) → times place thread ≤ length steps
 
 -- The times that are kept after an order: each place to which it passes a past on goes as far as before, or as one from which it takes it.
-abbrev pub IsAfterOrder : (old new taken : Place → ℕ → ℕ) (acquired released : List Place) → Type 0
-IsAfterOrder old new taken acquired released = (place : Place) (thread index : ℕ)
-    → (index < new place thread) ↔ ((index < old place thread) ⊎ (Contains released place × ((from : Place) × Contains acquired from × (index < taken from thread))))
+abbrev pub IsAfterOrder : (old new taken : ClockOwner → ℕ → ℕ) (acquired released : List ClockOwner) → Type 0
+IsAfterOrder old new taken acquired released = (place : ClockOwner) (thread index : ℕ)
+    → (index < new place thread) ↔ ((index < old place thread) ⊎ (Contains released place × ((from : ClockOwner) × Contains acquired from × (index < taken from thread))))

@@ -1,10 +1,10 @@
 -- The events of a run, and what of them is looked at.
 use Rattle.std.specs.Prelude.{◌≡◌, ℕ, ◌+◌, ◌-◌, ◌==◌, if◌then◌else◌, List, [], ◌∷◌, ◌++◌, map}
 use Rattle.std.specs.List.{filter}
-use Rattle.races.specs.declared.event.Event.{Event}
-use Rattle.races.specs.declared.event.Event.TheVariants as event
-use Rattle.races.specs.declared.place.Place.{Place}
-use Rattle.races.specs.declared.place.Place.TheVariants.{Thread, Ended, Mutex, Object}
+use Rattle.races.specs.declared.observed_event.ObservedEvent.{ObservedEvent}
+use Rattle.races.specs.declared.observed_event.ObservedEvent.TheVariants as event
+use Rattle.races.specs.declared.clock_owner.ClockOwner.{ClockOwner}
+use Rattle.races.specs.declared.clock_owner.ClockOwner.TheVariants.{Thread, Ended, Mutex, Object}
 use Rattle.races.specs.declared.site.Access.{Access}
 use Rattle.races.specs.declared.site.Site.{Site}
 
@@ -12,7 +12,7 @@ use Rattle.races.specs.declared.site.Site.{Site}
 -- life.
 pub data Step : Type 0 where
   Touch : Access → Step
-  Order : (acquired released : List Place) → Step
+  Order : (acquired released : List ClockOwner) → Step
   Renew : (address length : ℕ) → Step
 
 -- both are the same instruction, and both load or both store
@@ -24,7 +24,7 @@ abbrev pub IsSameAuthor : Site → Site → Type 0
 IsSameAuthor site other = (site.thread ≡ other.thread) × IsSameInstruction site other
 
 -- how many library regions each thread is in, after an event
-abbrev pub depth_after : (ℕ → ℕ) → Event → ℕ → ℕ
+abbrev pub depth_after : (ℕ → ℕ) → ObservedEvent → ℕ → ℕ
 depth_after depth (event.Enter thread) other = if thread == other then depth other + 1 else depth other
 depth_after depth (event.Leave thread) other = if thread == other then depth other - 1 else depth other
 depth_after depth event other = depth other
@@ -38,15 +38,15 @@ abbrev pub both_outside : (ℕ → ℕ) → (thread other : ℕ) → Step → Li
 both_outside depth thread other step = if depth other == 0 then outside depth thread step else []
 
 -- those of a round's threads that are in no library region
-abbrev pub threads_outside : (ℕ → ℕ) → List ℕ → List Place
+abbrev pub threads_outside : (ℕ → ℕ) → List ℕ → List ClockOwner
 threads_outside depth threads = map Thread (filter (λ thread. depth thread == 0) threads)
 
 -- a thread passes its past on to a place
-abbrev pub passing : (thread : ℕ) → Place → Step
+abbrev pub passing : (thread : ℕ) → ClockOwner → Step
 passing thread place = Order (Thread thread ∷ []) (Thread thread ∷ place ∷ [])
 
 -- a thread takes over a place's past
-abbrev pub taking : (thread : ℕ) → Place → Step
+abbrev pub taking : (thread : ℕ) → ClockOwner → Step
 taking thread place = Order (Thread thread ∷ place ∷ []) (Thread thread ∷ [])
 
 -- what a round of a barrier makes of its threads: each takes over the past of all
@@ -57,7 +57,7 @@ meeting depth threads = Order (threads_outside depth threads) (threads_outside d
 -- a create passes it on to the thread that it makes; an end, to the joins of it; the release of a mutex, to its later acquisitions;
 -- a signal or broadcast, to who it lets go; a round of a barrier, what each of its threads did to all of them; a hint *release*, to
 -- each later hint *acquire* of its object. In a library region only a create and the hints are looked at.
-abbrev pub steps_of : (ℕ → ℕ) → Event → List Step
+abbrev pub steps_of : (ℕ → ℕ) → ObservedEvent → List Step
 steps_of depth (event.Access access) = outside depth access.site.thread (Touch access)
 steps_of depth (event.Create thread created) = passing thread (Thread created) ∷ []
 steps_of depth (event.End thread) = outside depth thread (passing thread (Ended thread))
@@ -73,10 +73,10 @@ steps_of depth (event.Leave thread) = []
 steps_of depth (event.Fresh address length) = Renew address length ∷ []
 
 -- what is looked at of some events, from the depths before them
-abbrev pub steps_from : (ℕ → ℕ) → List Event → List Step
+abbrev pub steps_from : (ℕ → ℕ) → List ObservedEvent → List Step
 steps_from depth [] = []
 steps_from depth (event ∷ events) = steps_of depth event ++ steps_from (depth_after depth event) events
 
 -- what is looked at of a run: at first no thread is in a library region
-abbrev pub steps_in : List Event → List Step
+abbrev pub steps_in : List ObservedEvent → List Step
 steps_in history = steps_from (λ thread. 0) history

@@ -3,11 +3,11 @@ ghost use Rattle.std.specs.Prelude.{◌≡◌, ℕ, ◌<◌, ◌↔◌, Contains
 ghost use Rattle.std.specs.Ordering.{nat_cmp};
 ghost use Rattle.std.specs.BTreeMap.{get};
 ghost use Rattle.races.specs.Clocks.{time, time_at, time_in, time_kept, time_of, IsJoined, IsAfterOrder, JoinsAt};
-ghost use Rattle.races.specs.declared.place.Place.{Place as ClockPlace};
-ghost use Rattle.races.specs.declared.place.Place.TheVariants.{Thread};
+ghost use Rattle.races.specs.declared.clock_owner.ClockOwner.{ClockOwner as ClockPlace};
+ghost use Rattle.races.specs.declared.clock_owner.ClockOwner.TheVariants.{Thread};
 
 use crate::clock::Clock;
-use crate::place::Place;
+use crate::clock_owner::ClockOwner;
 use crate::thread_clocks::ThreadClocks;
 use std::alloc::{AllocError, Global};
 use std::collections::BTreeMap;
@@ -52,8 +52,8 @@ impl Clocks {
     pub(crate) fn order(
         &mut self,
         step: u64,
-        acquired: &[Place],
-        released: &[Place],
+        acquired: &[ClockOwner],
+        released: &[ClockOwner],
     ) -> Result<(), AllocError>
         ensures { OnOk result (IsAfterOrder (time_kept self.old) (time_kept self.new) (time_at self.old step) acquired.now released.now) }
     {
@@ -65,7 +65,7 @@ impl Clocks {
     }
 
     /// The pasts of some places together, at a step.
-    fn past_of(&self, step: u64, acquired: &[Place]) -> Result<Clock, AllocError>
+    fn past_of(&self, step: u64, acquired: &[ClockOwner]) -> Result<Clock, AllocError>
         ensures { IfOk result (λ clock. (thread index : ℕ) →
             (index < time clock thread)
             ↔ ((taken : ClockPlace) × Contains acquired.now taken × (index < time_at self.now step taken thread))) }
@@ -78,14 +78,14 @@ impl Clocks {
     }
 
     /// Adds a place's past at a step to a clock.
-    fn add(&self, step: u64, place: Place, past: &mut Clock) -> Result<(), AllocError>
+    fn add(&self, step: u64, place: ClockOwner, past: &mut Clock) -> Result<(), AllocError>
         ensures { OnOk result (IsJoined (time past.old) (time past.new) (time_at self.now step place)) }
     {
         match place {
-            Place::Thread(thread) => self.add_thread(step, thread, past),
-            Place::Ended(thread) => add_in(&self.ended, u32::from(thread), past),
-            Place::Mutex(mutex) => add_in(&self.mutexes, mutex, past),
-            Place::Object(object) => add_in(&self.objects, object, past),
+            ClockOwner::Thread(thread) => self.add_thread(step, thread, past),
+            ClockOwner::Ended(thread) => add_in(&self.ended, u32::from(thread), past),
+            ClockOwner::Mutex(mutex) => add_in(&self.mutexes, mutex, past),
+            ClockOwner::Object(object) => add_in(&self.objects, object, past),
         }
     }
 
@@ -98,15 +98,15 @@ impl Clocks {
     }
 
     /// Adds a past to a place's clock.
-    fn join(&mut self, place: Place, past: &Clock) -> Result<(), AllocError>
+    fn join(&mut self, place: ClockOwner, past: &Clock) -> Result<(), AllocError>
         ensures { OnOk result (JoinsAt (time_kept self.old) place (time past.now) (time_kept self.new)) }
     {
         let alloc = self.alloc;
         match place {
-            Place::Thread(thread) => self.threads.join(thread, past),
-            Place::Ended(thread) => join_in(alloc, &mut self.ended, u32::from(thread), past),
-            Place::Mutex(mutex) => join_in(alloc, &mut self.mutexes, mutex, past),
-            Place::Object(object) => join_in(alloc, &mut self.objects, object, past),
+            ClockOwner::Thread(thread) => self.threads.join(thread, past),
+            ClockOwner::Ended(thread) => join_in(alloc, &mut self.ended, u32::from(thread), past),
+            ClockOwner::Mutex(mutex) => join_in(alloc, &mut self.mutexes, mutex, past),
+            ClockOwner::Object(object) => join_in(alloc, &mut self.objects, object, past),
         }
     }
 }

@@ -14,7 +14,7 @@ impl Depths {
     ghost use Rattle.std.specs.Prelude.{ℕ, ◌==◌, IfOk, OnOk};
     ghost use Rattle.races.specs.Recording.{depth_of};
     ghost use Rattle.races.specs.Steps.{depth_after};
-    ghost use Rattle.races.specs.declared.event.Event.TheVariants.{Enter, Leave};
+    ghost use Rattle.races.specs.declared.observed_event.ObservedEvent.TheVariants.{Enter, Leave};
 
     /// No thread is in one.
     pub(crate) fn new(alloc: Global) -> Result<Self, AllocError>

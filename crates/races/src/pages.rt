@@ -5,7 +5,7 @@ ghost use Rattle.races.specs.Words.{IsRenewed, KeepsAt, latest_at};
 
 use crate::fresh::Fresh;
 use crate::latest::Latest;
-use crate::page::{PAGE_WORDS, Page};
+use crate::page_history::{PAGE_WORDS, PageHistory};
 use std::alloc::{AllocError, Global};
 
 /// The pages by their numbers. A run's pages lie far apart, so those of which no word was accessed take next to no room.
@@ -13,7 +13,7 @@ use std::alloc::{AllocError, Global};
 pub(crate) struct Pages {
     alloc: Global,
     /// None for a page of which no word was accessed, and nothing for those past the last one of which one was.
-    pages: Vec<Option<Box<Page>>>,
+    pages: Vec<Option<Box<PageHistory>>>,
 }
 
 impl Pages {
@@ -28,7 +28,7 @@ impl Pages {
     }
 
     /// The page of a word, if there is one.
-    pub(crate) fn page(&self, word: u32) -> Option<&Page>
+    pub(crate) fn page(&self, word: u32) -> Option<&PageHistory>
         ensures { MatchOption result (latest_at self.now.pages.items word ≡ [])
             (λ page. latest_in page.now.entries.items (word % 4096) ≡ latest_at self.now.pages.items word) }
     {
@@ -87,11 +87,11 @@ impl Pages {
 }
 
 /// A page of which one word was accessed, the one at a place.
-fn first_page(alloc: Global, place: usize, own: Latest) -> Result<Box<Page>, AllocError>
+fn first_page(alloc: Global, place: usize, own: Latest) -> Result<Box<PageHistory>, AllocError>
     requires { place < 4096 }
     ensures { IfOk result (λ page. KeepsAt (λ word. []) place own (latest_in page.value.entries.items)) }
 {
-    let mut page = Page::new(alloc);
+    let mut page = PageHistory::new(alloc);
     page.keep(alloc, place, own)?;
     Ok(Box::new(alloc, page)?)
 }

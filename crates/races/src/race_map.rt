@@ -4,9 +4,9 @@ ghost use Rattle.std.specs.Ordering.{nat_cmp};
 ghost use Rattle.std.specs.BTreeMap.{IsOrdered, get};
 ghost use Rattle.races.specs.Words.{IsNoted, StaysElsewhere, found_at, told_at, told_of};
 
-use crate::found::Found;
+use crate::found_race::FoundRace;
+use crate::ordered_race::OrderedRace;
 use crate::race::Race;
-use crate::told::Told;
 use crate::word_races::WordRaces;
 use std::alloc::{AllocError, Global};
 use std::collections::BTreeMap;
@@ -32,7 +32,7 @@ impl RaceMap {
     /// Notes a race at a word.
     #[cold]
     #[inline(never)]
-    pub(crate) fn note(&mut self, word: u32, race: Found) -> Result<(), AllocError>
+    pub(crate) fn note(&mut self, word: u32, race: FoundRace) -> Result<(), AllocError>
         ensures noted { OnOk result (IsNoted (found_at self.old.words word) (found_at self.new.words word) race) }
         ensures others { OnOk result (StaysElsewhere (found_at self.old.words) word (found_at self.new.words)) }
     {
@@ -43,7 +43,7 @@ impl RaceMap {
     }
 
     /// Notes the first race at a word.
-    fn begin(&mut self, word: u32, race: Found) -> Result<(), AllocError>
+    fn begin(&mut self, word: u32, race: FoundRace) -> Result<(), AllocError>
         ensures noted { get nat_cmp self.old.words word ≡ None → OnOk result (IsNoted [] (found_at self.new.words word) race) }
         ensures others { OnOk result (StaysElsewhere (found_at self.old.words) word (found_at self.new.words)) }
     {
@@ -54,7 +54,7 @@ impl RaceMap {
     }
 
     /// The races found.
-    pub(crate) fn told(&self) -> Result<Vec<Told>, AllocError>
+    pub(crate) fn told(&self) -> Result<Vec<OrderedRace>, AllocError>
         ensures told { IfOk result (λ told. told.items ≡ told_of self.now.words.entries) }
         ensures ordered { IsOrdered nat_cmp self.now.words }
     {
@@ -67,11 +67,11 @@ impl RaceMap {
 }
 
 /// Appends the races found at a word.
-fn push_told(told: &mut Vec<Told>, word: u32, found: &[Found]) -> Result<(), AllocError>
+fn push_told(told: &mut Vec<OrderedRace>, word: u32, found: &[FoundRace]) -> Result<(), AllocError>
     ensures { OnOk result (told.new.items ≡ told.old.items ++ map (told_at word) found.now) }
 {
     for race in found {
-        told.push(Told {
+        told.push(OrderedRace {
             race: Race {
                 word,
                 bytes: race.bytes,

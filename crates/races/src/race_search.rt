@@ -5,7 +5,7 @@ ghost use Rattle.races.specs.Words.{IsFinding, KnowsLatest, StaysElsewhere, Time
 ghost use Rattle.races.specs.declared.latest.Latest.{Latest as Past};
 
 use crate::clocks::Clocks;
-use crate::found::Found;
+use crate::found_race::FoundRace;
 use crate::latest::Latest;
 use crate::race_map::RaceMap;
 use crate::site::Access;
@@ -33,7 +33,7 @@ pub(crate) fn find_race(
     if bytes.is_empty() {
         return Ok(());
     }
-    let race = Found {
+    let race = FoundRace {
         bytes,
         first: past.site,
         second: access.site,

@@ -1,10 +1,10 @@
 //! The accesses that were told lately, some of them.
 ghost use Rattle.std.specs.Prelude.{◌≡◌, ◌≤◌, ◌⊎◌, [], Contains, IsTrue};
 ghost use Rattle.races.specs.Recent.{IsRecent, IsSlotOf};
-ghost use Rattle.races.specs.declared.slot.Slot.{Slot as Told};
+ghost use Rattle.races.specs.declared.recent_access.RecentAccess.{RecentAccess as Told};
 
+use crate::recent_access::RecentAccess;
 use crate::site::Access;
-use crate::slot::Slot;
 use std::alloc::Global;
 
 /// So many slots there are at first, and at most: powers of two.
@@ -25,7 +25,7 @@ const SPREAD: u32 = 0x9e37_79b1;
 pub(crate) struct Recent {
     alloc: Global,
     /// The access that was last noted in each slot.
-    slots: Vec<Slot>,
+    slots: Vec<RecentAccess>,
     /// One less than the slots are that are used: the first ones.
     mask: usize,
     /// How many accesses were noted since the last call of `forget_before`.
@@ -134,7 +134,7 @@ impl Recent {
             self.mask = count - 1;
             return;
         }
-        match vec![in self.alloc; Slot::new(); count] {
+        match vec![in self.alloc; RecentAccess::new(); count] {
             Ok(slots) => {
                 self.slots = slots;
                 self.mask = count - 1;

@@ -4,17 +4,17 @@ ghost use Rattle.races.specs.Races.{AreRaces};
 ghost use Rattle.races.specs.Recording.{Records, RecordsMore, RecordsOrBreaks, Takes, depth_of};
 ghost use Rattle.races.specs.Steps.{both_outside, meeting, outside, passing, steps_in, taking, threads_outside};
 ghost use Rattle.races.specs.Steps.Step.{Touch};
-ghost use Rattle.races.specs.declared.event.Event.{Event as RunEvent};
-ghost use Rattle.races.specs.declared.event.Event.TheVariants.{Access as Accessed};
-ghost use Rattle.races.specs.declared.place.Place.TheVariants.{Thread};
+ghost use Rattle.races.specs.declared.observed_event.ObservedEvent.{ObservedEvent as RunEvent};
+ghost use Rattle.races.specs.declared.observed_event.ObservedEvent.TheVariants.{Access as Accessed};
+ghost use Rattle.races.specs.declared.clock_owner.ClockOwner.TheVariants.{Thread};
 
+use crate::clock_owner::ClockOwner;
 use crate::depths::Depths;
-use crate::event::Event;
-use crate::place::Place;
+use crate::observed_event::ObservedEvent;
+use crate::ordered_race::OrderedRace;
 use crate::race::Race;
 use crate::site::Access;
 use crate::steps::Steps;
-use crate::told::Told;
 use std::alloc::{AllocError, Global};
 
 /// Is told the events of a run in the order of its turns, and finds the races.
@@ -56,14 +56,14 @@ impl RaceRecorder {
     ///
     /// Out of memory. Then the recorder is broken: each later call fails in the same way. An event past 2^62 of them, and
     /// a library region inside 2^64 others, count as out of memory too.
-    pub fn record(&mut self, event: &Event) -> Result<(), AllocError>
+    pub fn record(&mut self, event: &ObservedEvent) -> Result<(), AllocError>
         ensures recorded { OnOk result
             ((history : List RunEvent) → Records self.old history → Records self.new (history ++ event.now ∷ [])) }
         ensures broken { OnErr result (self.new.is_broken ≡ true) }
         ensures stays { OnOk result (self.old.is_broken ≡ false) }
     {
         match event {
-            Event::Access(access) => self.record_access(access),
+            ObservedEvent::Access(access) => self.record_access(access),
             _ => self.record_other(event),
         }
     }
@@ -134,7 +134,7 @@ impl RaceRecorder {
 
     /// Records an event in the long way.
     #[inline(never)]
-    fn record_other(&mut self, event: &Event) -> Result<(), AllocError>
+    fn record_other(&mut self, event: &ObservedEvent) -> Result<(), AllocError>
         ensures { RecordsOrBreaks self.old event.now self.new result }
     {
         if self.is_broken {
@@ -150,26 +150,44 @@ impl RaceRecorder {
     }
 
     /// Tells what is looked at of an event.
-    fn tell(&mut self, event: &Event) -> Result<(), AllocError>
+    fn tell(&mut self, event: &ObservedEvent) -> Result<(), AllocError>
         ensures { OnOk result (RecordsMore self.old event.now self.new) }
     {
         match event {
-            Event::Access(access) => self.access(access),
-            Event::Create { thread, created } => self.pass(*thread, Place::Thread(*created)),
-            Event::End { thread } => self.pass_outside(*thread, Place::Ended(*thread)),
-            Event::Join { thread, ended } => self.take_outside(*thread, Place::Ended(*ended)),
-            Event::Unlock { thread, mutex } => self.pass_outside(*thread, Place::Mutex(*mutex)),
-            Event::Lock { thread, mutex } => self.take_outside(*thread, Place::Mutex(*mutex)),
-            Event::LetGo { thread, waiter } => self.let_go(*thread, *waiter),
-            Event::Round { threads } => self.meet(threads),
-            Event::Acquire { thread, object } => self.take(*thread, Place::Object(*object)),
-            Event::Release { thread, object } => self.pass(*thread, Place::Object(*object)),
-            Event::Enter { thread } => self.depths.enter(*thread),
-            Event::Leave { thread } => {
+            ObservedEvent::Access(access) => self.access(access),
+            ObservedEvent::Create { thread, created } => self.pass(
+                *thread,
+                ClockOwner::Thread(*created),
+            ),
+            ObservedEvent::End { thread } => self.pass_outside(*thread, ClockOwner::Ended(*thread)),
+            ObservedEvent::Join { thread, ended } => self.take_outside(
+                *thread,
+                ClockOwner::Ended(*ended),
+            ),
+            ObservedEvent::Unlock { thread, mutex } => self.pass_outside(
+                *thread,
+                ClockOwner::Mutex(*mutex),
+            ),
+            ObservedEvent::Lock { thread, mutex } => self.take_outside(
+                *thread,
+                ClockOwner::Mutex(*mutex),
+            ),
+            ObservedEvent::LetGo { thread, waiter } => self.let_go(*thread, *waiter),
+            ObservedEvent::Round { threads } => self.meet(threads),
+            ObservedEvent::Acquire { thread, object } => self.take(
+                *thread,
+                ClockOwner::Object(*object),
+            ),
+            ObservedEvent::Release { thread, object } => self.pass(
+                *thread,
+                ClockOwner::Object(*object),
+            ),
+            ObservedEvent::Enter { thread } => self.depths.enter(*thread),
+            ObservedEvent::Leave { thread } => {
                 self.depths.leave(*thread);
                 Ok(())
             }
-            Event::Fresh { address, length } => self.steps.renew(*address, *length),
+            ObservedEvent::Fresh { address, length } => self.steps.renew(*address, *length),
         }
     }
 
@@ -185,23 +203,23 @@ impl RaceRecorder {
     }
 
     /// A thread passes its past on to a place.
-    fn pass(&mut self, thread: u8, place: Place) -> Result<(), AllocError>
+    fn pass(&mut self, thread: u8, place: ClockOwner) -> Result<(), AllocError>
         ensures { Takes self.old (passing thread place ∷ []) self.new result }
     {
-        let own = Place::Thread(thread);
+        let own = ClockOwner::Thread(thread);
         self.steps.order(&[own], &[own, place])
     }
 
     /// A thread takes over a place's past.
-    fn take(&mut self, thread: u8, place: Place) -> Result<(), AllocError>
+    fn take(&mut self, thread: u8, place: ClockOwner) -> Result<(), AllocError>
         ensures { Takes self.old (taking thread place ∷ []) self.new result }
     {
-        let own = Place::Thread(thread);
+        let own = ClockOwner::Thread(thread);
         self.steps.order(&[own, place], &[own])
     }
 
     /// A thread passes its past on to a place, if it is in no library region.
-    fn pass_outside(&mut self, thread: u8, place: Place) -> Result<(), AllocError>
+    fn pass_outside(&mut self, thread: u8, place: ClockOwner) -> Result<(), AllocError>
         ensures { Takes self.old (outside (depth_of self.old.depths) thread (passing thread place)) self.new result }
     {
         if self.depths.is_outside(thread) {
@@ -212,7 +230,7 @@ impl RaceRecorder {
     }
 
     /// A thread takes over a place's past, if it is in no library region.
-    fn take_outside(&mut self, thread: u8, place: Place) -> Result<(), AllocError>
+    fn take_outside(&mut self, thread: u8, place: ClockOwner) -> Result<(), AllocError>
         ensures { Takes self.old (outside (depth_of self.old.depths) thread (taking thread place)) self.new result }
     {
         if self.depths.is_outside(thread) {
@@ -227,7 +245,7 @@ impl RaceRecorder {
         ensures { Takes self.old (both_outside (depth_of self.old.depths) thread waiter (passing thread (Thread waiter))) self.new result }
     {
         if self.depths.is_outside(waiter) {
-            self.pass_outside(thread, Place::Thread(waiter))
+            self.pass_outside(thread, ClockOwner::Thread(waiter))
         } else {
             Ok(())
         }
@@ -243,18 +261,22 @@ impl RaceRecorder {
 }
 
 /// Those of some threads that are in no library region.
-fn places_outside(alloc: Global, depths: &Depths, threads: &[u8]) -> Result<Vec<Place>, AllocError>
+fn places_outside(
+    alloc: Global,
+    depths: &Depths,
+    threads: &[u8],
+) -> Result<Vec<ClockOwner>, AllocError>
     ensures { IfOk result (λ places. places.items ≡ threads_outside (depth_of depths.now) threads.now) }
 {
     threads
         .iter()
         .filter(|thread| depths.is_outside(**thread))
-        .map(|thread| Place::Thread(*thread))
+        .map(|thread| ClockOwner::Thread(*thread))
         .collect(alloc)
 }
 
 /// The races themselves.
-fn races_of(alloc: Global, told: &[Told]) -> Result<Vec<Race>, AllocError>
+fn races_of(alloc: Global, told: &[OrderedRace]) -> Result<Vec<Race>, AllocError>
     ensures { IfOk result (λ races. races.items ≡ map (λ one. one.race) told.now) }
 {
     told.iter().map(|one| one.race).collect(alloc)

@@ -1,7 +1,7 @@
 //! Where an access is to be kept.
 ghost use Rattle.std.specs.Prelude.{◌≡◌, ℕ, List};
 ghost use Rattle.races.specs.Linked.{IsAt, IsSpot};
-ghost use Rattle.races.specs.declared.entry.Entry.{Entry};
+ghost use Rattle.races.specs.declared.kept_access.KeptAccess.{KeptAccess};
 ghost use Rattle.races.specs.declared.latest.Latest.{Latest};
 
 use crate::byte_set::ByteSet;
@@ -20,7 +20,7 @@ pub(crate) enum Spot {
 impl Spot {
     /// The spot once the next entry of the word, with these bytes and at this index, was passed.
     pub(crate) fn past(self, index: usize, bytes: ByteSet) -> Spot
-        ensures { (firsts : List ℕ) (entries : List Entry) (place number : ℕ) (own : Latest) (entry : Entry)
+        ensures { (firsts : List ℕ) (entries : List KeptAccess) (place number : ℕ) (own : Latest) (entry : KeptAccess)
             → IsSpot firsts entries place number own self → IsAt entries index entry → entry.place ≡ place → entry.latest.bytes ≡ bytes
             → IsSpot firsts entries place entry.next own result }
     {

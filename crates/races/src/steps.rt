@@ -6,12 +6,12 @@ ghost use Rattle.races.specs.Recording.{Adds, KnowsSteps};
 ghost use Rattle.races.specs.Steps.Step.{Touch, Order, Renew};
 ghost use Rattle.races.specs.Words.{told_of};
 
+use crate::clock_owner::ClockOwner;
 use crate::clocks::Clocks;
 use crate::fresh::Fresh;
-use crate::place::Place;
+use crate::ordered_race::OrderedRace;
 use crate::recent::Recent;
 use crate::site::Access;
-use crate::told::Told;
 use crate::words::Words;
 use std::alloc::{AllocError, Global};
 
@@ -73,7 +73,11 @@ impl Steps {
     }
 
     /// An event that takes over the pasts of some places and passes its own on to others.
-    pub(crate) fn order(&mut self, acquired: &[Place], released: &[Place]) -> Result<(), AllocError>
+    pub(crate) fn order(
+        &mut self,
+        acquired: &[ClockOwner],
+        released: &[ClockOwner],
+    ) -> Result<(), AllocError>
         ensures { OnOk result (Adds self.old (Order acquired.now released.now ∷ []) self.new) }
     {
         let more = self.more()?;
@@ -95,7 +99,7 @@ impl Steps {
     }
 
     /// The races found.
-    pub(crate) fn told(&self) -> Result<Vec<Told>, AllocError>
+    pub(crate) fn told(&self) -> Result<Vec<OrderedRace>, AllocError>
         ensures told { IfOk result (λ told. told.items ≡ told_of self.now.words.races.words.entries) }
         ensures ordered { IsOrdered nat_cmp self.now.words.races.words }
     {

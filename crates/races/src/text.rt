@@ -8,7 +8,7 @@ use crate::race::Race;
 use crate::site::Site;
 use itoa::Buffer;
 use std::alloc::{AllocError, Global};
-use symbols::{Place, Symbols};
+use symbols::{SymbolOffset, Symbols};
 use text_output::write_hexadecimal;
 
 /// As many races have a line.
@@ -69,7 +69,11 @@ fn write_names(text: &mut String, race: &Race, symbols: &Symbols) -> Result<(), 
 
 /// Appends a place after the name of its field, if there is one.
 #[tactic(auto, unfolding(crate::specs::Texts::place_text))]
-fn write_place(text: &mut String, field: &str, place: Option<Place<'_>>) -> Result<(), AllocError>
+fn write_place(
+    text: &mut String,
+    field: &str,
+    place: Option<SymbolOffset<'_>>,
+) -> Result<(), AllocError>
     ensures { OnOk result (string_bytes text.new ≡ string_bytes text.old ++ place_text field.now (option_map told place.entry)) }
 {
     match place {

@@ -2,9 +2,9 @@
 ghost use Rattle.std.specs.Prelude.{◌≡◌, ℕ, ◌<◌, [], IfSome, OnOk, length, slice_index_or};
 ghost use Rattle.races.specs.Races.{IsSamePair};
 ghost use Rattle.races.specs.Words.{IsNoted};
-ghost use Rattle.races.specs.declared.found.Found.{Found as Race};
+ghost use Rattle.races.specs.declared.found_race.FoundRace.{FoundRace as Race};
 
-use crate::found::Found;
+use crate::found_race::FoundRace;
 use crate::site::Site;
 use std::alloc::{AllocError, Global};
 
@@ -12,7 +12,7 @@ use std::alloc::{AllocError, Global};
 #[derive(Drop)]
 pub(crate) struct WordRaces {
     /// One for each two instructions.
-    pub(crate) found: Vec<Found>,
+    pub(crate) found: Vec<FoundRace>,
 }
 
 impl WordRaces {
@@ -26,7 +26,7 @@ impl WordRaces {
     }
 
     /// Notes a race: its bytes at the race of its instructions, if there is one, else itself.
-    pub(crate) fn note(&mut self, race: Found) -> Result<(), AllocError>
+    pub(crate) fn note(&mut self, race: FoundRace) -> Result<(), AllocError>
         ensures { OnOk result (IsNoted self.old.found.items self.new.found.items race) }
     {
         note(&mut self.found, race)
@@ -34,7 +34,7 @@ impl WordRaces {
 }
 
 /// Notes a race among others.
-fn note(found: &mut Vec<Found>, race: Found) -> Result<(), AllocError>
+fn note(found: &mut Vec<FoundRace>, race: FoundRace) -> Result<(), AllocError>
     ensures { OnOk result (IsNoted found.old.items found.new.items race) }
 {
     match find_pair(found, race.first, race.second) {
@@ -49,7 +49,7 @@ fn note(found: &mut Vec<Found>, race: Found) -> Result<(), AllocError>
 }
 
 /// The first race of two instructions.
-fn find_pair(found: &[Found], first: Site, second: Site) -> Option<usize>
+fn find_pair(found: &[FoundRace], first: Site, second: Site) -> Option<usize>
     ensures within { IfSome result (λ index. index < length found.now) }
     ensures pair { IfSome result (λ index. (d : Race) →
         IsSamePair (slice_index_or found.now index d).first (slice_index_or found.now index d).second first second) }

@@ -9,10 +9,10 @@ ghost use Rattle.races.specs.Words.{KnowsFound, KnowsWords, StaysElsewhere, Time
 use crate::clocks::Clocks;
 use crate::fresh::Fresh;
 use crate::latest::Latest;
+use crate::ordered_race::OrderedRace;
 use crate::pages::{Pages, place_of};
 use crate::race_map::RaceMap;
 use crate::site::Access;
-use crate::told::Told;
 use std::alloc::{AllocError, Global};
 
 /// What is kept of each word.
@@ -78,7 +78,7 @@ impl Words {
     }
 
     /// The races found.
-    pub(crate) fn told(&self) -> Result<Vec<Told>, AllocError>
+    pub(crate) fn told(&self) -> Result<Vec<OrderedRace>, AllocError>
         ensures told { IfOk result (λ told. told.items ≡ told_of self.now.races.words.entries) }
         ensures ordered { IsOrdered nat_cmp self.now.races.words }
     {

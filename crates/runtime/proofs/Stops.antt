@@ -7,7 +7,7 @@ use Rattle.runtime.specs.Faults.{fault_of, told}
 use Rattle.runtime.specs.Recorded.{AnswersRecorded, Ends, EndsOrRecords, RecordsPrefix, RecordsUnended, Recording}
 use Rattle.runtime.specs.Run.{IsAccepted, setup_from}
 use Rattle.runtime.specs.Sending.{CountsFailures, SendsEnd, SendsPrefix, SendsSoFar}
-use Rattle.runtime.specs.declared.config.Config.{Config}
+use Rattle.shuffled_phases.specs.declared.config.Config.{Config}
 use Rattle.runtime.specs.declared.interruption.Interruption.{Interruption}
 use Rattle.runtime.specs.declared.interruption.Interruption.TheVariants as stop
 use Rattle.runtime.specs.declared.run_end.RunEnd.{RunEnd}

@@ -2,9 +2,9 @@
 use Rattle.std.proofs.Common.{◌≡◌, ◌<◌, ◌≤◌, ◌&&◌, ℕ, Bool, true, Option, Some, None, nat_le}
 use Rattle.std.specs.Option.{option_map_or, IfSome}
 use Rattle.std.proofs.lemmas.Bool.{and_parts, leb-true}
-use Rattle.runtime.specs.Config.{is_numbered, is_valid}
-use Rattle.runtime.specs.Span.{is_span}
-use Rattle.runtime.specs.declared.config.Config.{Config}
+use Rattle.shuffled_phases.specs.Config.{is_numbered, is_valid}
+use Rattle.shuffled_phases.specs.Span.{is_span}
+use Rattle.shuffled_phases.specs.declared.config.Config.{Config}
 use Rattle.abi.specs.Limits as limit
 
 record InSpan (n : ℕ) : Type 0 where

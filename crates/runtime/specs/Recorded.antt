@@ -15,7 +15,7 @@ use Rattle.runtime.specs.Faults.{refusal_of}
 use Rattle.runtime.specs.Run.{IsAccepted, Refuses, setup_from}
 use Rattle.runtime.specs.Sending.{CountsFailures, SendsSoFar}
 use Rattle.runtime.specs.Turns.{GoesOnSunk, Sunk}
-use Rattle.runtime.specs.declared.config.Config.{Config}
+use Rattle.shuffled_phases.specs.declared.config.Config.{Config}
 use Rattle.runtime.specs.declared.interruption.Interruption.{Interruption}
 use Rattle.runtime.specs.declared.interruption.Interruption.TheVariants as stop
 use Rattle.runtime.specs.declared.recorded_run.RecordedRun.{RecordedRun}

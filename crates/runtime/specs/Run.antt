@@ -6,11 +6,11 @@ use Rattle.elf32_reader.specs.Refusals.{first_refusal}
 use Rattle.token.specs.RunInTurn.{point_of}
 use Rattle.token.specs.Setup.{Setup, setup_of}
 use Rattle.token.specs.declared.run_in_turn.RunInTurn.{RunInTurn}
-use Rattle.runtime.specs.Config.{is_valid}
+use Rattle.shuffled_phases.specs.Config.{is_valid}
 use Rattle.abi.specs.Limits as limit
 use Rattle.runtime.specs.Faults.{refusal_of}
 use Rattle.runtime.specs.Reports.{Reports}
-use Rattle.runtime.specs.declared.config.Config.{Config}
+use Rattle.shuffled_phases.specs.declared.config.Config.{Config}
 use Rattle.runtime.specs.declared.open_fault.OpenFault.{OpenFault}
 use Rattle.runtime.specs.declared.open_fault.OpenFault.TheVariants.{Refused, OutOfMemory}
 use Rattle.runtime.specs.declared.refusal.Refusal.{Refusal}

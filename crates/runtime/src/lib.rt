@@ -2,7 +2,6 @@
 #![tactic(auto)]
 
 mod all_taken;
-mod config;
 mod interruption;
 mod look;
 mod open_fault;
@@ -22,7 +21,6 @@ mod write_sink;
 
 pub use abi::limits::{MAX_BOUND, MAX_INPUT, MAX_WORKERS};
 pub use all_taken::AllTaken;
-pub use config::Config;
 pub use interruption::Interruption;
 pub use open_fault::OpenFault;
 pub use opening::open_image;
@@ -35,7 +33,7 @@ pub use run_end::RunEnd;
 pub use run_fault::RunFault;
 pub use running::{run, run_into};
 pub use sending::send;
-pub use shuffled_phases::Shuffle;
+pub use shuffled_phases::{Config, Shuffle};
 pub use sink::{Sink, SinkFault};
 pub use token::{Both, Kept, NoRecord, Recorder, RunOutcome, Start};
 pub use write_sink::WriteSink;

@@ -1,11 +1,11 @@
 //! Opens a run: looks at the configuration, the input's size and the file, in this order.
 ghost use Rattle.runtime.specs.Run.{Opens};
 
-use crate::config::Config;
 use crate::open_fault::OpenFault;
 use crate::refusal::Refusal;
 use abi::limits::MAX_INPUT;
 use elf32_reader::{ElfFault, Image, read};
+use shuffled_phases::Config;
 use std::alloc::Global;
 
 /// The image of a file, where the configuration, the input and the file are in order, looked at in this turn.

@@ -7,7 +7,6 @@ ghost use Rattle.runtime.specs.Recorded.{AnswersRecorded, ComesTo, IsConcluded, 
 ghost use Rattle.runtime.specs.Run.{OpensRun, setup_from};
 ghost use Rattle.runtime.specs.Sending.{CountsFailures, SendsEnd};
 
-use crate::config::Config;
 use crate::interruption::Interruption;
 use crate::open_fault::OpenFault;
 use crate::opening::open_image;
@@ -19,6 +18,7 @@ use crate::sink::Sink;
 use crate::turns::take_turns;
 use abi::limits::MAX_WORKERS;
 use phase_jobs::Gate;
+use shuffled_phases::Config;
 use std::alloc::Global;
 use std::marker::Brand;
 use std::sync::Wait;

@@ -4,7 +4,6 @@ ghost use Rattle.runtime.specs.Run.{Answers, setup_from};
 ghost use Rattle.runtime.specs.Sending.{CountsFailures, Sends};
 
 use crate::all_taken::AllTaken;
-use crate::config::Config;
 use crate::recorded_run::RecordedRun;
 use crate::recording::run_recorded;
 use crate::report::Report;
@@ -12,6 +11,7 @@ use crate::reporting::report;
 use crate::run_fault::RunFault;
 use crate::sink::Sink;
 use phase_jobs::Gate;
+use shuffled_phases::Config;
 use std::alloc::Global;
 use std::sync::Wait;
 use std::thread::Threads;

@@ -16,7 +16,7 @@ use std::alloc::Global;
 use std::sync::Wait;
 use std::thread::{Threads, join_mut};
 use token::{Need, Recorder, RunOutcome, Serial, TurnFault, Work};
-use worker_pool::{Crew, EndsOfRun, OfRun, Pool};
+use worker_pool::{EndsOfRun, OfRun, Pool, WorkerChannels};
 
 /// Does the next turn, or answers how the run ended or that a worker is wanted first.
 fn take_turn<B: OfRun + Send + Sync, R: Wait, K: Recorder, G: Gate>(
@@ -152,7 +152,7 @@ fn go_on_with<
     pool: &mut Pool<B>,
     gate: &G,
     sink: &mut S,
-    crew: &Crew<EndsOfRun<B>>,
+    worker_channels: &WorkerChannels<EndsOfRun<B>>,
 ) -> Result<RunOutcome, Interruption>
     requires { MayGoOn S.failed B.setup serial.old sink.old }
     ensures { GoesOn K.writes S.taken S.failed Some result serial.old serial.new sink.old sink.new }
@@ -163,12 +163,12 @@ fn go_on_with<
     pool.add_worker();
     let (_, result) = join_mut(
         rt,
-        &mut || crew.serve(rt, gate),
+        &mut || worker_channels.serve(rt, gate),
         &mut || -> Result<RunOutcome, Interruption>
             requires { IsSync R.row × IsSync G.row × IsSync B.row × IsSend B.row × MayGoOn S.failed B.setup serial.now sink.now }
             ensures { GoesOn K.writes S.taken S.failed Some result serial.entry.now serial.exit.now sink.entry.now sink.exit.now }
         {
-            let outcome = go_on_with(rt, serial, pool, gate, sink, crew);
+            let outcome = go_on_with(rt, serial, pool, gate, sink, worker_channels);
             pool.dismiss();
             outcome
         },
@@ -193,8 +193,8 @@ fn go_on_hiring<
     requires { MayGoOn S.failed B.setup serial.old sink.old }
     ensures { GoesOn K.writes S.taken S.failed Some result serial.old serial.new sink.old sink.new }
 {
-    let crew = pool.hire()?;
-    go_on_with(rt, serial, pool, gate, sink, &crew)
+    let worker_channels = pool.hire()?;
+    go_on_with(rt, serial, pool, gate, sink, &worker_channels)
 }
 
 /// Does all turns with so many host threads at most, the caller's included, and sends the output of each before the

@@ -2,7 +2,7 @@
 -- next instruction from the job's start.
 use Rattle.std.specs.Prelude.{◌≡◌, ℕ, ◌+◌, Bool, true, false, ◌&&◌, not, nat_lt, min, if◌then◌else◌, Option, Some, None, List, [], ◌∷◌, length, replicate, slice_get, slice_set}
 use Rattle.schedule.specs.Verdict.{Verdict, GoesOn, Stops, EndsRun}
-use Rattle.schedule.specs.declared.progress.Progress.{Progress}
+use Rattle.schedule.specs.declared.job_progress.JobProgress.{JobProgress}
 use Rattle.schedule.specs.declared.event.Event.{Event}
 use Rattle.schedule.specs.declared.event.Event.TheVariants.{Draw, Step, Note, Skip, Post, Hold, Turn}
 use Rattle.schedule.specs.declared.fate.Fate.{Fate}
@@ -28,11 +28,11 @@ abbrev pub Verdicts : Type 0
 Verdicts = ℕ → ℕ → Verdict
 
 -- a segment that has made no step
-abbrev pub begun : Progress
+abbrev pub begun : JobProgress
 begun = record { steps = 0; stopped = false }
 
 -- a segment after one more event: it has made a step more, or it has stopped
-abbrev pub advanced : Verdict → Progress → Progress
+abbrev pub advanced : Verdict → JobProgress → JobProgress
 advanced GoesOn progress = record progress { steps = progress.steps + 1 }
 advanced Stops progress = record progress { stopped = true }
 advanced EndsRun progress = record progress { stopped = true }

@@ -4,11 +4,11 @@
 pub mod end;
 pub mod event;
 pub mod fate;
-pub mod progress;
+pub mod job_progress;
 pub mod worker;
 
 pub use end::ends_run;
 pub use event::Event;
 pub use fate::Fate;
-pub use progress::Progress;
+pub use job_progress::JobProgress;
 pub use worker::{Held, Worker};

@@ -1,5 +1,5 @@
 //! What a worker is at in a phase: nothing, a job, or its end for this phase.
-use crate::progress::Progress;
+use crate::job_progress::JobProgress;
 
 /// What a worker has of a job.
 #[derive(Clone, Copy, Debug, PartialEq, Eq)]
@@ -7,7 +7,7 @@ pub struct Held {
     /// The job's number in its phase, from 0.
     pub job: u32,
     /// How far its segment has come.
-    pub progress: Progress,
+    pub progress: JobProgress,
     /// It was made known that it has ended the run.
     pub noted: bool,
 }

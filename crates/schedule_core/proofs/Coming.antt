@@ -12,7 +12,7 @@ use Rattle.hart.specs.declared.stop.Stop.{Stop}
 use Rattle.hart.specs.declared.stop.Stop.TheVariants.{Trap, Ecall, Quantum}
 use Rattle.schedule.specs.Phase.{advanced, is_end}
 use Rattle.schedule.specs.Verdict.{GoesOn, Stops, EndsRun, ends_run, verdict_after, verdict_in, verdict_of}
-use Rattle.schedule.specs.declared.progress.Progress.{Progress}
+use Rattle.schedule.specs.declared.job_progress.JobProgress.{JobProgress}
 use Rattle.segment.specs.declared.segment.Segment.{Segment}
 use Rattle.schedule_core.specs.Underway.{HasCome, limit_at}
 
@@ -126,11 +126,11 @@ counts_step segment memory hart next_hart cells next_cells steps stop come free 
     verdict_now segment memory hart cells steps come.reached ∙ ap (verdict_of hart) (below_limit segment steps (next hart cells) free ∙ ap stop_of goes)
 
 -- or that it has stopped
-advanced_by : (ends : Bool) (progress : Progress) → advanced (if ends then EndsRun else Stops) progress ≡ record progress { stopped = true }
+advanced_by : (ends : Bool) (progress : JobProgress) → advanced (if ends then EndsRun else Stops) progress ≡ record progress { stopped = true }
 advanced_by true progress = refl
 advanced_by false progress = refl
 
-pub counts_stop : (segment : Segment) (memory : Memory) (hart : HartState) (cells : Memory) (steps : ℕ) (stop : Stop) (progress : Progress)
+pub counts_stop : (segment : Segment) (memory : Memory) (hart : HartState) (cells : Memory) (steps : ℕ) (stop : Stop) (progress : JobProgress)
     → HasCome segment memory hart cells steps (Some stop)
     → advanced (verdict_after segment.hart memory segment.left segment.quantum steps) progress ≡ record progress { stopped = true }
 counts_stop segment memory hart cells steps stop progress come =

@@ -12,7 +12,7 @@ use Rattle.schedule.specs.Phase.{Counts, Verdicts, advanced, drawing, is_draw, i
 use Rattle.schedule.specs.Phase.{worker_of as worker_in}
 use Rattle.schedule.specs.declared.event.Event.{Event}
 use Rattle.schedule.specs.declared.event.Event.TheVariants.{Draw, Step, Note, Skip, Post, Hold, Turn}
-use Rattle.schedule.specs.declared.progress.Progress.{Progress}
+use Rattle.schedule.specs.declared.job_progress.JobProgress.{JobProgress}
 use Rattle.schedule.specs.declared.fate.Fate.{Fate}
 use Rattle.schedule.specs.declared.worker.Held.{Held as Counted}
 use Rattle.schedule.specs.declared.worker.Worker.{Worker}
@@ -24,8 +24,8 @@ use Rattle.token.specs.declared.need.Work.{Work}
 use Rattle.schedule_core.specs.Jobs.{Start, verdict_by, verdicts_of, work_at}
 use Rattle.schedule_core.specs.Underway.{progress_of, memory_of, verdict_of}
 use Rattle.schedule_core.specs.Scene.{IsDesk, IsHeld, IsSeat, counts_by, fate_of, one_if_ended, counted_of, worker_of}
-use Rattle.schedule_core.specs.declared.underway.Underway.{Underway}
-use Rattle.schedule_core.specs.declared.seat.Held.{Held}
+use Rattle.schedule_core.specs.declared.stepped_segment.SteppedSegment.{SteppedSegment}
+use Rattle.schedule_core.specs.declared.seat.SteppedJob.{SteppedJob}
 use Rattle.schedule_core.specs.declared.seat.Seat.{Seat}
 use Rattle.schedule_core.specs.declared.seat.Seat.TheVariants.{Idle, Ended, Working}
 use Rattle.schedule_core.specs.declared.slot.Slot.{Slot}
@@ -54,7 +54,7 @@ made_at verdicts drawn least seats slots w seat event its is =
     ∙ ap (λ state. made_for verdicts (counts_by drawn least seats slots) w state event) (told_at seats w seat is)
 
 -- the verdict on a job that a worker has
-pub held_verdict : (start : Start) (held : Held) → IsHeld start held → verdict_of held.underway ≡ verdicts_of start held.job held.underway.steps
+pub held_verdict : (start : Start) (held : SteppedJob) → IsHeld start held → verdict_of held.underway ≡ verdicts_of start held.job held.underway.steps
 unfolding verdicts_of
 held_verdict start held is =
     ap (λ work. verdict_by (memory_of held.underway) work held.underway.steps) is.work ∙ ap (λ memory. verdict_by memory (work_at start held.job) held.underway.steps) is.memory
@@ -75,28 +75,28 @@ counts_draw verdicts drawn least seats slots w seat idle draws =
     ∙ sym (made_at verdicts drawn least seats slots w Idle (Draw w) refl idle)
 
 -- step
-pub counts_step : (start : Start) (drawn least : ℕ) (seats : List Seat) (slots : List Slot) (w : ℕ) (held : Held) (underway : Underway)
+pub counts_step : (start : Start) (drawn least : ℕ) (seats : List Seat) (slots : List Slot) (w : ℕ) (held : SteppedJob) (underway : SteppedSegment)
     → slice_get seats w ≡ Some (Working held) → IsHeld start held → progress_of underway ≡ advanced (verdict_of held.underway) (progress_of held.underway)
     → counts_by drawn least (slice_set seats w (Working (record held { underway = underway }))) slots ≡ made (verdicts_of start) (counts_by drawn least seats slots) (Step w)
 counts_step start drawn least seats slots w held underway is holds goes =
     set_told drawn least seats slots w (Working (record held { underway = underway }))
     (worker.Working (record { job = held.job; progress = advanced (verdicts_of start held.job held.underway.steps) (progress_of held.underway); noted = held.noted }))
-    (ap (λ (progress : Progress). let counted : Counted = record { job = held.job; progress = progress; noted = held.noted } in worker.Working counted)
+    (ap (λ (progress : JobProgress). let counted : Counted = record { job = held.job; progress = progress; noted = held.noted } in worker.Working counted)
     (goes ∙ ap (λ verdict. advanced verdict (progress_of held.underway)) (held_verdict start held holds)))
     ∙ sym (made_at (verdicts_of start) drawn least seats slots w (Working held) (Step w) refl is)
 
 -- a step that found no memory
-pub counts_kept : (drawn least : ℕ) (seats : List Seat) (slots : List Slot) (w : ℕ) (held : Held) (underway : Underway)
+pub counts_kept : (drawn least : ℕ) (seats : List Seat) (slots : List Slot) (w : ℕ) (held : SteppedJob) (underway : SteppedSegment)
     → slice_get seats w ≡ Some (Working held) → progress_of underway ≡ progress_of held.underway
     → counts_by drawn least (slice_set seats w (Working (record held { underway = underway }))) slots ≡ counts_by drawn least seats slots
 counts_kept drawn least seats slots w held underway is same =
     ap (λ (workers : List Worker). let counts : Counts = record { drawn = drawn; least = least; workers = workers; fates = map fate_of slots } in counts)
     (map-set_same worker_of seats w (Working (record held { underway = underway })) (Working held)
-    (ap (λ (progress : Progress). let counted : Counted = record { job = held.job; progress = progress; noted = held.noted } in worker.Working counted) same
+    (ap (λ (progress : JobProgress). let counted : Counted = record { job = held.job; progress = progress; noted = held.noted } in worker.Working counted) same
     ∙ ap worker_of (sym (get_or_from_slice_get seats w (Working held) (Working held) is))))
 
 -- note
-pub counts_note : (verdicts : Verdicts) (drawn least : ℕ) (seats : List Seat) (slots : List Slot) (w : ℕ) (held : Held)
+pub counts_note : (verdicts : Verdicts) (drawn least : ℕ) (seats : List Seat) (slots : List Slot) (w : ℕ) (held : SteppedJob)
     → slice_get seats w ≡ Some (Working held)
     → counts_by drawn (min least held.job) (slice_set seats w (Working (record held { noted = true }))) slots ≡ made verdicts (counts_by drawn least seats slots) (Note w)
 counts_note verdicts drawn least seats slots w held is =
@@ -111,7 +111,7 @@ set_fate drawn least workers slots job slot =
     ap (λ (fates : List Fate). let counts : Counts = record { drawn = drawn; least = least; workers = workers; fates = fates } in counts) (map-set fate_of slots job slot)
 
 -- skip
-pub counts_skip : (verdicts : Verdicts) (drawn least : ℕ) (seats : List Seat) (slots : List Slot) (w : ℕ) (held : Held)
+pub counts_skip : (verdicts : Verdicts) (drawn least : ℕ) (seats : List Seat) (slots : List Slot) (w : ℕ) (held : SteppedJob)
     → slice_get seats w ≡ Some (Working held)
     → counts_by drawn least (slice_set seats w Idle) (slice_set slots held.job Skipped) ≡ made verdicts (counts_by drawn least seats slots) (Skip w)
 counts_skip verdicts drawn least seats slots w held is =
@@ -120,7 +120,7 @@ counts_skip verdicts drawn least seats slots w held is =
     ∙ sym (made_at verdicts drawn least seats slots w (Working held) (Skip w) refl is)
 
 -- post
-pub counts_post : (verdicts : Verdicts) (drawn least : ℕ) (seats : List Seat) (slots : List Slot) (w : ℕ) (held : Held) (end : SegmentEnd)
+pub counts_post : (verdicts : Verdicts) (drawn least : ℕ) (seats : List Seat) (slots : List Slot) (w : ℕ) (held : SteppedJob) (end : SegmentEnd)
     → slice_get seats w ≡ Some (Working held)
     → counts_by drawn least (slice_set seats w Idle) (slice_set slots held.job (Posted end)) ≡ made verdicts (counts_by drawn least seats slots) (Post w)
 counts_post verdicts drawn least seats slots w held end is =
@@ -224,7 +224,7 @@ pub there_at : (seats : List Seat) (w : ℕ) (found seat : Seat) → w < length 
 there_at seats w found seat within value is = slice_get-get_or seats w found within ∙ ap Some (sym value ∙ is)
 
 -- what holds of the job that a worker has
-pub held_at : (start : Start) (drawn : ℕ) (seats : List Seat) (slots : List Slot) (w : ℕ) (held : Held)
+pub held_at : (start : Start) (drawn : ℕ) (seats : List Seat) (slots : List Slot) (w : ℕ) (held : SteppedJob)
     → IsDesk start drawn seats slots → slice_get seats w ≡ Some (Working held) → IsHeld start held
 held_at start drawn seats slots w held desk is =
     subst (IsSeat start) (get_or_from_slice_get seats w (Working held) Idle is)
@@ -232,14 +232,14 @@ held_at start drawn seats slots w held desk is =
 
 -- a worker whose event is enabled, and no draw, has a job
 working : (verdicts : Verdicts) (least : ℕ) (found : Seat) (event : Event) → is_draw event ≡ false → is_enabled_for verdicts least (worker_of found) event ≡ true
-    → ((held : Held) → found ≡ Working held → ⊥) → ⊥
+    → ((held : SteppedJob) → found ≡ Working held → ⊥) → ⊥
 working verdicts least Idle event other enabled none = cc
 working verdicts least Ended event other enabled none = cc
 working verdicts least (Working held) event other enabled none = none held refl
 
 pub must_work : (verdicts : Verdicts) (drawn least : ℕ) (seats : List Seat) (slots : List Slot) (w : ℕ) (found : Seat) (event : Event)
     → worker_in event ≡ Some w → is_draw event ≡ false → w < length seats → found ≡ get_or seats w found
-    → is_enabled verdicts (counts_by drawn least seats slots) event ≡ true → ((held : Held) → found ≡ Working held → ⊥) → ⊥
+    → is_enabled verdicts (counts_by drawn least seats slots) event ≡ true → ((held : SteppedJob) → found ≡ Working held → ⊥) → ⊥
 must_work verdicts drawn least seats slots w found event its other within value enabled none =
     working verdicts least found event other (sym (enabled_at verdicts drawn least seats slots w found event its (there_at seats w found found within value refl)) ∙ enabled) none
 
@@ -262,7 +262,7 @@ no_stop : (stop : Option Stop) → not (is_some stop) ≡ true → stop ≡ None
 no_stop None is = refl
 no_stop (Some stop) is = let no : ⊥ = cc in absurd no
 
-pub not_stopped : (verdicts : Verdicts) (drawn least : ℕ) (seats : List Seat) (slots : List Slot) (w : ℕ) (held : Held)
+pub not_stopped : (verdicts : Verdicts) (drawn least : ℕ) (seats : List Seat) (slots : List Slot) (w : ℕ) (held : SteppedJob)
     → slice_get seats w ≡ Some (Working held) → is_enabled verdicts (counts_by drawn least seats slots) (Step w) ≡ true → held.underway.stop ≡ None
 not_stopped verdicts drawn least seats slots w held is enabled =
     no_stop held.underway.stop (sym (enabled_at verdicts drawn least seats slots w (Working held) (Step w) refl is) ∙ enabled)
@@ -271,13 +271,13 @@ some_stop : (stop : Option Stop) → is_some stop ≡ true → stop ≡ None →
 some_stop None is none = cc
 some_stop (Some stop) is none = cc
 
-pub must_have_stopped : (verdicts : Verdicts) (drawn least : ℕ) (seats : List Seat) (slots : List Slot) (w : ℕ) (held : Held)
+pub must_have_stopped : (verdicts : Verdicts) (drawn least : ℕ) (seats : List Seat) (slots : List Slot) (w : ℕ) (held : SteppedJob)
     → slice_get seats w ≡ Some (Working held) → is_enabled verdicts (counts_by drawn least seats slots) (Post w) ≡ true → held.underway.stop ≡ None → ⊥
 must_have_stopped verdicts drawn least seats slots w held is enabled none =
     some_stop held.underway.stop (sym (enabled_at verdicts drawn least seats slots w (Working held) (Post w) refl is) ∙ enabled) none
 
 -- what is enabled for a worker that has a job
-same_allowed : (start : Start) (least : ℕ) (held : Held) (event : Event) → IsHeld start held
+same_allowed : (start : Start) (least : ℕ) (held : SteppedJob) (event : Event) → IsHeld start held
     → is_enabled_with (λ job steps. verdict_of held.underway) least (counted_of held) event ≡ is_enabled_with (verdicts_of start) least (counted_of held) event
 same_allowed start least held (Draw w) holds = refl
 same_allowed start least held (Step w) holds = refl
@@ -287,7 +287,7 @@ same_allowed start least held (Post w) holds = refl
 same_allowed start least held Hold holds = refl
 same_allowed start least held Turn holds = refl
 
-pub allowed_to : (start : Start) (drawn least : ℕ) (seats : List Seat) (slots : List Slot) (w : ℕ) (held : Held) (event : Event)
+pub allowed_to : (start : Start) (drawn least : ℕ) (seats : List Seat) (slots : List Slot) (w : ℕ) (held : SteppedJob) (event : Event)
     → IsDesk start drawn seats slots → worker_in event ≡ Some w → slice_get seats w ≡ Some (Working held)
     → is_enabled_with (λ job steps. verdict_of held.underway) least (counted_of held) event ≡ is_enabled (verdicts_of start) (counts_by drawn least seats slots) event
 allowed_to start drawn least seats slots w held event desk its is =
@@ -304,7 +304,7 @@ no_draw Hold none = refl
 no_draw Turn none = refl
 
 -- the result that is posted is that of the job
-pub posted_end : (start : Start) (held : Held) → IsHeld start held → (end : SegmentEnd) → IsEndOf (memory_of held.underway) held.underway.work.segment end
+pub posted_end : (start : Start) (held : SteppedJob) → IsHeld start held → (end : SegmentEnd) → IsEndOf (memory_of held.underway) held.underway.work.segment end
     → (posted : SegmentEnd) → Posted end ≡ Posted posted → IsEndOf start.memory (work_at start held.job).segment posted
 posted_end start held holds end ends posted is =
     let same : end ≡ posted = cc is in

@@ -23,7 +23,7 @@ use Rattle.std.proofs.lemmas.List.Elements.{All-from_get_or}
 use Rattle.std.proofs.lemmas.List.Quantifiers.{position-Some}
 use Rattle.std.proofs.lemmas.Option.{slice_get_within, get_or_from_slice_get, slice_get-get_or, slice_get-map}
 use Rattle.schedule.specs.Phase.{Counts, opened}
-use Rattle.schedule.specs.declared.progress.Progress.{Progress}
+use Rattle.schedule.specs.declared.job_progress.JobProgress.{JobProgress}
 use Rattle.schedule.specs.declared.event.Event.TheVariants.{Turn}
 use Rattle.schedule.specs.declared.fate.Fate.{Fate}
 use Rattle.token.proofs.Needs.{segment_is, segment_needed}
@@ -39,7 +39,7 @@ use Rattle.schedule_core.specs.declared.scene.Scene.{Scene}
 use Rattle.schedule_core.specs.declared.seat.Seat.TheVariants.{Idle}
 use Rattle.schedule_core.specs.declared.slot.Slot.TheVariants.{Open, Posted, Skipped}
 use Rattle.schedule_core.specs.Scene.{IsDesk, IsKeeper}
-use Rattle.schedule_core.specs.declared.underway.Underway.{Underway}
+use Rattle.schedule_core.specs.declared.stepped_segment.SteppedSegment.{SteppedSegment}
 use Rattle.schedule_core.specs.declared.seat.Seat.{Seat}
 use Rattle.schedule_core.specs.declared.slot.Slot.{Slot}
 
@@ -98,7 +98,7 @@ kept_desk old new step phase number places results done is desk same =
 pub same_desk : (old new : Point) (number : ℕ) (places : List Seat) (results : List Slot) → new ≡ old → IsDesk (start_of old) number places results → IsDesk (start_of new) number places results
 same_desk old new number places results same desk = subst (λ (point : Point). IsDesk (start_of point) number places results) (sym same) desk
 
-pub same_keeper : (old new : Point) (keeper : Option Underway) → new ≡ old → IsKeeper old keeper → IsKeeper new keeper
+pub same_keeper : (old new : Point) (keeper : Option SteppedSegment) → new ≡ old → IsKeeper old keeper → IsKeeper new keeper
 same_keeper old new keeper same holds = subst (λ (point : Point). IsKeeper point keeper) (sym same) holds
 
 -- the outcome of a run is that of its history
@@ -173,7 +173,7 @@ posted_needed point work number places results job end needs desk is posted =
     (subst (λ (work : Work). IsEndOf point.base work.segment end) (job_work (start_of point) work.thread job is ∙ sym (segment_work point work needs)) (desk.slots job end posted))
 
 -- a turn that is done has happened
-same_tally : (turns other : ℕ) (counts others : Counts) (keeper another : Progress) → turns ≡ other → counts ≡ others → keeper ≡ another
+same_tally : (turns other : ℕ) (counts others : Counts) (keeper another : JobProgress) → turns ≡ other → counts ≡ others → keeper ≡ another
     → (let tally : Tally = record { turns = turns; counts = counts; keeper = keeper } in tally) ≡ record { turns = other; counts = others; keeper = another }
 same_tally turns other counts others keeper another one two three = λ i. record { turns = one i; counts = two i; keeper = three i }
 

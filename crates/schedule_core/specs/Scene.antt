@@ -8,7 +8,7 @@ use Rattle.hart.specs.HartState.{HartState}
 use Rattle.hart.specs.Segment.{after}
 use Rattle.abi.specs.Limits as limit
 use Rattle.schedule.specs.Phase.{Counts, begun, is_enabled, made, opened}
-use Rattle.schedule.specs.declared.progress.Progress.{Progress}
+use Rattle.schedule.specs.declared.job_progress.JobProgress.{JobProgress}
 use Rattle.schedule.specs.declared.event.Event.{Event}
 use Rattle.schedule.specs.declared.event.Event.TheVariants.{Turn}
 use Rattle.schedule.specs.declared.fate.Fate.{Fate}
@@ -27,8 +27,8 @@ use Rattle.schedule_core.specs.Jobs.{Start, jobs_of, start_of, verdicts_of, work
 use Rattle.schedule_core.specs.Underway.{IsUnderway, progress_of, memory_of}
 use Rattle.schedule_core.specs.Tally.{Happens, Tally, is_turn_enabled, refusal_if, refusal_of}
 use Rattle.schedule_core.specs.declared.event_fault.EventFault.{EventFault}
-use Rattle.schedule_core.specs.declared.underway.Underway.{Underway}
-use Rattle.schedule_core.specs.declared.seat.Held.{Held}
+use Rattle.schedule_core.specs.declared.stepped_segment.SteppedSegment.{SteppedSegment}
+use Rattle.schedule_core.specs.declared.seat.SteppedJob.{SteppedJob}
 use Rattle.schedule_core.specs.declared.seat.Seat.{Seat}
 use Rattle.schedule_core.specs.declared.seat.Seat.TheVariants.{Idle, Ended, Working}
 use Rattle.schedule_core.specs.declared.slot.Slot.{Slot}
@@ -36,7 +36,7 @@ use Rattle.schedule_core.specs.declared.slot.Slot.TheVariants.{Open, Posted, Ski
 use Rattle.schedule_core.specs.declared.scene.Scene.{Scene}
 
 -- what is counted of the job that a worker has
-abbrev pub counted_of : Held → Counted
+abbrev pub counted_of : SteppedJob → Counted
 counted_of held = record { job = held.job; progress = progress_of held.underway; noted = held.noted }
 
 abbrev pub worker_of : Seat → Worker
@@ -54,7 +54,7 @@ abbrev pub counts_by : ℕ → ℕ → List Seat → List Slot → Counts
 counts_by drawn least seats slots = record { drawn = drawn; least = least; workers = map worker_of seats; fates = map fate_of slots }
 
 -- how far the keeper's segment has come
-abbrev pub keeper_progress : Option Underway → Progress
+abbrev pub keeper_progress : Option SteppedSegment → JobProgress
 keeper_progress None = begun
 keeper_progress (Some underway) = progress_of underway
 
@@ -70,7 +70,7 @@ abbrev pub tally_of : Scene → Tally
 tally_of scene = record { turns = (point_at scene).done; counts = counts_of scene; keeper = keeper_progress scene.keeper }
 
 -- A worker's segment is its job's on the phase's first memory.
-pub record IsHeld (start : Start) (held : Held) : Type 0 where
+pub record IsHeld (start : Start) (held : SteppedJob) : Type 0 where
   pub underway : IsUnderway held.underway
   pub job : held.job < length (jobs_of start)
   pub work : held.underway.work ≡ work_at start held.job
@@ -82,12 +82,12 @@ IsSeat start Ended = Unit {0}
 IsSeat start (Working held) = IsHeld start held
 
 -- the keeper's segment is the one that the next turn needs, on the present memory
-pub record IsKeepers (point : Point) (segment : Underway) : Type 0 where
+pub record IsKeepers (point : Point) (segment : SteppedSegment) : Type 0 where
   pub underway : IsUnderway segment
   pub need : need_at point ≡ Keeper segment.work
   pub memory : memory_of segment ≡ point.state.memory
 
-abbrev pub IsKeeper : Point → Option Underway → Type 0
+abbrev pub IsKeeper : Point → Option SteppedSegment → Type 0
 IsKeeper point None = Unit {0}
 IsKeeper point (Some underway) = IsKeepers point underway
 

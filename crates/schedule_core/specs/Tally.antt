@@ -2,7 +2,7 @@
 use Rattle.std.specs.Prelude.{◌≡◌, ℕ, ◌+◌, Bool, true, false, not, ◌==◌, nat_lt, if◌then◌else◌, Option, Some, None, is_some, List, [], ◌∷◌, length, slice_get, take, Err}
 use Rattle.schedule.specs.Phase.{Counts, advanced, begun, is_enabled, made, opened, worker_of}
 use Rattle.schedule.specs.Verdict.{Verdict, GoesOn}
-use Rattle.schedule.specs.declared.progress.Progress.{Progress}
+use Rattle.schedule.specs.declared.job_progress.JobProgress.{JobProgress}
 use Rattle.schedule.specs.declared.event.Event.{Event}
 use Rattle.schedule.specs.declared.event.Event.TheVariants.{Draw, Step, Note, Skip, Post, Hold, Turn}
 use Rattle.schedule.specs.declared.fate.Fate.{Fate}
@@ -20,7 +20,7 @@ use Rattle.schedule_core.specs.declared.event_fault.EventFault.TheVariants.{NoWo
 pub record Tally : Type 0 where
   pub turns : ℕ
   pub counts : Counts
-  pub keeper : Progress
+  pub keeper : JobProgress
 
 -- whether the result of a job was posted
 abbrev pub is_posted : Option Fate → Bool
@@ -34,7 +34,7 @@ is_posted_at fates None = false
 is_posted_at fates (Some job) = is_posted (slice_get fates job)
 
 -- Hold: there is a keeper, and its segment hasn't stopped.
-abbrev pub is_hold_enabled : Need → Progress → Bool
+abbrev pub is_hold_enabled : Need → JobProgress → Bool
 is_hold_enabled (need.Keeper work) keeper = not keeper.stopped
 is_hold_enabled (need.Segment work) keeper = false
 is_hold_enabled (need.Wake thread) keeper = false

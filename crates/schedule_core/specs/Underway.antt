@@ -8,20 +8,20 @@ use Rattle.hart.specs.HartState.{HartState}
 use Rattle.hart.specs.declared.stop.Stop.{Stop}
 use Rattle.hart.specs.declared.stop.Stop.TheVariants.{Trap, Ecall, Quantum}
 use Rattle.schedule.specs.Verdict.{Verdict, verdict_after}
-use Rattle.schedule.specs.declared.progress.Progress.{Progress}
+use Rattle.schedule.specs.declared.job_progress.JobProgress.{JobProgress}
 use Rattle.segment.specs.declared.segment.Segment.{Segment}
-use Rattle.schedule_core.specs.declared.underway.Underway.{Underway}
+use Rattle.schedule_core.specs.declared.stepped_segment.SteppedSegment.{SteppedSegment}
 
 -- the memory that it began with
-abbrev pub memory_of : Underway → Memory
+abbrev pub memory_of : SteppedSegment → Memory
 memory_of run = snapshots.cells_of (views.base_of run.view)
 
 -- how far it has come
-abbrev pub progress_of : Underway → Progress
+abbrev pub progress_of : SteppedSegment → JobProgress
 progress_of run = record { steps = run.steps; stopped = is_some run.stop }
 
 -- what it comes to after its steps so far
-abbrev pub verdict_of : Underway → Verdict
+abbrev pub verdict_of : SteppedSegment → Verdict
 verdict_of run = verdict_after run.work.segment.hart (memory_of run) run.work.segment.left run.work.segment.quantum run.steps
 
 -- the stop by the bound or the quantum after so many steps of a segment
@@ -44,10 +44,10 @@ pub record HasCome (segment : Segment) (memory : Memory) (hart : HartState) (cel
   pub call : stop ≡ Some Ecall → steps < segment.left
 
 -- It stands where its segment has come to.
-abbrev pub IsUnderway : Underway → Type 0
+abbrev pub IsUnderway : SteppedSegment → Type 0
 IsUnderway run = HasCome run.work.segment (memory_of run) run.hart (views.cells_of run.view) run.steps run.stop
 
 -- It stands where its segment has come to, and has stopped there.
-pub record HasStopped (run : Underway) (stop : Stop) : Type 0 where
+pub record HasStopped (run : SteppedSegment) (stop : Stop) : Type 0 where
   pub underway : IsUnderway run
   pub stopped : run.stop ≡ Some stop

@@ -7,8 +7,8 @@ mod refused_event;
 mod scene;
 mod seat;
 mod slot;
+mod stepped_segment;
 mod turns;
-mod underway;
 pub mod world;
 
 pub use event_fault::EventFault;

@@ -1,7 +1,7 @@
 //! The scene of a world: the serial state with the slots and seats of its phase.
-use crate::seat::{Held, Seat};
+use crate::seat::{Seat, SteppedJob};
 use crate::slot::Slot;
-use crate::underway::Underway;
+use crate::stepped_segment::SteppedSegment;
 use schedule::Event;
 use std::alloc::AllocError;
 use token::{Kept, RunOutcome, Serial, Work};
@@ -19,7 +19,7 @@ pub struct Scene {
     /// What has become of each job.
     pub(crate) slots: Vec<Slot>,
     /// The segment of the thread that keeps the token, once it has begun.
-    pub(crate) keeper: Option<Underway>,
+    pub(crate) keeper: Option<SteppedSegment>,
     /// How the run ended, none while a turn may follow.
     pub(crate) outcome: Option<RunOutcome>,
 }
@@ -69,10 +69,10 @@ impl Scene {
         let jobs = self.serial.jobs();
         let work = self.work_of(jobs.as_slice()[self.drawn as usize]);
         let base = self.serial.base().try_clone()?;
-        Ok(Seat::Working(Held {
+        Ok(Seat::Working(SteppedJob {
             job: self.drawn,
             noted: false,
-            underway: Underway::begin(work, base),
+            underway: SteppedSegment::begin(work, base),
         }))
     }
 

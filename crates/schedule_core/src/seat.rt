@@ -1,18 +1,18 @@
 //! A worker's seat in the world: idle, at a job, or ended for this phase.
-use crate::underway::Underway;
+use crate::stepped_segment::SteppedSegment;
 use schedule::Event;
 
 /// The job that a worker has.
 #[derive(Drop)]
-pub struct Held {
+pub struct SteppedJob {
     /// The job's number in its phase.
     pub(crate) job: u32,
     /// It was made known that it has ended the run.
     pub(crate) noted: bool,
-    pub(crate) underway: Underway,
+    pub(crate) underway: SteppedSegment,
 }
 
-impl Held {
+impl SteppedJob {
     ghost use Rattle.std.specs.Prelude.{◌≡◌};
     ghost use Rattle.schedule.specs.Phase.{is_enabled_with};
     ghost use Rattle.schedule_core.specs.Underway.{IsUnderway, verdict_of};
@@ -43,5 +43,5 @@ pub enum Seat {
     /// It has found no job left in this phase.
     Ended,
     /// It has a job.
-    Working(Held),
+    Working(SteppedJob),
 }

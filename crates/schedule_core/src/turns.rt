@@ -7,7 +7,7 @@ use crate::event_fault::EventFault;
 use crate::scene::Scene;
 use crate::seat::Seat;
 use crate::slot::Slot;
-use crate::underway::Underway;
+use crate::stepped_segment::SteppedSegment;
 use std::alloc::AllocError;
 use token::{Kept, Need, RunOutcome, Serial, TurnFault, Work};
 
@@ -54,7 +54,7 @@ impl Scene {
         ensures ok { OnOk result (keeper_progress self.new.keeper ≡ advanced (verdict_by (point_at self.old).state.memory work 0) begun) }
         ensures err { OnErr result (self.new.keeper ≡ None) }
     {
-        let mut underway = Underway::begin(work, self.serial.now().try_clone()?);
+        let mut underway = SteppedSegment::begin(work, self.serial.now().try_clone()?);
         underway.go_on()?;
         self.keeper = Some(underway);
         Ok(())

@@ -1,3 +1,4 @@
+pub mod Ended
 pub mod Ends
 pub mod Stands
 pub mod Progress

@@ -4,7 +4,6 @@ ghost use Rattle.paged_memory.specs.Snapshot.{cells_of};
 ghost use Rattle.segment.specs.Ends.{IsEndOf, GoesOnAt};
 
 use crate::segment_end::SegmentEnd;
-use commit::Patch;
 use hart::{Hart, SliceEnd, run_coded, run_coded_slice};
 use paged_memory::Snapshot;
 use std::alloc::AllocError;
@@ -33,13 +32,7 @@ impl Segment {
         let mut view = View::open(base.try_clone()?);
         let code = base.code();
         let (stop, count) = run_coded(code, &mut hart, &mut view, self.left, self.quantum)?;
-        let patch = Patch::of(view.base().allocator(), &view)?;
-        Ok(SegmentEnd {
-            hart,
-            stop,
-            count,
-            patch,
-        })
+        SegmentEnd::of(hart, stop, count, &view)
     }
 
     /// Executes it on a view of a memory, and answers its end if it has one within so many instructions. None if it
@@ -55,13 +48,8 @@ impl Segment {
         match end {
             SliceEnd::Unfinished(_) => Ok(None),
             SliceEnd::Stopped(stop, count) => {
-                let patch = Patch::of(view.base().allocator(), &view)?;
-                Ok(Some(SegmentEnd {
-                    hart,
-                    stop,
-                    count,
-                    patch,
-                }))
+                let end = SegmentEnd::of(hart, stop, count, &view)?;
+                Ok(Some(end))
             }
         }
     }

@@ -8,7 +8,6 @@ ghost use Rattle.twins.specs.View as views;
 use crate::progress::Progress;
 use crate::segment::Segment;
 use crate::segment_end::SegmentEnd;
-use commit::Patch;
 use hart::{Hart, SliceEnd, run_coded_slice};
 use paged_memory::Snapshot;
 use std::alloc::AllocError;
@@ -113,13 +112,8 @@ fn progress(segment: Segment, hart: Hart, view: View, end: SliceEnd) -> Result<P
             done,
         })),
         SliceEnd::Stopped(stop, count) => {
-            let patch = Patch::of(view.base().allocator(), &view)?;
-            Ok(Progress::Over(SegmentEnd {
-                hart,
-                stop,
-                count,
-                patch,
-            }))
+            let end = SegmentEnd::of(hart, stop, count, &view)?;
+            Ok(Progress::Over(end))
         }
     }
 }

@@ -15,7 +15,7 @@ use Rattle.sharing_report.specs.Tallies.{IsLast}
 use Rattle.sharing_report.specs.declared.changer.Changer.{Changer}
 use Rattle.sharing_report.specs.declared.changer.Changer.TheVariants.{Nobody, One, Several}
 use Rattle.sharing_report.specs.declared.mark.Mark.{Mark}
-use Rattle.sharing_report.specs.declared.mark.Spot.{Spot}
+use Rattle.sharing_report.specs.declared.mark.PhaseAddress.{PhaseAddress}
 use Rattle.sharing_report.proofs.Counted.{distinct_count-snoc, member-snoc, one_alone, two_of-more}
 use Rattle.sharing_report.proofs.Neighbours.{filter_none}
 
@@ -166,11 +166,11 @@ none_after marks last phase upto after =
     (list_any_none (λ (mark : Mark ℕ). eqb phase mark.place) marks (λ k d inside. let at = upto k d inside in ne_eqb phase (slice_index_or marks k d).place (λ same. omega arith))))
 
 -- nor at a place of it
-pub none_at_after : (marks : List (Mark Spot)) (last phase address : ℕ) → All (λ mark. mark.place.phase ≤ last) marks → last < phase
+pub none_at_after : (marks : List (Mark PhaseAddress)) (last phase address : ℕ) → All (λ mark. mark.place.phase ≤ last) marks → last < phase
     → threads_at same_spot marks (record { phase = phase; address = address }) ≡ []
 none_at_after marks last phase address upto after =
-    ap (map (λ (mark : Mark Spot). mark.thread)) (filter_none (λ (mark : Mark Spot). same_spot (record { phase = phase; address = address }) mark.place) marks
-    (list_any_none (λ (mark : Mark Spot). same_spot (record { phase = phase; address = address }) mark.place) marks
+    ap (map (λ (mark : Mark PhaseAddress). mark.thread)) (filter_none (λ (mark : Mark PhaseAddress). same_spot (record { phase = phase; address = address }) mark.place) marks
+    (list_any_none (λ (mark : Mark PhaseAddress). same_spot (record { phase = phase; address = address }) mark.place) marks
     (λ k d inside. let at = upto k d inside in
     ap (λ (b : Bool). b && eqb address (slice_index_or marks k d).place.address) (ne_eqb phase (slice_index_or marks k d).place.phase (λ same. omega arith)))))
 

@@ -6,7 +6,7 @@ use Rattle.sharing_report.specs.ByteChanges.{bytes_of, bytes_of_page}
 use Rattle.sharing_report.specs.Contested.{contested_count}
 use Rattle.sharing_report.specs.declared.byte_change.ByteChange.{ByteChange}
 use Rattle.sharing_report.specs.declared.mark.Mark.{Mark}
-use Rattle.sharing_report.specs.declared.mark.Spot.{Spot}
+use Rattle.sharing_report.specs.declared.mark.PhaseAddress.{PhaseAddress}
 use Rattle.sharing_report.specs.declared.page_row.PageRow.{PageRow}
 
 -- how many different numbers a list has
@@ -14,7 +14,7 @@ abbrev pub count_of_different : List ℕ → ℕ
 count_of_different = distinct_count (λ number other. number == other)
 
 -- the same address in the same phase
-abbrev pub same_spot : Spot → Spot → Bool
+abbrev pub same_spot : PhaseAddress → PhaseAddress → Bool
 same_spot spot other = (spot.phase == other.phase) && (spot.address == other.address)
 
 -- the mark of a byte's thread at the turn's phase
@@ -22,7 +22,7 @@ abbrev pub phase_mark : ByteChange → Mark ℕ
 phase_mark byte = record { place = byte.phase; thread = byte.thread }
 
 -- the mark of a byte's thread at the turn's phase and the byte's address
-abbrev pub spot_mark : ByteChange → Mark Spot
+abbrev pub spot_mark : ByteChange → Mark PhaseAddress
 spot_mark byte = record { place = record { phase = byte.phase; address = byte.address }; thread = byte.thread }
 
 -- The row of a page, from its changed bytes: its turns, its bytes, their threads, the phases in which at least two threads each changed one

@@ -6,7 +6,7 @@ use Rattle.sharing_report.specs.Sharing.{count_of_different, same_spot}
 use Rattle.sharing_report.specs.declared.changer.Changer.TheVariants.{Nobody}
 use Rattle.sharing_report.specs.declared.clashes.Clashes.{Clashes}
 use Rattle.sharing_report.specs.declared.mark.Mark.{Mark}
-use Rattle.sharing_report.specs.declared.mark.Spot.{Spot}
+use Rattle.sharing_report.specs.declared.mark.PhaseAddress.{PhaseAddress}
 use Rattle.sharing_report.specs.declared.shared_phases.SharedPhases.{SharedPhases}
 use Rattle.sharing_report.specs.declared.thread_set.ThreadSet.{ThreadSet}
 use Rattle.sharing_report.specs.declared.turn_count.TurnCount.{TurnCount}
@@ -41,7 +41,7 @@ pub record CountsShared (shared : SharedPhases) (marks : List (Mark ℕ)) : Type
   pub least : (bound : ℕ) → All (λ mark. mark.place ≤ bound) marks → shared.phase ≤ bound
 
 -- The clashes at a page, by the marks of threads at phases and addresses. No mark is in a phase after the present one.
-pub record IsPhaseOfPage (clashes : Clashes) (page phase : ℕ) (marks : List (Mark Spot)) : Type 0 where
+pub record IsPhaseOfPage (clashes : Clashes) (page phase : ℕ) (marks : List (Mark PhaseAddress)) : Type 0 where
   pub phase_is : clashes.phase ≡ phase
   pub count : clashes.count ≡ contested_count same_spot marks
   pub fits : clashes.count ≤ length marks
@@ -49,6 +49,6 @@ pub record IsPhaseOfPage (clashes : Clashes) (page phase : ℕ) (marks : List (M
   pub changers : (place : ℕ) → place < 4096 → IsChanger (slice_index_or clashes.changers.items place Nobody) (threads_at same_spot marks (record { phase = phase; address = page + place }))
 
 -- and the present phase is no later than it must be
-pub record CountsClashes (clashes : Clashes) (page : ℕ) (marks : List (Mark Spot)) : Type 0 where
+pub record CountsClashes (clashes : Clashes) (page : ℕ) (marks : List (Mark PhaseAddress)) : Type 0 where
   pub present : IsPhaseOfPage clashes page clashes.phase marks
   pub least : (bound : ℕ) → All (λ mark. mark.place.phase ≤ bound) marks → clashes.phase ≤ bound

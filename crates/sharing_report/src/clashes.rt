@@ -19,7 +19,7 @@ pub(crate) struct Clashes {
 impl Clashes {
     ghost use Rattle.sharing_report.specs.Tallies.{CountsClashes, IsPhaseOfPage};
     ghost use Rattle.sharing_report.specs.declared.mark.Mark.{Mark as PlaceMark};
-    ghost use Rattle.sharing_report.specs.declared.mark.Spot.{Spot as PhaseSpot};
+    ghost use Rattle.sharing_report.specs.declared.mark.PhaseAddress.{PhaseAddress as PhaseSpot};
 
     /// No phase.
     pub(crate) fn new(alloc: Global) -> Result<Self, AllocError>

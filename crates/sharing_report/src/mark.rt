@@ -10,7 +10,7 @@ pub(crate) struct Mark<K> {
 
 /// A byte's address in a phase.
 #[derive(Clone, Copy, PartialEq, Eq, PartialOrd, Ord)]
-pub(crate) struct Spot {
+pub(crate) struct PhaseAddress {
     /// The phase.
     pub(crate) phase: u64,
     /// The byte's address.

@@ -4,7 +4,7 @@ ghost use Rattle.sharing_report.specs.Sharing.{row_from, phase_mark, spot_mark};
 
 use crate::byte_change::ByteChange;
 use crate::counting::{count_contested, count_distinct};
-use crate::mark::{Mark, Spot};
+use crate::mark::{Mark, PhaseAddress};
 use std::alloc::{AllocError, Global};
 
 /// How a page was shared. Each number is a count.
@@ -70,13 +70,13 @@ fn phase_marks(alloc: Global, bytes: &[ByteChange]) -> Result<Vec<Mark<u64>>, Al
 }
 
 /// The mark of each changed byte's thread at its phase and address.
-fn spot_marks(alloc: Global, bytes: &[ByteChange]) -> Result<Vec<Mark<Spot>>, AllocError>
+fn spot_marks(alloc: Global, bytes: &[ByteChange]) -> Result<Vec<Mark<PhaseAddress>>, AllocError>
     ensures { IfOk result (λ marks. marks.items ≡ map spot_mark bytes.now) }
 {
     bytes
         .iter()
         .map(|byte| Mark {
-            place: Spot {
+            place: PhaseAddress {
                 phase: byte.phase,
                 address: byte.address,
             },

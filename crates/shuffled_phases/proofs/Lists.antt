@@ -4,7 +4,7 @@ use Rattle.std.proofs.lemmas.Bool.{ne_eqb}
 use Rattle.std.proofs.lemmas.List.{length-map}
 use Rattle.shuffled_phases.specs.Lists.{IsPartOf, block_of, else_first, first_and, is_even, is_its_time, ordered, part_of, places, shuffled, taking_part, times}
 use Rattle.shuffled_phases.specs.declared.part.Part.{Part}
-use Rattle.shuffled_phases.specs.declared.place.Place.{Place}
+use Rattle.shuffled_phases.specs.declared.sort_key.SortKey.{SortKey}
 use Rattle.shuffled_phases.specs.declared.part.Part.TheVariants.{All, Even, Paced, First}
 use Rattle.shuffled_phases.specs.Phases.{list_by, list_of, number_in}
 use Rattle.shuffled_phases.specs.declared.shuffle.Shuffle.{Shuffle}
@@ -65,7 +65,7 @@ none-taking_part First number phase list none = none-first list none
 none-ordered : (number block : ℕ) (threads : List ℕ) → ordered number block threads ≡ [] → threads ≡ []
 none-ordered number block [] none = refl
 none-ordered number block (thread ∷ rest) none =
-    let mapped = length-map (places number block (thread ∷ rest)) (λ (place : Place). place.thread) in
+    let mapped = length-map (places number block (thread ∷ rest)) (λ (place : SortKey). place.thread) in
     let all = length-places number block (thread ∷ rest) in
     let nobody = ap length none in
     absurd (omega arith)

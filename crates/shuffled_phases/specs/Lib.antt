@@ -1,4 +1,6 @@
+pub mod Config
 pub mod Draws
 pub mod Lists
 pub mod Lengths
 pub mod Phases
+pub mod Span

@@ -5,7 +5,7 @@ use Rattle.elf32_reader.specs.Segments.{image_of}
 use Rattle.explored_runs.specs.Failing.{fails}
 use Rattle.explored_runs.specs.Runs.{setup_by, whole}
 use Rattle.runtime.specs.Run.{IsAccepted, IsUnopenedBy}
-use Rattle.runtime.specs.declared.config.Config.{Config}
+use Rattle.shuffled_phases.specs.declared.config.Config.{Config}
 use Rattle.runtime.specs.declared.open_fault.OpenFault.{OpenFault}
 use Rattle.token.specs.declared.outcome.RunOutcome.{RunOutcome}
 use Rattle.small_schedules.specs.Differences.{IsDifference}

@@ -1,7 +1,7 @@
 //! Finds in what a phase that a number shuffles differs from the same phase without the number.
 ghost use Rattle.std.specs.Prelude.{◌≡◌, Some, true, IfOk};
 ghost use Rattle.explored_runs.specs.Runs.{setup_by};
-ghost use Rattle.runtime.specs.Config.{is_valid};
+ghost use Rattle.shuffled_phases.specs.Config.{is_valid};
 ghost use Rattle.small_schedules.specs.Differences.{DiffersAt, IsDifference};
 ghost use Rattle.small_schedules.specs.Walks.{IsShared};
 ghost use Rattle.token.specs.RunInTurn.{point_of};
@@ -9,7 +9,8 @@ ghost use Rattle.token.specs.RunInTurn.{point_of};
 use crate::phase_difference::PhaseDifference;
 use crate::walking::{first_shared, go_to, stands};
 use elf32_reader::Image;
-use runtime::{Config, NoRecord, Start};
+use explored_runs::open_shuffled;
+use runtime::{Config, NoRecord};
 use shuffled_phases::{Shuffle, fill_list};
 use std::alloc::{AllocError, Global};
 use std::sync::Wait;
@@ -28,15 +29,7 @@ fn open(
     ensures setup { IfOk result (λ serial. (point_of serial).setup ≡ setup_by image.now input.now config.now shuffle) }
     ensures phase { IfOk result (λ serial. (point_of serial).phase ≡ 1) }
 {
-    let start = Start::open(
-        alloc,
-        image,
-        input,
-        config.bound,
-        config.quantum,
-        Some(shuffle),
-    )?;
-    let serial = start.recorded_by(NoRecord);
+    let serial = open_shuffled(alloc, image, input, config, shuffle)?.recorded_by(NoRecord);
     stands(&serial);
     Ok(serial)
 }

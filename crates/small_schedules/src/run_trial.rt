@@ -1,7 +1,7 @@
 //! Tries schedules by running a program.
 ghost use Rattle.std.specs.Prelude.{◌≡◌, ◌≢◌, true, false};
 ghost use Rattle.explored_runs.specs.Runs.{setup_by};
-ghost use Rattle.runtime.specs.Config.{is_valid};
+ghost use Rattle.shuffled_phases.specs.Config.{is_valid};
 ghost use Rattle.small_schedules.specs.Outcomes.{EndsOrNot};
 
 use crate::trial::Trial;

@@ -7,7 +7,7 @@ use Rattle.std.specs.List.{reduce}
 use Rattle.std.proofs.lemmas.List.{map-append, append-nil, take_more}
 use Rattle.std.proofs.lemmas.List.Elements.{filter-append}
 use Rattle.std.proofs.lemmas.List.Sums.{fold_push}
-use Rattle.symbols.specs.declared.kept.Kept.{Kept}
+use Rattle.symbols.specs.declared.kept_symbol.KeptSymbol.{KeptSymbol}
 use Rattle.symbols.specs.Covering.{covers, covering, first_of_two}
 use Rattle.symbols.specs.Kept.{kept_symbols, symbol_in}
 use Rattle.symbols.specs.Symbol.{Symbol}
@@ -17,7 +17,7 @@ reduce_push : {A : Type 0} (f : A → A → A) (xs : List A) (y : A) → reduce 
 reduce_push f [] y = refl
 reduce_push f (x ∷ xs) y = ap Some (fold_push f x xs y)
 
-pub kept_symbols_more : (strings : List ℕ) (kept : List Kept) (i : ℕ) (d : Kept) → i < length kept → kept_symbols strings (take (i + 1) kept) ≡ kept_symbols strings (take i kept) ++ symbol_in strings (get_or kept i d) ∷ []
+pub kept_symbols_more : (strings : List ℕ) (kept : List KeptSymbol) (i : ℕ) (d : KeptSymbol) → i < length kept → kept_symbols strings (take (i + 1) kept) ≡ kept_symbols strings (take i kept) ++ symbol_in strings (get_or kept i d) ∷ []
 unfolding kept_symbols
 kept_symbols_more strings kept i d inside =
     ap (map (symbol_in strings)) (take_more kept i d inside) ∙ map-append (symbol_in strings) (take i kept) (get_or kept i d ∷ [])
@@ -38,23 +38,23 @@ covering_passed_over symbols address symbol fails =
     ap (reduce first_of_two) (filter-append (covers address) symbols (symbol ∷ []) ∙ ap (λ xs. filter (covers address) symbols ++ xs) none ∙ append-nil (filter (covers address) symbols))
 
 -- one more kept symbol that covers the address
-pub covering_more-covered : (strings : List ℕ) (kept : List Kept) (i : ℕ) (d : Kept) (address : ℕ) (first : Option Kept) (chosen : Kept) → i < length kept → option_map (symbol_in strings) first ≡ covering (kept_symbols strings (take i kept)) address → covers address (symbol_in strings (get_or kept i d)) ≡ true → symbol_in strings chosen ≡ option_map_or (λ earlier. first_of_two earlier (symbol_in strings (get_or kept i d))) (option_map (symbol_in strings) first) (symbol_in strings (get_or kept i d)) → option_map (symbol_in strings) (Some chosen) ≡ covering (kept_symbols strings (take (i + 1) kept)) address
+pub covering_more-covered : (strings : List ℕ) (kept : List KeptSymbol) (i : ℕ) (d : KeptSymbol) (address : ℕ) (first : Option KeptSymbol) (chosen : KeptSymbol) → i < length kept → option_map (symbol_in strings) first ≡ covering (kept_symbols strings (take i kept)) address → covers address (symbol_in strings (get_or kept i d)) ≡ true → symbol_in strings chosen ≡ option_map_or (λ earlier. first_of_two earlier (symbol_in strings (get_or kept i d))) (option_map (symbol_in strings) first) (symbol_in strings (get_or kept i d)) → option_map (symbol_in strings) (Some chosen) ≡ covering (kept_symbols strings (take (i + 1) kept)) address
 covering_more-covered strings kept i d address first chosen inside before passes is =
     ap Some (is ∙ ap (λ (o : Option Symbol). option_map_or (λ earlier. first_of_two earlier (symbol_in strings (get_or kept i d))) o (symbol_in strings (get_or kept i d))) before)
     ∙ sym (covering_passed (kept_symbols strings (take i kept)) address (symbol_in strings (get_or kept i d)) passes)
     ∙ ap (λ (symbols : List Symbol). covering symbols address) (sym (kept_symbols_more strings kept i d inside))
 
 -- and one that doesn't
-pub covering_more-left : (strings : List ℕ) (kept : List Kept) (i : ℕ) (d : Kept) (address : ℕ) (first : Option Kept) → i < length kept → option_map (symbol_in strings) first ≡ covering (kept_symbols strings (take i kept)) address → covers address (symbol_in strings (get_or kept i d)) ≡ false → option_map (symbol_in strings) first ≡ covering (kept_symbols strings (take (i + 1) kept)) address
+pub covering_more-left : (strings : List ℕ) (kept : List KeptSymbol) (i : ℕ) (d : KeptSymbol) (address : ℕ) (first : Option KeptSymbol) → i < length kept → option_map (symbol_in strings) first ≡ covering (kept_symbols strings (take i kept)) address → covers address (symbol_in strings (get_or kept i d)) ≡ false → option_map (symbol_in strings) first ≡ covering (kept_symbols strings (take (i + 1) kept)) address
 covering_more-left strings kept i d address first inside before fails =
     before
     ∙ sym (covering_passed_over (kept_symbols strings (take i kept)) address (symbol_in strings (get_or kept i d)) fails)
     ∙ ap (λ (symbols : List Symbol). covering symbols address) (sym (kept_symbols_more strings kept i d inside))
 
 -- what holds of the first symbol so far and of the next one holds of the one chosen
-pub chosen_holds : (P : Kept → Type 0) (first : Option Kept) (chosen next : Kept) → (chosen ≡ next) ⊎ (first ≡ Some chosen) → P next → IfSome first P → P chosen
+pub chosen_holds : (P : KeptSymbol → Type 0) (first : Option KeptSymbol) (chosen next : KeptSymbol) → (chosen ≡ next) ⊎ (first ≡ Some chosen) → P next → IfSome first P → P chosen
 chosen_holds P first chosen next (inl is) own before = subst P (sym is) own
-chosen_holds P first chosen next (inr is) own before = subst (λ (o : Option Kept). IfSome o P) is before
+chosen_holds P first chosen next (inr is) own before = subst (λ (o : Option KeptSymbol). IfSome o P) is before
 
 -- a symbol that covers an address begins at or below it
 pub covers_from_below : (address : ℕ) (symbol : Symbol) → covers address symbol ≡ true → symbol.value ≤ address

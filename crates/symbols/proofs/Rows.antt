@@ -5,7 +5,7 @@ use Rattle.std.specs.List.{range_with_len, cons_option}
 use Rattle.std.proofs.lemmas.List.{map-append, append-nil}
 use Rattle.std.proofs.lemmas.List.Elements.{filter_map-append}
 use Rattle.std.proofs.lemmas.List.FromFn.{map-range_with_len_more}
-use Rattle.symbols.specs.declared.kept.Kept.{Kept}
+use Rattle.symbols.specs.declared.kept_symbol.KeptSymbol.{KeptSymbol}
 use Rattle.symbols.specs.declared.section.Section.{Section}
 use Rattle.symbols.specs.Entries.{entry_at}
 use Rattle.symbols.specs.Fields.{word_at}
@@ -34,12 +34,12 @@ symbols_before-more strings table type count =
     ∙ filter_map-append (symbol_of strings type) (map (λ row. entry_at table (entry_size * row)) (range_with_len 0 count)) (entry_at table (entry_size * count) ∷ [])
 
 -- one more symbol is kept
-pub kept_symbols-push : (strings : List ℕ) (kept : List Kept) (symbol : Kept) → kept_symbols strings (kept ++ symbol ∷ []) ≡ kept_symbols strings kept ++ symbol_in strings symbol ∷ []
+pub kept_symbols-push : (strings : List ℕ) (kept : List KeptSymbol) (symbol : KeptSymbol) → kept_symbols strings (kept ++ symbol ∷ []) ≡ kept_symbols strings kept ++ symbol_in strings symbol ∷ []
 unfolding kept_symbols
 kept_symbols-push strings kept symbol = map-append (symbol_in strings) kept (symbol ∷ [])
 
 -- an entry whose symbol is kept
-pub row_kept : (strings table : List ℕ) (type row : ℕ) (kept : List Kept) (symbol : Kept) → kept_symbols strings kept ≡ symbols_before strings table type row → Some (symbol_in strings symbol) ≡ symbol_of strings type (entry_at table (entry_size * row)) → kept_symbols strings (kept ++ symbol ∷ []) ≡ symbols_before strings table type (row + 1)
+pub row_kept : (strings table : List ℕ) (type row : ℕ) (kept : List KeptSymbol) (symbol : KeptSymbol) → kept_symbols strings kept ≡ symbols_before strings table type row → Some (symbol_in strings symbol) ≡ symbol_of strings type (entry_at table (entry_size * row)) → kept_symbols strings (kept ++ symbol ∷ []) ≡ symbols_before strings table type (row + 1)
 row_kept strings table type row kept symbol before is =
     kept_symbols-push strings kept symbol
     ∙ ap (λ (symbols : List Symbol). symbols ++ symbol_in strings symbol ∷ []) before
@@ -47,7 +47,7 @@ row_kept strings table type row kept symbol before is =
     ∙ sym (symbols_before-more strings table type row)
 
 -- and one that has none
-pub row_left_out : (strings table : List ℕ) (type row : ℕ) (kept : List Kept) → kept_symbols strings kept ≡ symbols_before strings table type row → None ≡ symbol_of strings type (entry_at table (entry_size * row)) → kept_symbols strings kept ≡ symbols_before strings table type (row + 1)
+pub row_left_out : (strings table : List ℕ) (type row : ℕ) (kept : List KeptSymbol) → kept_symbols strings kept ≡ symbols_before strings table type row → None ≡ symbol_of strings type (entry_at table (entry_size * row)) → kept_symbols strings kept ≡ symbols_before strings table type (row + 1)
 row_left_out strings table type row kept before is =
     before
     ∙ sym (append-nil (symbols_before strings table type row))

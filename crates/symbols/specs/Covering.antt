@@ -1,7 +1,7 @@
 -- Which symbol names an address.
 use Rattle.std.specs.Prelude.{◌≡◌, ℕ, ◌+◌, ◌-◌, Bool, ◌&&◌, ◌||◌, ◌==◌, not, nat_lt, nat_le, if◌then◌else◌, Option, Some, None, option_map, List, [], filter, length, slice_get}
 use Rattle.std.specs.List.{IsFirstBest, reduce}
-use Rattle.symbols.specs.declared.place.Place.{Place}
+use Rattle.symbols.specs.declared.symbol_offset.SymbolOffset.{SymbolOffset}
 use Rattle.symbols.specs.Symbol.{Symbol}
 
 -- whether a symbol covers an address
@@ -33,7 +33,7 @@ pub record NamedPlace : Type 0 where
   pub offset : ℕ
 
 -- what is told of an address
-abbrev pub told : Place → NamedPlace
+abbrev pub told : SymbolOffset → NamedPlace
 told place = record { name = place.name.now; offset = place.offset }
 
 -- what an address is called

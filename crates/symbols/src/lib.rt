@@ -8,13 +8,13 @@
 mod covering;
 mod entry;
 mod fields;
-mod kept;
+mod kept_symbol;
 mod names;
-mod place;
 mod reading;
 mod section;
 mod sections;
+mod symbol_offset;
 mod symbols;
 
-pub use place::Place;
+pub use symbol_offset::SymbolOffset;
 pub use symbols::Symbols;

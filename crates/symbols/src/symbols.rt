@@ -5,10 +5,10 @@ ghost use Rattle.symbols.specs.Symbols.{symbols_of};
 
 use crate::covering::place_in;
 use crate::entry::{STT_FUNC, STT_OBJECT};
-use crate::kept::Kept;
-use crate::place::Place;
+use crate::kept_symbol::KeptSymbol;
 use crate::reading::read_symbols;
 use crate::sections::{bytes_of, sections, string_table, symbol_table};
+use crate::symbol_offset::SymbolOffset;
 use std::alloc::{AllocError, Global};
 use std::marker::Model;
 
@@ -16,8 +16,8 @@ use std::marker::Model;
 #[derive(Drop)]
 pub struct Symbols {
     strings: Vec<u8>,
-    objects: Vec<Kept>,
-    functions: Vec<Kept>,
+    objects: Vec<KeptSymbol>,
+    functions: Vec<KeptSymbol>,
 }
 
 impl Model for Symbols {
@@ -60,7 +60,7 @@ impl Symbols {
     /// The object that covers an address, none if none does: of several the smallest, of those a global one, of those the first in the
     /// table.
     #[tactic(auto, using(crate::proofs::Law::covering_first))]
-    pub fn object_at(&self, address: u32) -> Option<Place<'_>>
+    pub fn object_at(&self, address: u32) -> Option<SymbolOffset<'_>>
         ensures place { option_map told result ≡ place_at self.now.objects address }
         // What is told is of the first one of those that cover the address.
         ensures first { IsFirstOf (filter (covers address) self.now.objects) (covering self.now.objects address) }
@@ -70,7 +70,7 @@ impl Symbols {
 
     /// The function that covers an address, chosen as an object is.
     #[tactic(auto, using(crate::proofs::Law::covering_first))]
-    pub fn function_at(&self, address: u32) -> Option<Place<'_>>
+    pub fn function_at(&self, address: u32) -> Option<SymbolOffset<'_>>
         ensures place { option_map told result ≡ place_at self.now.functions address }
         // What is told is of the first one of those that cover the address.
         ensures first { IsFirstOf (filter (covers address) self.now.functions) (covering self.now.functions address) }

@@ -51,6 +51,19 @@ const NUMBER_0: Shuffle = Shuffle {
     choices: 0,
 };
 
+/// A program that exits with the value that it finds in x10, and one that exits with that in x11.
+static EXIT_BY_X10: [u32; 2] = [0x0010_0893, 0x0000_0073];
+
+static EXIT_BY_X11: [u32; 3] = [0x0005_8513, 0x0010_0893, 0x0000_0073];
+
+/// A schedule's number with a limit of the program's choices. It shuffles all phases.
+const NUMBERED: Shuffle = Shuffle {
+    number: 3_000_000_007,
+    first: 1,
+    last: u64::MAX,
+    choices: 9,
+};
+
 /// A trap of thread 0.
 fn trap(pc: u32, cause: Cause, value: u32) -> RunOutcome {
     RunOutcome::Trap {
@@ -172,6 +185,31 @@ fn refuses_files(rt: HostRuntime) -> Result<(), Fail> {
     assert_truncated(&rt, rt.alloc(), &SEVEN.file(rt.alloc())?)?;
     let header = file_of_headers(rt.alloc(), &[], &[])?;
     assert_refused(&rt, rt.alloc(), &header, ElfFault::BadEntry);
+    Ok(())
+}
+
+/// Asserts with which status a program exits by a schedule.
+fn assert_start(
+    rt: &(impl Abort + Threads + Wait + Sync),
+    alloc: Global,
+    words: &[u32],
+    shuffle: Option<Shuffle>,
+    status: u32,
+) -> Result<(), AllocError> {
+    let file = file_of(alloc, words)?;
+    let config = Config { shuffle, ..CONFIG };
+    let wanted = ends(RunOutcome::Exit(status));
+    assert_ending(rt, alloc, &file, &[], &config, wanted);
+    Ok(())
+}
+
+/// A program finds the schedule's number in x10 and the limit of its choices in x11. Without a number both are 0.
+#[test]
+fn begins_with_the_schedule(rt: HostRuntime) -> Result<(), Fail> {
+    assert_start(&rt, rt.alloc(), &EXIT_BY_X10, None, 0)?;
+    assert_start(&rt, rt.alloc(), &EXIT_BY_X11, None, 0)?;
+    assert_start(&rt, rt.alloc(), &EXIT_BY_X10, Some(NUMBERED), 3_000_000_007)?;
+    assert_start(&rt, rt.alloc(), &EXIT_BY_X11, Some(NUMBERED), 9)?;
     Ok(())
 }
 

@@ -3,7 +3,7 @@
 use crate::answer::Answer;
 use crate::perms::write_perm;
 use disassembler::listing;
-use elf32_reader::{Image, Segment};
+use elf32_reader::{Image, ImageSegment};
 use std::alloc::{AllocError, Global};
 
 /// Answers a line on an image, if it is one.
@@ -27,7 +27,7 @@ pub fn take_image_line(
 }
 
 /// Writes the address, the size in memory, the permissions and the bytes of each segment.
-fn write_segments(answer: &mut Answer, segments: &[Segment]) {
+fn write_segments(answer: &mut Answer, segments: &[ImageSegment]) {
     for segment in segments {
         answer.numbers(&[segment.vaddr(), segment.memsz()]);
         write_perm(answer, Some(segment.flags()));

@@ -8,7 +8,7 @@ ghost use Rattle.token.specs.RunInTurn.{point_of};
 ghost use Rattle.worker_pool.specs.Jobs.{AreJobsIn};
 
 use paged_memory::Snapshot;
-use parallel_phase::{Ran, TakerStage, TurnTaker};
+use parallel_phase::{FinishedJob, TakerStage, TurnTaker};
 use phase_jobs::Gate;
 use segment::Segment;
 use std::alloc::{AllocError, Global};
@@ -49,7 +49,7 @@ fn job_turn<B: OfRun>(
     number: u64,
     threads: &[u32],
     job: u32,
-    ran: Ran,
+    ran: FinishedJob,
 ) -> Option<u32>
     requires setup { (point_of serial.old).setup ≡ B.setup }
     requires ran { (jobs : List SegmentValue) × (memory : Memory) × AreJobsIn B.setup number threads.now jobs memory
@@ -171,7 +171,7 @@ impl<'a, B: OfRun, G: Gate> TurnTaker for PhaseTurns<'a, B, G> {
         Ok(goes_on)
     }
 
-    fn take(&mut self, job: u32, ran: Ran) -> Result<bool, AllocError> {
+    fn take(&mut self, job: u32, ran: FinishedJob) -> Result<bool, AllocError> {
         let done = job_turn::<B>(
             &mut self.serial,
             self.number,

@@ -1,6 +1,6 @@
-use Rattle.std.specs.Prelude.{ℕ, Bool, false, ◌==◌, ◌&&◌, if◌then◌else◌}
+use Rattle.std.specs.Prelude.{ℕ, Bool, false, ◌==◌, ◌&&◌, if◌then◌else◌, Option, Some, None}
+use Rattle.abi.specs.Calls.{joined_in}
 use Rattle.abi.specs.declared.call.Call.{Call}
-use Rattle.abi.specs.declared.call.Call.TheVariants.{Join}
 use Rattle.ecalls.specs.Request.{call_of}
 use Rattle.hart.specs.HartState.{HartState, started_registers}
 use Rattle.thread_table.specs.Status.{is_blocked}
@@ -15,10 +15,14 @@ started hart = record { status = Ready; hart = hart; executed = 0 }
 abbrev pub blank : Thread
 blank = started (record { registers = started_registers 0 0 0; pc = 0 })
 
+-- whether the end that is waited for is thread n's
+abbrev pub is_end_of : ℕ → Option ℕ → Bool
+is_end_of n None = false
+is_end_of n (Some thread) = thread == n
+
 -- whether a call is a join of thread n
 abbrev pub is_join_of : ℕ → Call → Bool
-is_join_of n (Join thread) = thread == n
-is_join_of n _ = false
+is_join_of n call = is_end_of n (joined_in call)
 
 -- whether a thread waits for thread n's end: it is blocked, and its hart's call is join of n
 unfoldable pub is_joiner_of : ℕ → Thread → Bool

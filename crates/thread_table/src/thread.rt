@@ -2,7 +2,6 @@
 ghost use Rattle.std.specs.Prelude.{◌≡◌, ◌%◌};
 
 use crate::status::Status;
-use abi::Call;
 use ecalls::call_of;
 use hart::Hart;
 
@@ -36,9 +35,9 @@ impl Thread {
     pub(crate) fn is_joiner_of(&self, n: u32) -> bool
         ensures { result ≡ is_joiner_of n self.now }
     {
-        match (self.status, call_of(&self.hart)) {
-            (Status::Blocked, Call::Join { thread }) => thread == n,
-            _ => false,
+        match call_of(&self.hart).joined() {
+            Some(thread) => self.status == Status::Blocked && thread == n,
+            None => false,
         }
     }
 }

@@ -22,9 +22,9 @@ use Rattle.token.specs.Turns.{Ran}
 use Rattle.token.proofs.SegmentEnds.{one_end}
 use Rattle.timeline.specs.Underway.{EndsHere, IsUnderway, IsOver, IsProgress, IsStopped, IsTrapped, origin_of}
 use Rattle.timeline.specs.declared.halt.Halt.TheVariants.{End}
-use Rattle.timeline.specs.declared.underway.Underway.{Underway}
-use Rattle.timeline.specs.declared.underway.Progress.{Progress}
-use Rattle.timeline.specs.declared.underway.Progress.TheVariants.{Stays, Halts, Over}
+use Rattle.timeline.specs.declared.present_segment.PresentSegment.{PresentSegment}
+use Rattle.timeline.specs.declared.present_segment.SegmentOutcome.{SegmentOutcome}
+use Rattle.timeline.specs.declared.present_segment.SegmentOutcome.TheVariants.{Stays, Halts, Over}
 
 -- a segment stops no earlier than it has come
 pub not_before : (hart last : HartState) (memory last_memory : Memory) (left : ℕ) (quantum : Option ℕ) (done steps : ℕ) (stop : Stop)
@@ -83,7 +83,7 @@ no_earlier hart last end_hart memory last_memory end_memory left quantum done co
     omega arith
 
 -- a segment that stands at a trap
-at_trap : (mid : Underway) (count : ℕ) (trap : TrapOf) → snapshots.cells_of mid.under ≡ snapshots.cells_of (views.base_of mid.view) → EndsHere mid (Trap trap) count → IsUnderway (record mid { done = count; trap = Some trap })
+at_trap : (mid : PresentSegment) (count : ℕ) (trap : TrapOf) → snapshots.cells_of mid.under ≡ snapshots.cells_of (views.base_of mid.view) → EndsHere mid (Trap trap) count → IsUnderway (record mid { done = count; trap = Some trap })
 at_trap mid count trap under ends =
     let segment = ends.0 in
     record {
@@ -98,24 +98,24 @@ at_trap mid count trap under ends =
     }
 
 -- the segment stands at a trap that was found
-trapped : (old mid new : Underway) (until count : ℕ) (trap : TrapOf) (result : Progress)
+trapped : (old mid new : PresentSegment) (until count : ℕ) (trap : TrapOf) (result : SegmentOutcome)
     → IsUnderway old → mid.done ≡ old.done → origin_of mid ≡ origin_of old → snapshots.cells_of mid.under ≡ snapshots.cells_of (views.base_of mid.view)
     → EndsHere mid (Trap trap) count → old.done ≤ count → count ≤ until → IsTrapped mid trap count result new → IsProgress old until result new
 trapped old mid new until count trap Stays underway same_done same_origin under ends no_less within is =
     let above = is.0 in
     let further : old.done < count = omega arith in
-    subst (λ (new : Underway). IsUnderway new × (origin_of new ≡ origin_of old) × (old.done < new.done) × (new.done ≤ until)) (sym is.1)
+    subst (λ (new : PresentSegment). IsUnderway new × (origin_of new ≡ origin_of old) × (old.done < new.done) × (new.done ≤ until)) (sym is.1)
     (at_trap mid count trap under ends, same_origin, further, within)
 trapped old mid new until count trap (Halts halt) underway same_done same_origin under ends no_less within is =
     let above = is.0 in
     let same : count ≡ old.done = omega arith in
     let stands : (halt ≡ End) × IsUnderway (record mid { done = count; trap = Some trap }) × (origin_of (record mid { done = count; trap = Some trap }) ≡ origin_of old) × (count ≡ old.done) × ((found : TrapOf) × (Some trap ≡ Some found)) =
     (is.1, at_trap mid count trap under ends, same_origin, same, (trap, refl)) in
-    subst (λ (new : Underway). (halt ≡ End) × IsUnderway new × (origin_of new ≡ origin_of old) × (new.done ≡ old.done) × ((found : TrapOf) × (new.trap ≡ Some found))) (sym is.2) stands
+    subst (λ (new : PresentSegment). (halt ≡ End) × IsUnderway new × (origin_of new ≡ origin_of old) × (new.done ≡ old.done) × ((found : TrapOf) × (new.trap ≡ Some found))) (sym is.2) stands
 trapped old mid new until count trap (Over end) underway same_done same_origin under ends no_less within is = absurd is
 
 -- the end of a segment that is over
-over : (old new : Underway) (origin : Origin) (until count : ℕ) (stop : Stop) (result : Progress)
+over : (old new : PresentSegment) (origin : Origin) (until count : ℕ) (stop : Stop) (result : SegmentOutcome)
     → origin ≡ origin_of old → ((trap : TrapOf) → stop ≡ Trap trap → ⊥) → old.done < count → count ≤ until → IsOver origin stop count result → IsProgress old until result new
 over old new origin until count stop Stays same other further within is = absurd is
 over old new origin until count stop (Halts halt) same other further within is = absurd is
@@ -135,7 +135,7 @@ over old new origin until count stop (Over (Some end)) same other further within
     )
 
 -- a segment that stopped is at a trap or over
-pub stopped_is : {E : Type 0} (old mid new : Underway) (until count : ℕ) (stop : Stop) (result : Result Progress E)
+pub stopped_is : {E : Type 0} (old mid new : PresentSegment) (until count : ℕ) (stop : Stop) (result : Result SegmentOutcome E)
     → IsUnderway old → old.trap ≡ None → mid.done ≡ old.done → origin_of mid ≡ origin_of old → snapshots.cells_of mid.under ≡ snapshots.cells_of (views.base_of mid.view)
     → EndsHere mid stop count → count ≤ until → IfOk result (λ progress. IsStopped mid stop count progress new) → IfOk result (λ progress. IsProgress old until progress new)
 stopped_is old mid new until count stop (Err error) underway goes same_done same_origin under ends within is = is

@@ -16,7 +16,7 @@ use Rattle.timeline.specs.Shown.{Executing, own_at}
 use Rattle.timeline.specs.declared.halt.Halt.{Halt}
 use Rattle.timeline.specs.declared.halt.Halt.TheVariants.{End, OtherThread}
 use Rattle.timeline.specs.declared.present.Present.{Present}
-use Rattle.timeline.specs.declared.scout.Found.{Found}
+use Rattle.timeline.specs.declared.scout.FoundHalt.{FoundHalt}
 use Rattle.timeline.proofs.Calling.{call_nothing}
 use Rattle.timeline.proofs.Ending.{earlier, leads_on, none_follows, only_end}
 use Rattle.timeline.proofs.Positions.{at_start, then_next}
@@ -77,7 +77,7 @@ other_step wanted start old to there moves next =
     }
 
 -- a step at which is looked
-pub looked_step : (wanted : Wanted) (start : Point) (old : Present) (to : ℕ) (found : Option Found) → moment_at start (step_of old) ≡ Some (moment_of old)
+pub looked_step : (wanted : Wanted) (start : Point) (old : Present) (to : ℕ) (found : Option FoundHalt) → moment_at start (step_of old) ≡ Some (moment_of old)
     → moves_other wanted.alone (need_at (point_at old)) ≡ false → to ≡ step_of old + 1 → IsToldOf wanted (moment_of old) (step_of old) found → IsFound wanted start (step_of old) to found
 looked_step wanted start old to None there moves next told = λ n low high.
     let same : n ≡ step_of old = omega (arith, next, low, high) in
@@ -106,7 +106,7 @@ either wanted start from mid to before now = λ n low high.
     ]
 
 -- what was found so far and what is found further on
-pub then_found : (wanted : Wanted) (start : Point) (from mid to : ℕ) (last found : Option Found) → from ≤ mid → mid ≤ to → IsFound wanted start from mid last → IsFound wanted start mid to found
+pub then_found : (wanted : Wanted) (start : Point) (from mid to : ℕ) (last found : Option FoundHalt) → from ≤ mid → mid ≤ to → IsFound wanted start from mid last → IsFound wanted start mid to found
     → IsFound wanted start from to (option_or found last)
 then_found wanted start from mid to last (Some found) since within before now =
     record {

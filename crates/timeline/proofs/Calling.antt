@@ -7,6 +7,7 @@ use Rattle.guest_memory.specs.Memory.{Memory, fetched}
 use Rattle.decoder.specs.Decoding.{decoded}
 use Rattle.decoder.specs.declared.instr.Instr.{Instr}
 use Rattle.decoder.specs.declared.instr.Instr.TheVariants.{Ecall as Call}
+use Rattle.hart.specs.Accesses.{access_of}
 use Rattle.hart.specs.HartState.{HartState}
 use Rattle.hart.specs.Next.{Calls, decoded_word, executed, fetched_word, next}
 use Rattle.hart.specs.Segment.{is_used_up, stop_after, stop_at}
@@ -15,7 +16,7 @@ use Rattle.hart.specs.declared.stop.Stop.TheVariants.{Ecall, Quantum}
 use Rattle.marked_memory.specs.declared.watch.Watch.{Watch}
 use Rattle.token.specs.Point.{Point}
 use Rattle.timeline.specs.Calls.{call_at, call_by}
-use Rattle.timeline.specs.Halts.{Wanted, access_event, access_of, calls_next, first_from, is_call, next_access, next_instr}
+use Rattle.timeline.specs.Halts.{Wanted, access_event, calls_next, first_from, is_call, next_access, next_instr}
 use Rattle.timeline.specs.Moment.{Moment, Origin, state_in, stop_in, origin_at}
 use Rattle.timeline.specs.Quiet.{IsQuiet}
 use Rattle.timeline.specs.Shown.{Executing, own_at, own_by}

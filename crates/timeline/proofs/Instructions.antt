@@ -6,16 +6,17 @@ use Rattle.decoder.specs.Decoding.{decoded}
 use Rattle.decoder.specs.declared.instr.Instr.{Instr}
 use Rattle.decoded_code.specs.Code.{HasCode, entry_at, entry_of}
 use Rattle.decoded_code.proofs.Coding.{code_kept}
+use Rattle.hart.specs.Accesses.{access_of}
 use Rattle.hart.specs.HartState.{HartState}
 use Rattle.paged_memory.specs.Snapshot as snapshots
 use Rattle.twins.specs.View as views
 use Rattle.segment.proofs.Coding.{view_keeps}
-use Rattle.timeline.specs.Halts.{IsInstr, access_of, is_call}
+use Rattle.timeline.specs.Halts.{IsInstr, is_call}
 use Rattle.timeline.specs.Underway.{IsUnderway}
-use Rattle.timeline.specs.declared.underway.Underway.{Underway}
+use Rattle.timeline.specs.declared.present_segment.PresentSegment.{PresentSegment}
 
 -- the code below a segment's memory is that of the memory
-pub code_of : (underway : Underway) (start : ℕ) (entries : List Instr) → IsUnderway underway → HasCode start entries (snapshots.cells_of underway.under) → HasCode start entries (views.cells_of underway.view)
+pub code_of : (underway : PresentSegment) (start : ℕ) (entries : List Instr) → IsUnderway underway → HasCode start entries (snapshots.cells_of underway.under) → HasCode start entries (views.cells_of underway.view)
 code_of underway start entries is code =
     let base = subst (λ (memory : Memory). HasCode start entries memory) is.under code in
     code_kept _ _ (snapshots.cells_of (views.base_of underway.view)) (views.cells_of underway.view) base

@@ -31,9 +31,9 @@ use Rattle.timeline.specs.Shown.{Executing, own_at, own_by}
 use Rattle.timeline.specs.declared.halt.Halt.{Halt}
 use Rattle.timeline.specs.declared.halt.Halt.TheVariants.{End}
 use Rattle.timeline.specs.declared.present.Present.{Present}
-use Rattle.timeline.specs.declared.underway.Progress.{Progress}
-use Rattle.timeline.specs.declared.underway.Progress.TheVariants.{Stays, Halts, Over}
-use Rattle.timeline.specs.declared.underway.Underway.{Underway}
+use Rattle.timeline.specs.declared.present_segment.SegmentOutcome.{SegmentOutcome}
+use Rattle.timeline.specs.declared.present_segment.SegmentOutcome.TheVariants.{Stays, Halts, Over}
+use Rattle.timeline.specs.declared.present_segment.PresentSegment.{PresentSegment}
 use Rattle.timeline.proofs.Calling.{call_nothing, call_passed, call_quiet, call_without, event_no_call, no_call}
 use Rattle.timeline.proofs.Places.{no_event}
 use Rattle.timeline.proofs.Positions.{within_turn}
@@ -101,13 +101,13 @@ plain wanted point origin steps is each call never runs no_quantum =
     }
 
 -- what is known of the positions that a segment passed
-abbrev pub StillBy : Wanted → Underway → Progress → Underway → Type 0
+abbrev pub StillBy : Wanted → PresentSegment → SegmentOutcome → PresentSegment → Type 0
 StillBy wanted old Stays new = IsQuiet wanted (origin_of old) old.done new.done
 StillBy wanted old (Halts halt) new = IsQuiet wanted (origin_of old) old.done new.done × HaltsSo wanted halt new
 StillBy wanted old (Over None) new = Unit {0}
 StillBy wanted old (Over (Some end)) new = IsQuiet wanted (origin_of old) old.done end.count
 
-pub looked_still : (wanted : Wanted) (old new : Underway) (progress : Progress) → IsLooked wanted old progress new → StillBy wanted old progress new
+pub looked_still : (wanted : Wanted) (old new : PresentSegment) (progress : SegmentOutcome) → IsLooked wanted old progress new → StillBy wanted old progress new
 looked_still wanted old new Stays is = is
 looked_still wanted old new (Halts halt) is = is
 looked_still wanted old new (Over None) is = tt
@@ -159,10 +159,10 @@ runs_before origin end k last within j below =
     let most : end.count ≤ segment.steps + 1 = rw segment.count_is (counted_by end.stop segment.steps) in
     segment.running j (omega (arith, most, below, within))
 
-underway_runs : (underway : Underway) (origin : Origin) (k : ℕ) → IsUnderway underway → origin_of underway ≡ origin → k < underway.done → stop_in origin k ≡ None
+underway_runs : (underway : PresentSegment) (origin : Origin) (k : ℕ) → IsUnderway underway → origin_of underway ≡ origin → k < underway.done → stop_in origin k ≡ None
 underway_runs underway origin k is same within = ap (λ (origin : Origin). stop_in origin k) (sym same) ∙ is.stands.runs.running k within
 
-underway_never : (underway : Underway) (k : ℕ) (trap : Trap) → IsUnderway underway → k < underway.done → stop_in (origin_of underway) k ≡ Some (stopped.Trap trap) → ⊥
+underway_never : (underway : PresentSegment) (k : ℕ) (trap : Trap) → IsUnderway underway → k < underway.done → stop_in (origin_of underway) k ≡ Some (stopped.Trap trap) → ⊥
 underway_never underway k trap is within stops = let none = is.stands.runs.running k within in cc
 
 -- it halts for the address, or else for what comes next
@@ -171,7 +171,7 @@ halts_first : (address call event rest : Option Halt) (halt : Halt) → first_of
 halts_first None call event rest halt is none = rw (none is, is) refl
 halts_first (Some address) call event rest halt is none = is
 
-halting : (wanted : Wanted) (old : Present) (underway new : Underway) (halt : Halt) → origin_at (point_at old) ≡ Some (origin_of new) → IsUnderway new → HaltsSo wanted halt new
+halting : (wanted : Wanted) (old : Present) (underway new : PresentSegment) (halt : Halt) → origin_at (point_at old) ≡ Some (origin_of new) → IsUnderway new → HaltsSo wanted halt new
     → first_of (address_at wanted (own_at (moment_of (record old { underway = Some new })))) (step_halt wanted (moment_of (record old { underway = Some new }))) ≡ Some halt
 halting wanted old underway new halt needs is so =
     let own : own_at (record { point = point_at old; steps = new.done }) ≡ Some (record { thread = new.work.thread; hart = new.hart; memory = views.cells_of new.view }) =
@@ -208,7 +208,7 @@ halting wanted old underway new halt needs is so =
         let calls = none_next (no_call (origin_of new) new.done new.hart (views.cells_of new.view) is.stands.runs.reached (λ quantum. cc) (λ ecall. cc)) in
         rw (both.0, calls, both.1, stops, at_end) refl
 
-passed_by : (wanted : Wanted) (old : Present) (underway new : Underway) (most : ℕ) (progress : Progress) → old.underway ≡ Some underway → IsTurns (point_at old) (Some underway)
+passed_by : (wanted : Wanted) (old : Present) (underway new : PresentSegment) (most : ℕ) (progress : SegmentOutcome) → old.underway ≡ Some underway → IsTurns (point_at old) (Some underway)
     → call_at wanted.watches (moment_of old) ≡ None → IsFurther underway most progress new → StillBy wanted underway progress new → IsPassed wanted old progress (record old { underway = Some new })
 passed_by wanted old underway new most Stays is turns call further still =
     let steps : steps_of old.underway ≡ underway.done = ap steps_of is in
@@ -240,13 +240,13 @@ passed_by wanted old underway new most (Over (Some end)) is turns call further s
     (λ trap stops. never_traps (origin_of underway) end k trap further.0.0 high stops) (runs_before (origin_of underway) end k further.0.0 high)
     (never_quantum (origin_of underway) end k further.0.0 high)
 
-pub passed : {E : Type 0} (wanted : Wanted) (old : Present) (underway new : Underway) (most : ℕ) (result : Result Progress E) → old.underway ≡ Some underway → IsTurns (point_at old) (Some underway)
+pub passed : {E : Type 0} (wanted : Wanted) (old : Present) (underway new : PresentSegment) (most : ℕ) (result : Result SegmentOutcome E) → old.underway ≡ Some underway → IsTurns (point_at old) (Some underway)
     → call_at wanted.watches (moment_of old) ≡ None → IfOk result (λ progress. IsFurther underway most progress new) → IfOk result (λ progress. StillBy wanted underway progress new)
     → IfOk result (λ progress. IsPassed wanted old progress (record old { underway = Some new }))
 passed wanted old underway new most (Err error) is turns call further still = further
 passed wanted old underway new most (Ok progress) is turns call further still = passed_by wanted old underway new most progress is turns call further still
 
-pub all_looked : {E : Type 0} (wanted : Wanted) (old new : Underway) (result : Result Progress E) → IfOk result (λ progress. IsLooked wanted old progress new)
+pub all_looked : {E : Type 0} (wanted : Wanted) (old new : PresentSegment) (result : Result SegmentOutcome E) → IfOk result (λ progress. IsLooked wanted old progress new)
     → IfOk result (λ progress. StillBy wanted old progress new)
 all_looked wanted old new (Err error) is = is
 all_looked wanted old new (Ok progress) is = looked_still wanted old new progress is
@@ -281,7 +281,7 @@ unasked_quiet wanted origin from to none =
       calls = λ k hart memory low high there watched. absurd (watched (unasked_watches wanted origin.work.thread none));
     }
 
-unasked_by : (wanted : Wanted) (old new : Underway) (most : ℕ) (progress : Progress) → asks wanted old.work.thread ≡ false → IsProgress old most progress new → StillBy wanted old progress new
+unasked_by : (wanted : Wanted) (old new : PresentSegment) (most : ℕ) (progress : SegmentOutcome) → asks wanted old.work.thread ≡ false → IsProgress old most progress new → StillBy wanted old progress new
 unasked_by wanted old new most Stays none is = unasked_quiet wanted (origin_of old) old.done new.done none
 unasked_by wanted old new most (Halts halt) none is =
     let thread : new.work.thread ≡ old.work.thread = ap (λ (origin : Origin). origin.work.thread) is.2 in (
@@ -291,13 +291,13 @@ unasked_by wanted old new most (Halts halt) none is =
 unasked_by wanted old new most (Over None) none is = tt
 unasked_by wanted old new most (Over (Some end)) none is = unasked_quiet wanted (origin_of old) old.done end.count none
 
-pub all_unasked : {E : Type 0} (wanted : Wanted) (old new : Underway) (most : ℕ) (result : Result Progress E) → asks wanted old.work.thread ≡ false
+pub all_unasked : {E : Type 0} (wanted : Wanted) (old new : PresentSegment) (most : ℕ) (result : Result SegmentOutcome E) → asks wanted old.work.thread ≡ false
     → IfOk result (λ progress. IsProgress old most progress new) → IfOk result (λ progress. StillBy wanted old progress new)
 all_unasked wanted old new most (Err error) none is = is
 all_unasked wanted old new most (Ok progress) none is = unasked_by wanted old new most progress none is
 
 -- at a trap that is known it halts for the instruction, or at the end
-pub at_trap : (wanted : Wanted) (old : Present) (underway : Underway) (told : Option Halt) (trap : Trap) → old.underway ≡ Some underway → IsTurns (point_at old) (Some underway)
+pub at_trap : (wanted : Wanted) (old : Present) (underway : PresentSegment) (told : Option Halt) (trap : Trap) → old.underway ≡ Some underway → IsTurns (point_at old) (Some underway)
     → told ≡ halt_in wanted underway → underway.trap ≡ Some trap
     → IsPassed wanted old (Halts (told_or_end told)) (record old { underway = Some underway })
 at_trap wanted old underway told trap is turns here trapped =
@@ -348,7 +348,7 @@ trap_of None is = absurd (cc)
 trap_of (Some trap) is = (trap, refl)
 
 -- nothing is told of a turn's instructions where none is looked at
-pub silent_turn : (wanted : Wanted) (point : Point) (underway : Option Underway) (steps : ℕ) → IsTurns point underway → IsBegun point underway → looks wanted underway ≡ false
+pub silent_turn : (wanted : Wanted) (point : Point) (underway : Option PresentSegment) (steps : ℕ) → IsTurns point underway → IsBegun point underway → looks wanted underway ≡ false
     → (address_at wanted (own_at (record { point = point; steps = steps })) ≡ None) × (event_at wanted.watches (own_at (record { point = point; steps = steps })) ≡ None)
 silent_turn wanted point None steps turns begun is =
     let here = without wanted point steps begun in
@@ -358,13 +358,13 @@ silent_turn wanted point (Some underway) steps turns begun is =
     let none = instruction_none wanted (origin_of underway) (state_in (origin_of underway) steps) (λ hart memory there. unasked wanted underway.work.thread is hart memory) in
     (ap (address_at wanted) own ∙ none.0, ap (event_at wanted.watches) own ∙ none.1)
 
-pub silent_call : (wanted : Wanted) (point : Point) (underway : Option Underway) (steps : ℕ) → IsBegun point underway → looks wanted underway ≡ false
+pub silent_call : (wanted : Wanted) (point : Point) (underway : Option PresentSegment) (steps : ℕ) → IsBegun point underway → looks wanted underway ≡ false
     → call_at wanted.watches (record { point = point; steps = steps }) ≡ None
 silent_call wanted point None steps begun is = call_without wanted.watches point steps begun
 silent_call wanted point (Some underway) steps begun is = rw (unasked_watches wanted underway.work.thread is) (call_nothing (record { point = point; steps = steps }))
 
 -- the positions of a turn that are skipped
-pub skipped_plain : (wanted : Wanted) (old : Present) (underway new : Underway) (until : ℕ) → old.underway ≡ Some underway → IsTurns (point_at old) (Some underway) → IsSkippedStill wanted underway until new
+pub skipped_plain : (wanted : Wanted) (old : Present) (underway new : PresentSegment) (until : ℕ) → old.underway ≡ Some underway → IsTurns (point_at old) (Some underway) → IsSkippedStill wanted underway until new
     → ArePlain wanted (point_at old) (steps_of old.underway) new.done
 skipped_plain wanted old underway new until is turns passed =
     let still = passed.still in
@@ -377,14 +377,14 @@ skipped_plain wanted old underway new until is turns passed =
     (λ j below. underway_runs new (origin_of underway) j skipped.underway skipped.same (omega (arith, below, high)))
     (λ quantum. let none = underway_runs new (origin_of underway) k skipped.underway skipped.same high in cc)
 
-own_of : (present : Present) (underway : Underway) → present.underway ≡ Some underway → IsTurns (point_at present) (Some underway)
+own_of : (present : Present) (underway : PresentSegment) → present.underway ≡ Some underway → IsTurns (point_at present) (Some underway)
     → own_at (moment_of present) ≡ Some (record { thread = underway.work.thread; hart = underway.hart; memory = views.cells_of underway.view })
 own_of present underway is turns =
     let steps : steps_of present.underway ≡ underway.done = ap steps_of is in
     rw steps (own_in (point_at present) (origin_of underway) underway.done turns.1 ∙ ap (executing (origin_of underway)) turns.0.stands.runs.reached)
 
 -- the watch event of a call that comes next
-pub at_call : (watches : List Watch) (present : Present) (underway : Underway) → present.underway ≡ Some underway → IsTurns (point_at present) (Some underway)
+pub at_call : (watches : List Watch) (present : Present) (underway : PresentSegment) → present.underway ≡ Some underway → IsTurns (point_at present) (Some underway)
     → is_at_call underway ≡ true
     → call_at watches (moment_of present)
     ≡ call_event watches (read_by watches (call_of underway.hart) (count_read (moment_of present) underway.work.thread)) (joint_in present underway)
@@ -397,7 +397,7 @@ at_call watches present underway is turns calls =
     ∙ ap (call_by watches (moment_of present) (Some (origin_of underway))) own ∙ rw here refl
 
 -- none if no call comes next
-pub not_at_call : (watches : List Watch) (present : Present) (underway : Underway) → present.underway ≡ Some underway → IsTurns (point_at present) (Some underway)
+pub not_at_call : (watches : List Watch) (present : Present) (underway : PresentSegment) → present.underway ≡ Some underway → IsTurns (point_at present) (Some underway)
     → is_at_call underway ≡ false → call_at watches (moment_of present) ≡ None
 not_at_call watches present underway is turns none =
     let steps : steps_of present.underway ≡ underway.done = ap steps_of is in

@@ -3,7 +3,7 @@ use Rattle.std.proofs.Common.{◌≡◌, ◌∙◌, ℕ, ◌+◌, ◌<◌, ◌�
 use Rattle.std.proofs.lemmas.List.{at_drop_more, drop_all, nil_from_length}
 use Rattle.marked_memory.specs.declared.watch.Watch.{Watch}
 use Rattle.timeline.specs.Halts.{access_event, first_from}
-use Rattle.timeline.specs.declared.access.Access.{Access}
+use Rattle.hart.specs.declared.memory_access.MemoryAccess.{MemoryAccess}
 
 chosen : (test : Bool) (one other : Option ℕ) → test ≡ false → (if test then one else other) ≡ other
 chosen true one other is = absurd (cc)
@@ -33,10 +33,10 @@ pub none_left : (passes : Watch → Bool) (watches : List Watch) (place : ℕ) �
 unfolding first_from
 none_left passes watches place past = sym (ap (first_from passes place) (drop_all place watches past))
 
-pub no_event : (access : Option Access) → None ≡ access_event [] access
+pub no_event : (access : Option MemoryAccess) → None ≡ access_event [] access
 unfolding first_from
 no_event None = refl
 no_event (Some access) = refl
 
-pub nothing_watched : (watches : List Watch) (access : Option Access) → length watches ≡ 0 → None ≡ access_event watches access
+pub nothing_watched : (watches : List Watch) (access : Option MemoryAccess) → length watches ≡ 0 → None ≡ access_event watches access
 nothing_watched watches access none = rw (nil_from_length watches none) (no_event access)

@@ -11,9 +11,9 @@ use Rattle.timeline.specs.Halts.{Wanted, calls_next, instruction_halt, waits}
 use Rattle.timeline.specs.Moment.{Origin, state_in}
 use Rattle.timeline.specs.Quiet.{IsLooked, IsQuiet, IsStill}
 use Rattle.timeline.specs.Underway.{IsProgress, IsUnderway, halt_in, is_at_call, origin_of}
-use Rattle.timeline.specs.declared.underway.Progress.{Progress}
-use Rattle.timeline.specs.declared.underway.Progress.TheVariants.{Stays, Halts, Over}
-use Rattle.timeline.specs.declared.underway.Underway.{Underway}
+use Rattle.timeline.specs.declared.present_segment.SegmentOutcome.{SegmentOutcome}
+use Rattle.timeline.specs.declared.present_segment.SegmentOutcome.TheVariants.{Stays, Halts, Over}
+use Rattle.timeline.specs.declared.present_segment.PresentSegment.{PresentSegment}
 use Rattle.twins.specs.View as views
 use Rattle.timeline.proofs.Calling.{and_false}
 use Rattle.timeline.proofs.Unmarked.{not_waited, places_in, unmarked_is_quiet}
@@ -101,7 +101,7 @@ still_by_marks wanted origin done count hart last_hart memory last_memory here e
     }
 
 -- what comes of a segment that is looked at and then goes on by one instruction
-pub looked_by : (wanted : Wanted) (first old new : Underway) (progress : Progress) → IsUnderway old → origin_of old ≡ origin_of first
+pub looked_by : (wanted : Wanted) (first old new : PresentSegment) (progress : SegmentOutcome) → IsUnderway old → origin_of old ≡ origin_of first
     → IsQuiet wanted (origin_of first) first.done old.done → halt_in wanted old ≡ None
     → (first.done < old.done → wanted.watches ≢ [] → is_at_call old ≡ false) → IsProgress old (old.done + 1) progress new
     → (progress ≡ Stays → ⊥) → IsLooked wanted first progress new

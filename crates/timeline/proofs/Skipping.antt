@@ -12,7 +12,7 @@ use Rattle.paged_memory.specs.Snapshot as snapshots
 use Rattle.twins.specs.View as views
 use Rattle.timeline.proofs.Quieting.{hart_or, memory_or}
 use Rattle.timeline.specs.Underway.{IsRoom, IsUnderway, IsSkipped, origin_of}
-use Rattle.timeline.specs.declared.underway.Underway.{Underway}
+use Rattle.timeline.specs.declared.present_segment.PresentSegment.{PresentSegment}
 
 below_all : (quantum : Option ℕ) (count more : ℕ) → count ≤ more → IfSome quantum (λ q. more ≤ q) → IfSome quantum (λ q. count ≤ q)
 below_all None count more less within = within
@@ -50,7 +50,7 @@ no_trap None none = refl
 no_trap (Some trap) none = absurd (cc)
 
 -- where a segment stands that was run up to a mark
-pub skipped : (old new : Underway) (until room count : ℕ) → IsUnderway old → is_some old.trap ≡ false → old.done ≤ until → IsRoom old until room → count ≤ room
+pub skipped : (old new : PresentSegment) (until room count : ℕ) → IsUnderway old → is_some old.trap ≡ false → old.done ≤ until → IsRoom old until room → count ≤ room
     → after count old.hart (views.cells_of old.view) ≡ Some (new.hart, views.cells_of new.view)
     → snapshots.cells_of (views.base_of new.view) ≡ snapshots.cells_of (views.base_of old.view)
     → new ≡ record old { hart = new.hart; view = new.view; done = old.done + count } → IsSkipped old until new

@@ -18,7 +18,7 @@ use Rattle.timeline.specs.Told.{IsTrapThere, end_in, outcome_at, pc_by, stage_at
 use Rattle.timeline.specs.Underway.{IsItsTrap, origin_of}
 use Rattle.timeline.specs.declared.present.Present.{Present}
 use Rattle.timeline.specs.declared.stage.Stage.TheVariants.{Segment, Trap as Trapped}
-use Rattle.timeline.specs.declared.underway.Underway.{Underway}
+use Rattle.timeline.specs.declared.present_segment.PresentSegment.{PresentSegment}
 
 -- a turn that needs a segment is its thread's
 
@@ -28,7 +28,7 @@ thread_needed point (need.Keeper work) origin last is = cc
 thread_needed point (need.Wake thread) origin last is = absurd (cc)
 thread_needed point (need.Ended outcome) origin last is = absurd (cc)
 
-pub thread_is : (point : Point) (underway : Underway) (last : ℕ) → IsTurns point (Some underway) → underway.work.thread ≡ thread_at point last
+pub thread_is : (point : Point) (underway : PresentSegment) (last : ℕ) → IsTurns point (Some underway) → underway.work.thread ≡ thread_at point last
 unfolding origin_at
 thread_is point underway last turns = sym (thread_needed point (need_at point) (origin_of underway) last turns.1)
 
@@ -73,7 +73,7 @@ pub ended_as : (point : Point) (asked : Need) → asked ≡ need_at point → en
 ended_as point asked is = ap ended_in is ∙ ended_at point
 
 -- a segment that has begun goes on
-pub begun_goes_on : (point : Point) (found : Option Underway) (underway : Underway) → found ≡ Some underway → IsTurns point found → None ≡ point.ended
+pub begun_goes_on : (point : Point) (found : Option PresentSegment) (underway : PresentSegment) → found ≡ Some underway → IsTurns point found → None ≡ point.ended
 begun_goes_on point found underway is turns = let begun : IsTurns point (Some underway) = rw is at turns in sym (goes_on point (origin_of underway) begun.1)
 
 -- the run has ended exactly if that is its stage
@@ -82,7 +82,7 @@ end_by_trap : (point : Point) (steps : ℕ) (origin : Origin) (trap : Option Tra
 end_by_trap point steps origin None is = stage_ended (need_at point) ∙ ended_at point
 end_by_trap point steps origin (Some trap) is = sym (goes_on point origin is)
 
-end_by : (point : Point) (steps : ℕ) (underway : Option Underway) → IsTurns point underway
+end_by : (point : Point) (steps : ℕ) (underway : Option PresentSegment) → IsTurns point underway
     → end_in (stage_at (record { point = point; steps = steps }) (trap_found underway)) ≡ point.ended
 end_by point steps None turns = stage_ended (need_at point) ∙ ended_at point
 end_by point steps (Some underway) turns = end_by_trap point steps (origin_of underway) underway.trap turns.1
@@ -97,7 +97,7 @@ stage_needed point (need.Keeper work) origin is = refl
 stage_needed point (need.Wake thread) origin is = absurd (cc)
 stage_needed point (need.Ended outcome) origin is = absurd (cc)
 
-pub segment_is : (point : Point) (underway : Underway) → IsTurns point (Some underway) → stage_by (need_at point) ≡ Segment
+pub segment_is : (point : Point) (underway : PresentSegment) → IsTurns point (Some underway) → stage_by (need_at point) ≡ Segment
 unfolding origin_at
 segment_is point underway turns = stage_needed point (need_at point) (origin_of underway) turns.1
 
@@ -106,7 +106,7 @@ segment_is point underway turns = stage_needed point (need_at point) (origin_of 
 executing : ℕ → Option (HartState × Memory) → Option Executing
 executing thread state = option_map (λ state. record { thread = thread; hart = state.0; memory = state.1 }) state
 
-pub pc_is : (point : Point) (underway : Underway) → IsTurns point (Some underway) → pc_by (own_at (record { point = point; steps = underway.done })) ≡ underway.hart.pc
+pub pc_is : (point : Point) (underway : PresentSegment) → IsTurns point (Some underway) → pc_by (own_at (record { point = point; steps = underway.done })) ≡ underway.hart.pc
 unfolding own_at executing
 pc_is point underway turns =
     ap (λ (origin : Option Origin). pc_by (own_by origin underway.done)) turns.1
@@ -119,7 +119,7 @@ found_by : (origin : Origin) (steps : ℕ) (point : Point) (trap : Option Trap) 
 found_by origin steps point None is found = tt
 found_by origin steps point (Some trap) is found = ap (λ (needed : Option Origin). option_and_then (λ origin. stop_in origin steps) needed) is ∙ found
 
-found_in : (point : Point) (underway : Option Underway) → IsTurns point underway → IsTrapThere (record { point = point; steps = steps_of underway }) (trap_found underway)
+found_in : (point : Point) (underway : Option PresentSegment) → IsTurns point underway → IsTrapThere (record { point = point; steps = steps_of underway }) (trap_found underway)
 found_in point None turns = tt
 found_in point (Some underway) turns = found_by (origin_of underway) underway.done point underway.trap turns.1 turns.0.stands.is_trap
 
@@ -128,7 +128,7 @@ trap_is present turns = found_in (point_at present) present.underway turns
 
 -- the stage of a segment that has begun
 
-trapped_by : (point : Point) (underway : Underway) (trap : Trap) (pc : ℕ) (found : Option Trap) → IsTurns point (Some underway) → found ≡ Some trap → pc ≡ underway.hart.pc
+trapped_by : (point : Point) (underway : PresentSegment) (trap : Trap) (pc : ℕ) (found : Option Trap) → IsTurns point (Some underway) → found ≡ Some trap → pc ≡ underway.hart.pc
     → Trapped pc trap ≡ stage_at (record { point = point; steps = underway.done }) found
 trapped_by point underway trap pc None turns is same = absurd (cc)
 trapped_by point underway trap pc (Some other) turns is same =
@@ -136,17 +136,17 @@ trapped_by point underway trap pc (Some other) turns is same =
     let pcs = same ∙ sym (pc_is point underway turns) in
     ap (λ (p : ℕ). Trapped p trap) pcs ∙ ap (λ (t : Trap). Trapped (pc_by (own_at (record { point = point; steps = underway.done }))) t) traps
 
-going_by : (point : Point) (underway : Underway) (found : Option Trap) → IsTurns point (Some underway) → found ≡ None → Segment ≡ stage_at (record { point = point; steps = underway.done }) found
+going_by : (point : Point) (underway : PresentSegment) (found : Option Trap) → IsTurns point (Some underway) → found ≡ None → Segment ≡ stage_at (record { point = point; steps = underway.done }) found
 going_by point underway None turns is = sym (segment_is point underway turns)
 going_by point underway (Some other) turns is = absurd (cc)
 
-pub trapped_is : (point : Point) (found : Option Underway) (underway : Underway) (trap : Trap) (pc : ℕ) → found ≡ Some underway → IsTurns point found → underway.trap ≡ Some trap → pc ≡ underway.hart.pc
+pub trapped_is : (point : Point) (found : Option PresentSegment) (underway : PresentSegment) (trap : Trap) (pc : ℕ) → found ≡ Some underway → IsTurns point found → underway.trap ≡ Some trap → pc ≡ underway.hart.pc
     → Trapped pc trap ≡ stage_at (record { point = point; steps = steps_of found }) (trap_found found)
 trapped_is point found underway trap pc is turns stopped same =
     let begun : IsTurns point (Some underway) = rw is at turns in
     rw is (trapped_by point underway trap pc underway.trap begun stopped same)
 
-pub going_is : (point : Point) (found : Option Underway) (underway : Underway) → found ≡ Some underway → IsTurns point found → underway.trap ≡ None
+pub going_is : (point : Point) (found : Option PresentSegment) (underway : PresentSegment) → found ≡ Some underway → IsTurns point found → underway.trap ≡ None
     → Segment ≡ stage_at (record { point = point; steps = steps_of found }) (trap_found found)
 going_is point found underway is turns goes =
     let begun : IsTurns point (Some underway) = rw is at turns in
@@ -160,7 +160,7 @@ never_trapped (need.Keeper work) pc trap is = cc
 never_trapped (need.Wake thread) pc trap is = cc
 never_trapped (need.Ended outcome) pc trap is = cc
 
-outcome_by_trap : (point : Point) (underway : Underway) (found : Option Trap) (thread last pc : ℕ) (trap : Trap) → IsTurns point (Some underway)
+outcome_by_trap : (point : Point) (underway : PresentSegment) (found : Option Trap) (thread last pc : ℕ) (trap : Trap) → IsTurns point (Some underway)
     → Trapped pc trap ≡ stage_at (record { point = point; steps = underway.done }) found → thread ≡ thread_at point last
     → Some (outcome.Trap thread pc trap) ≡ outcome_at (record { point = point; steps = underway.done }) found
 outcome_by_trap point underway None thread last pc trap turns is same = absurd (never_trapped (need_at point) pc trap is)
@@ -172,7 +172,7 @@ outcome_by_trap point underway (Some other) thread last pc trap turns is same =
     ap (λ (t : ℕ). Some (outcome.Trap t pc trap)) threads ∙ ap (λ (p : ℕ). Some (outcome.Trap (thread_at point 0) p trap)) pcs
     ∙ ap (λ (t : Trap). Some (outcome.Trap (thread_at point 0) here t)) traps
 
-pub trap_outcome : (point : Point) (found : Option Underway) (thread last pc : ℕ) (trap : Trap) → IsTurns point found
+pub trap_outcome : (point : Point) (found : Option PresentSegment) (thread last pc : ℕ) (trap : Trap) → IsTurns point found
     → Trapped pc trap ≡ stage_at (record { point = point; steps = steps_of found }) (trap_found found) → thread ≡ thread_at point last
     → Some (outcome.Trap thread pc trap) ≡ outcome_at (record { point = point; steps = steps_of found }) (trap_found found)
 trap_outcome point None thread last pc trap turns is same = absurd (never_trapped (need_at point) pc trap is)

@@ -14,14 +14,14 @@ use Rattle.timeline.specs.Moment.{Origin, beginning, moment_at, stop_in, origin_
 use Rattle.timeline.specs.Present.{BeginsAt, IsTurnEnd, IsTurns, IsWent, SameTurn, count_of, moment_of, point_at, step_of, steps_of}
 use Rattle.timeline.specs.Underway.{IsFurther, IsProgress, Stands, origin_of}
 use Rattle.timeline.specs.declared.present.Present.{Present}
-use Rattle.timeline.specs.declared.underway.Underway.{Underway}
-use Rattle.timeline.specs.declared.underway.Progress.{Progress}
-use Rattle.timeline.specs.declared.underway.Progress.TheVariants.{Stays, Halts, Over}
+use Rattle.timeline.specs.declared.present_segment.PresentSegment.{PresentSegment}
+use Rattle.timeline.specs.declared.present_segment.SegmentOutcome.{SegmentOutcome}
+use Rattle.timeline.specs.declared.present_segment.SegmentOutcome.TheVariants.{Stays, Halts, Over}
 use Rattle.timeline.proofs.Positions.{after_turn, after_wake, end_needed, wake_needed, within_turn}
 use Rattle.timeline.proofs.Advancing.{quantum_at}
 
 -- what a segment comes to is what the present turn comes to
-went_by : (old : Present) (underway new : Underway) (most : ℕ) (progress : Progress) → old.underway ≡ Some underway → IsTurns (point_at old) (Some underway)
+went_by : (old : Present) (underway new : PresentSegment) (most : ℕ) (progress : SegmentOutcome) → old.underway ≡ Some underway → IsTurns (point_at old) (Some underway)
     → IsFurther underway most progress new → IsWent old most progress (record old { underway = Some new })
 went_by old underway new most Stays is turns further =
     let steps : steps_of old.underway ≡ underway.done = ap steps_of is in
@@ -43,19 +43,19 @@ went_by old underway new most (Over (Some end)) is turns further =
       leads = λ start begins. after_turn start (point_at old) (origin_of underway) old.before end begins turns.1 last (omega arith);
     }
 
-pub went : {E : Type 0} (old : Present) (underway new : Underway) (most : ℕ) (result : Result Progress E) → old.underway ≡ Some underway → IsTurns (point_at old) (Some underway)
+pub went : {E : Type 0} (old : Present) (underway new : PresentSegment) (most : ℕ) (result : Result SegmentOutcome E) → old.underway ≡ Some underway → IsTurns (point_at old) (Some underway)
     → IfOk result (λ progress. IsFurther underway most progress new) → IfOk result (λ progress. IsWent old most progress (record old { underway = Some new }))
 went old underway new most (Err error) is turns further = further
 went old underway new most (Ok progress) is turns further = went_by old underway new most progress is turns further
 
-further_by : (old new : Underway) (most : ℕ) (progress : Progress) → old.done < most → IsProgress old most progress new → IsFurther old most progress new
+further_by : (old new : PresentSegment) (most : ℕ) (progress : SegmentOutcome) → old.done < most → IsProgress old most progress new → IsFurther old most progress new
 further_by old new most Stays below is = is
 further_by old new most (Halts halt) below is =
     let same : new.done ≡ old.done = is.3 in
     (is.1, is.2, (omega arith), (omega arith))
 further_by old new most (Over end) below is = is
 
-pub further : {E : Type 0} (old new : Underway) (most : ℕ) (result : Result Progress E) → old.done < most → IfOk result (λ progress. IsProgress old most progress new)
+pub further : {E : Type 0} (old new : PresentSegment) (most : ℕ) (result : Result SegmentOutcome E) → old.done < most → IfOk result (λ progress. IsProgress old most progress new)
     → IfOk result (λ progress. IsFurther old most progress new)
 further old new most (Err error) below is = is
 further old new most (Ok progress) below is = further_by old new most progress below is
@@ -101,7 +101,7 @@ not_at_quantum origin done None hart cells stands is =
     let below : done < done = rw used at (stands.quantum refl) in
     omega arith
 
-by_underway : (start point : Point) (before : ℕ) (underway : Option Underway) → IsTurns point underway → moment_at start before ≡ Some (beginning point)
+by_underway : (start point : Point) (before : ℕ) (underway : Option PresentSegment) → IsTurns point underway → moment_at start before ≡ Some (beginning point)
     → moment_at start (before + steps_of underway) ≡ Some (record { point = point; steps = steps_of underway })
 by_underway start point before None turns begins = let same : before + 0 ≡ before = omega arith in ap (moment_at start) same ∙ begins
 by_underway start point before (Some underway) turns begins =

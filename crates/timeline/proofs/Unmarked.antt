@@ -9,6 +9,7 @@ use Rattle.guest_memory.specs.declared.fault.AccessFault.TheVariants.{Misaligned
 use Rattle.decoder.specs.Decoding.{decoded}
 use Rattle.decoder.specs.declared.instr.Instr.{Instr}
 use Rattle.decoder.specs.declared.instr.Instr.TheVariants.{Lb, Lh, Lw, Lbu, Lhu, Sb, Sh, Sw, Ecall}
+use Rattle.hart.specs.Accesses.{access_of}
 use Rattle.hart.specs.HartState.{HartState}
 use Rattle.hart.specs.Next.{Goes, decoded_word, executed, fetched_word, loads, next, stores, viewed}
 use Rattle.marked_memory.specs.Marks.{Places, any_marked, has, is_fetch_marked, is_load_marked, is_store_marked, looks_for_loads, looks_for_stores, marked}
@@ -16,8 +17,8 @@ use Rattle.marked_memory.specs.Unmarked.{IsUnmarked}
 use Rattle.marked_memory.specs.declared.watch.Watch.{Watch}
 use Rattle.marked_memory.specs.declared.watch.WatchKind.{WatchKind}
 use Rattle.marked_memory.proofs.Marking.{fetched_unless, marked_load, marked_store, stored_marked}
-use Rattle.timeline.specs.Halts.{Wanted, access_event, access_of, address_halt, arrives, first_from, instruction_halt, is_breakpoint, is_call, is_seen, next_instr, touches, waits}
-use Rattle.timeline.specs.declared.access.Access.{Access}
+use Rattle.timeline.specs.Halts.{Wanted, access_event, address_halt, arrives, first_from, instruction_halt, is_breakpoint, is_call, is_seen, next_instr, touches, waits}
+use Rattle.hart.specs.declared.memory_access.MemoryAccess.{MemoryAccess}
 use Rattle.timeline.specs.declared.stops.Arrival.{Arrival}
 use Rattle.timeline.specs.declared.halt.Halt.TheVariants.{Watched}
 
@@ -69,14 +70,14 @@ each_unmarked is_marked (suc count) address (suc k) is within =
 abbrev marked_by : (WatchKind → Bool) → List Watch → ℕ → Bool
 marked_by looks watches x = list_any (λ watch. looks watch.kind && has watch x) watches
 
-first_touched : (access : Access) (watch : Watch) → touches access watch ≡ true → (k : ℕ) × (k < access.width) × (has watch (access.address + k) ≡ true)
+first_touched : (access : MemoryAccess) (watch : Watch) → touches access watch ≡ true → (k : ℕ) × (k < access.width) × (has watch (access.address + k) ≡ true)
 first_touched access watch is =
     let start = watch.start - access.address in
     let within : start < access.width = grind (arith, nat_tests) in
     let there : has watch (access.address + start) ≡ true = grind (arith, nat_tests) in
     (start, within, there)
 
-unseen_here : (looks : WatchKind → Bool) (watch : Watch) (watches : List Watch) (access : Access)
+unseen_here : (looks : WatchKind → Bool) (watch : Watch) (watches : List Watch) (access : MemoryAccess)
     → ((k : ℕ) → k < access.width → marked_by looks (watch ∷ watches) (access.address + k) ≡ false) → (looks watch.kind && touches access watch) ≡ false
 unseen_here looks watch watches access each =
     unless_both (looks watch.kind) (touches access watch)
@@ -86,7 +87,7 @@ unseen_here looks watch watches access each =
     let both : (looks watch.kind && has watch (access.address + at.0)) ≡ true = rw (looked, at.2) refl in
     cc)
 
-unseen : (looks : WatchKind → Bool) (watches : List Watch) (access : Access)
+unseen : (looks : WatchKind → Bool) (watches : List Watch) (access : MemoryAccess)
     → ((k : ℕ) → k < access.width → marked_by looks watches (access.address + k) ≡ false) → list_any (λ watch. looks watch.kind && touches access watch) watches ≡ false
 unseen looks [] access each = refl
 unseen looks (watch ∷ watches) access each =
@@ -104,14 +105,14 @@ unseen_load : (places : Places) (address width : ℕ) → any_marked (is_load_ma
     → access_event places.watches (Some (record { address = address; width = width; is_store = false })) ≡ None
 unfolding is_load_marked
 unseen_load places address width is =
-    let access : Access = record { address = address; width = width; is_store = false } in
+    let access : MemoryAccess = record { address = address; width = width; is_store = false } in
     ap (option_map Watched) (none_first (is_seen access) 0 places.watches (unseen looks_for_loads places.watches access (λ k within. each_unmarked (is_load_marked places) width address k is within)))
 
 unseen_store : (places : Places) (address width : ℕ) → any_marked (is_store_marked places) width address ≡ false
     → access_event places.watches (Some (record { address = address; width = width; is_store = true })) ≡ None
 unfolding is_store_marked
 unseen_store places address width is =
-    let access : Access = record { address = address; width = width; is_store = true } in
+    let access : MemoryAccess = record { address = address; width = width; is_store = true } in
     ap (option_map Watched) (none_first (is_seen access) 0 places.watches (unseen looks_for_stores places.watches access (λ k within. each_unmarked (is_store_marked places) width address k is within)))
 
 -- an instruction that goes on

@@ -12,8 +12,8 @@ use Rattle.timeline.specs.Shown.{own_at}
 use Rattle.timeline.specs.declared.halt.Halt.{Halt}
 use Rattle.timeline.specs.declared.halt.Halt.TheVariants.{GoesOn, OtherThread, Start}
 use Rattle.timeline.specs.declared.present.Present.{Present}
-use Rattle.timeline.specs.declared.underway.Underway.{Underway}
-use Rattle.timeline.specs.declared.scout.Found.{Found}
+use Rattle.timeline.specs.declared.present_segment.PresentSegment.{PresentSegment}
+use Rattle.timeline.specs.declared.scout.FoundHalt.{FoundHalt}
 
 -- the watch event of a step
 abbrev pub watched_at : List Watch → Moment → Option Halt
@@ -53,12 +53,12 @@ pub record IsLastTold (wanted : Wanted) (start : Point) (from to : ℕ) (halt : 
   pub told : IsTold wanted moment step halt there
   pub silent : AreSilent wanted start (step + 1) to
 
-abbrev pub IsFound : Wanted → Point → ℕ → ℕ → Option Found → Type 0
+abbrev pub IsFound : Wanted → Point → ℕ → ℕ → Option FoundHalt → Type 0
 IsFound wanted start from to None = AreSilent wanted start from to
 IsFound wanted start from to (Some found) = IsLastTold wanted start from to found.halt found.step
 
 -- what is found from a position to a step of its run
-abbrev pub Finds : Wanted → Present → ℕ → Option Found → Type 0
+abbrev pub Finds : Wanted → Present → ℕ → Option FoundHalt → Type 0
 Finds wanted present to found = (start : Point) → BeginsAt start present → IsFound wanted start (step_of present) to found
 
 -- the answer where nothing is told
@@ -72,12 +72,12 @@ GoesBack wanted start here halt there =
     ⊎ (AreSilent wanted start there here × (there ≤ here - 1) × (halt ≡ nothing_at there))
 
 -- whether something may be told of the next instruction for what it is
-abbrev pub looks : Wanted → Option Underway → Bool
+abbrev pub looks : Wanted → Option PresentSegment → Bool
 looks wanted None = false
 looks wanted (Some underway) = asks wanted underway.work.thread
 
 -- what is told of a step for what its instruction is
-abbrev pub IsToldOf : Wanted → Moment → ℕ → Option Found → Type 0
+abbrev pub IsToldOf : Wanted → Moment → ℕ → Option FoundHalt → Type 0
 IsToldOf wanted moment step None = (watched_at wanted.watches moment ≡ None) × (told_before wanted moment ≡ None)
 IsToldOf wanted moment step (Some found) =
     ((found.step ≡ step + 1) × (watched_at wanted.watches moment ≡ Some found.halt))
@@ -103,7 +103,7 @@ pub record CanPass (present : Present) (until : ℕ) : Type 0 where
   pub leads : LeadsTo present until
 
 -- It goes on in its run, no further than a step, and finds what is told of the way.
-pub record Passes (wanted : Wanted) (old : Present) (until : ℕ) (result : Result (Option Found) TurnFault) (new : Present) : Type 0 where
+pub record Passes (wanted : Wanted) (old : Present) (until : ℕ) (result : Result (Option FoundHalt) TurnFault) (new : Present) : Type 0 where
   pub stays : StaysInRun old new
   pub further : OnOk result (step_of old < step_of new)
   pub within : OnOk result (step_of new ≤ until)

@@ -1,12 +1,15 @@
 -- The watch events of calls: what a `read` stores, and what the commit of a turn joins.
 use Rattle.std.specs.Prelude.{ℕ, zero, suc, ◌+◌, ◌*◌, ◌^◌, ◌==◌, ◌&&◌, ◌||◌, Bool, true, false, not, nat_lt, min, if◌then◌else◌, Option, Some, None, option_map, option_and_then, List}
 use Rattle.std.specs.List.{list_any}
+use Rattle.abi.specs.Calls.{touched_in}
 use Rattle.abi.specs.declared.call.Call.{Call}
-use Rattle.abi.specs.declared.call.Call.TheVariants.{Read}
+use Rattle.abi.specs.declared.touched.Touched.{Touched}
+use Rattle.abi.specs.declared.touched.Touched.TheVariants.{Nothing, Loads, Stores}
 use Rattle.ecalls.specs.Request.{call_of}
 use Rattle.guest_memory.specs.Layout.{page_of, page_size}
 use Rattle.guest_memory.specs.Memory.{Memory}
 use Rattle.hart.specs.HartState.{register}
+use Rattle.hart.specs.declared.memory_access.MemoryAccess.{MemoryAccess}
 use Rattle.marked_memory.specs.Marks.{looks_for_stores}
 use Rattle.marked_memory.specs.declared.watch.Watch.{Watch}
 use Rattle.thread_table.specs.declared.thread.Thread.{Thread}
@@ -16,11 +19,10 @@ use Rattle.timeline.specs.Halts.{calls_next, first_place, is_seen}
 use Rattle.timeline.specs.Moment.{Moment, Origin, next_moment, origin_at}
 use Rattle.timeline.specs.Shown.{Executing, own_at, row_at}
 use Rattle.timeline.specs.Present.{point_at}
-use Rattle.timeline.specs.declared.access.Access.{Access}
 use Rattle.timeline.specs.declared.halt.Halt.{Halt}
 use Rattle.timeline.specs.declared.halt.Halt.TheVariants.{Watched}
 use Rattle.timeline.specs.declared.present.Present.{Present}
-use Rattle.timeline.specs.declared.underway.Underway.{Underway}
+use Rattle.timeline.specs.declared.present_segment.PresentSegment.{PresentSegment}
 
 -- whether a test holds of a number below this one
 unfoldable pub any_below : (ℕ → Bool) → ℕ → Bool
@@ -42,13 +44,17 @@ row_after moment thread = option_and_then (λ next. row_at next.point thread) (n
 abbrev pub count_read : Moment → ℕ → ℕ
 count_read moment thread = count_in (row_after moment thread)
 
-abbrev pub stored : ℕ → ℕ → Access
+abbrev pub stored : ℕ → ℕ → MemoryAccess
 stored address count = record { address = address; width = count; is_store = true }
 
--- the store of a call that may touch a watched range
-abbrev pub read_by : List Watch → Call → ℕ → Option Access
-read_by watches (Read address length) count = if list_any (is_seen (stored address length)) watches then Some (stored address count) else None
-read_by watches _ count = None
+-- the store of a call of which so much is done, if all that it stores at most may touch a watched range
+abbrev pub stored_by : List Watch → Touched → ℕ → Option MemoryAccess
+stored_by watches Nothing count = None
+stored_by watches (Loads address length) count = None
+stored_by watches (Stores address length) count = if list_any (is_seen (stored address length)) watches then Some (stored address count) else None
+
+abbrev pub read_by : List Watch → Call → ℕ → Option MemoryAccess
+read_by watches call count = stored_by watches (touched_in call) count
 
 -- what a commit joins
 
@@ -84,20 +90,20 @@ joins joint watch = looks_for_stores watch.kind && any_below (λ offset. joins_a
 
 -- the event
 
-abbrev pub is_read_by : Option Access → Watch → Bool
+abbrev pub is_read_by : Option MemoryAccess → Watch → Bool
 is_read_by None watch = false
 is_read_by (Some access) watch = is_seen access watch
 
-abbrev pub is_event : Option Access → Joint → Watch → Bool
+abbrev pub is_event : Option MemoryAccess → Joint → Watch → Bool
 is_event read joint watch = is_read_by read watch || joins joint watch
 
-abbrev pub call_event : List Watch → Option Access → Joint → Option Halt
+abbrev pub call_event : List Watch → Option MemoryAccess → Joint → Option Halt
 call_event watches read joint = option_map Watched (first_place (is_event read joint) watches)
 
 abbrev pub joint_of : Moment → Origin → Executing → Joint
 joint_of moment origin own = record { own = own.memory; base = origin.copy; shared = moment.point.state.memory }
 
-abbrev pub read_at : List Watch → Moment → Executing → Option Access
+abbrev pub read_at : List Watch → Moment → Executing → Option MemoryAccess
 read_at watches moment own = read_by watches (call_of own.hart) (count_read moment own.thread)
 
 abbrev pub call_by : List Watch → Moment → Option Origin → Option Executing → Option Halt
@@ -111,5 +117,5 @@ unfoldable pub call_at : List Watch → Moment → Option Halt
 call_at watches moment = call_by watches moment (origin_at moment.point) (own_at moment)
 
 -- the memories of a thread that a run has executed so far
-abbrev pub joint_in : Present → Underway → Joint
+abbrev pub joint_in : Present → PresentSegment → Joint
 joint_in present underway = record { own = views.cells_of underway.view; base = snapshots.cells_of underway.base; shared = (point_at present).state.memory }

@@ -14,8 +14,8 @@ use Rattle.timeline.specs.Shown.{Executing, own_at}
 use Rattle.timeline.specs.declared.halt.Halt.{Halt}
 use Rattle.timeline.specs.declared.halt.Halt.TheVariants.{End, GoesOn, NewThread, OtherThread}
 use Rattle.timeline.specs.declared.present.Present.{Present}
-use Rattle.timeline.specs.declared.underway.Progress.{Progress}
-use Rattle.timeline.specs.declared.underway.Progress.TheVariants.{Stays, Halts, Over}
+use Rattle.timeline.specs.declared.present_segment.SegmentOutcome.{SegmentOutcome}
+use Rattle.timeline.specs.declared.present_segment.SegmentOutcome.TheVariants.{Stays, Halts, Over}
 
 -- for the address of the next instruction
 abbrev pub address_at : Wanted → Option Executing → Option Halt
@@ -80,7 +80,7 @@ abbrev pub ArePlain : Wanted → Point → ℕ → ℕ → Type 0
 ArePlain wanted point from to = (k : ℕ) → from ≤ k → k < to → IsPlain wanted point k
 
 -- what comes of a turn that is gone on with
-abbrev pub IsPassed : Wanted → Present → Progress → Present → Type 0
+abbrev pub IsPassed : Wanted → Present → SegmentOutcome → Present → Type 0
 IsPassed wanted old Stays new = ArePlain wanted (point_at old) (steps_of old.underway) (steps_of new.underway)
 IsPassed wanted old (Halts halt) new =
     ArePlain wanted (point_at old) (steps_of old.underway) (steps_of new.underway)

@@ -4,12 +4,12 @@ use Rattle.std.specs.List.{list_any}
 use Rattle.guest_memory.specs.Memory.{Memory, fetched}
 use Rattle.decoder.specs.Decoding.{decoded}
 use Rattle.decoder.specs.declared.instr.Instr.{Instr}
-use Rattle.decoder.specs.declared.instr.Instr.TheVariants.{Lb, Lh, Lw, Lbu, Lhu, Sb, Sh, Sw, Ecall, Ebreak}
-use Rattle.hart.specs.Arithmetic.{sum}
-use Rattle.hart.specs.HartState.{HartState, register}
+use Rattle.decoder.specs.declared.instr.Instr.TheVariants.{Ecall, Ebreak}
+use Rattle.hart.specs.Accesses.{access_of}
+use Rattle.hart.specs.HartState.{HartState}
+use Rattle.hart.specs.declared.memory_access.MemoryAccess.{MemoryAccess}
 use Rattle.marked_memory.specs.Marks.{looks_for_loads, looks_for_stores}
 use Rattle.marked_memory.specs.declared.watch.Watch.{Watch}
-use Rattle.timeline.specs.declared.access.Access.{Access}
 use Rattle.timeline.specs.declared.halt.Halt.{Halt}
 use Rattle.timeline.specs.declared.halt.Halt.TheVariants.{Breakpoint, Watched, Arrived, End}
 use Rattle.timeline.specs.declared.stops.Arrival.{Arrival}
@@ -30,39 +30,19 @@ wanted_by stops = record { breakpoints = stops.breakpoints.now; watches = stops.
 abbrev pub nothing : Wanted
 nothing = record { breakpoints = []; watches = []; arrival = None; alone = None; known = None }
 
--- loads and stores
-
-abbrev pub load : HartState → ℕ → ℕ → ℕ → Option Access
-load hart base offset width = Some (record { address = sum (register hart base) offset; width = width; is_store = false })
-
-abbrev pub store : HartState → ℕ → ℕ → ℕ → Option Access
-store hart base offset width = Some (record { address = sum (register hart base) offset; width = width; is_store = true })
-
--- the load or store that an instruction makes
-unfoldable pub access_of : HartState → Instr → Option Access
-access_of hart (Lb rd rs1 offset) = load hart rs1 offset 1
-access_of hart (Lh rd rs1 offset) = load hart rs1 offset 2
-access_of hart (Lw rd rs1 offset) = load hart rs1 offset 4
-access_of hart (Lbu rd rs1 offset) = load hart rs1 offset 1
-access_of hart (Lhu rd rs1 offset) = load hart rs1 offset 2
-access_of hart (Sb rs1 rs2 offset) = store hart rs1 offset 1
-access_of hart (Sh rs1 rs2 offset) = store hart rs1 offset 2
-access_of hart (Sw rs1 rs2 offset) = store hart rs1 offset 4
-access_of hart _ = None
-
 -- the next instruction, none where there is none that can be executed
 abbrev pub next_instr : HartState → Memory → Option Instr
 next_instr hart memory = option_and_then decoded (fetched memory hart.pc)
 
-abbrev pub next_access : HartState → Memory → Option Access
+abbrev pub next_access : HartState → Memory → Option MemoryAccess
 next_access hart memory = option_and_then (access_of hart) (next_instr hart memory)
 
 -- whether an access touches a byte of a watched range
-abbrev pub touches : Access → Watch → Bool
+abbrev pub touches : MemoryAccess → Watch → Bool
 touches access watch =
     nat_lt 0 access.width && nat_lt 0 watch.len && nat_lt watch.start (access.address + access.width) && nat_lt access.address (watch.start + watch.len)
 
-abbrev pub is_seen : Access → Watch → Bool
+abbrev pub is_seen : MemoryAccess → Watch → Bool
 is_seen access watch = (if access.is_store then looks_for_stores watch.kind else looks_for_loads watch.kind) && touches access watch
 
 -- the place of the first that passes, counted from one on
@@ -74,7 +54,7 @@ abbrev pub first_place : (Watch → Bool) → List Watch → Option ℕ
 first_place passes watches = first_from passes 0 watches
 
 -- the watch event of the next instruction's load or store
-abbrev pub access_event : List Watch → Option Access → Option Halt
+abbrev pub access_event : List Watch → Option MemoryAccess → Option Halt
 access_event watches None = None
 access_event watches (Some access) = option_map Watched (first_place (is_seen access) watches)
 

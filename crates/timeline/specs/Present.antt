@@ -7,14 +7,14 @@ use Rattle.timeline.specs.Last.{IsLast}
 use Rattle.timeline.specs.Moment.{Moment, beginning, moment_at, origin_at, turned}
 use Rattle.timeline.specs.Underway.{IsUnderway, origin_of}
 use Rattle.timeline.specs.declared.present.Present.{Present}
-use Rattle.timeline.specs.declared.underway.Underway.{Underway}
-use Rattle.timeline.specs.declared.underway.Progress.{Progress}
-use Rattle.timeline.specs.declared.underway.Progress.TheVariants.{Stays, Halts, Over}
+use Rattle.timeline.specs.declared.present_segment.PresentSegment.{PresentSegment}
+use Rattle.timeline.specs.declared.present_segment.SegmentOutcome.{SegmentOutcome}
+use Rattle.timeline.specs.declared.present_segment.SegmentOutcome.TheVariants.{Stays, Halts, Over}
 use Rattle.timeline.specs.declared.halt.Halt.{Halt}
 use Rattle.segment.specs.declared.segment_end.SegmentEnd.{SegmentEnd}
 
 -- how many instructions of the present turn were executed
-abbrev pub steps_of : Option Underway → ℕ
+abbrev pub steps_of : Option PresentSegment → ℕ
 steps_of None = 0
 steps_of (Some underway) = underway.done
 
@@ -31,7 +31,7 @@ abbrev pub moment_of : Present → Moment
 moment_of present = record { point = point_at present; steps = steps_of present.underway }
 
 -- the segment is the one that the present turn needs
-abbrev pub IsTurns : Point → Option Underway → Type 0
+abbrev pub IsTurns : Point → Option PresentSegment → Type 0
 IsTurns point None = Unit {0}
 IsTurns point (Some underway) = IsUnderway underway × (origin_at point ≡ Some (origin_of underway))
 
@@ -47,7 +47,7 @@ abbrev pub BeginsAt : Point → Present → Type 0
 BeginsAt start present = moment_at start present.before ≡ Some (beginning (point_at present))
 
 -- Where the segment hasn't begun, the present turn has none.
-abbrev pub IsBegun : Point → Option Underway → Type 0
+abbrev pub IsBegun : Point → Option PresentSegment → Type 0
 IsBegun point None = origin_at point ≡ None
 IsBegun point (Some underway) = Unit {0}
 
@@ -91,7 +91,7 @@ pub record IsTurnEnd (present : Present) (most : ℕ) (end : Option SegmentEnd) 
   pub leads : (start : Point) → BeginsAt start present → moment_at start (present.before + count_of end) ≡ Some (turned (point_at present) end)
 
 -- It is further in the present turn, it halts there, or the turn ends.
-abbrev pub IsWent : Present → ℕ → Progress → Present → Type 0
+abbrev pub IsWent : Present → ℕ → SegmentOutcome → Present → Type 0
 IsWent old most Stays new = IsTurns (point_at new) new.underway × (steps_of old.underway < steps_of new.underway) × (steps_of new.underway ≤ most)
 IsWent old most (Halts halt) new = IsTurns (point_at new) new.underway × (steps_of old.underway ≤ steps_of new.underway) × (steps_of new.underway < most)
 IsWent old most (Over end) new = IsTurnEnd old most end

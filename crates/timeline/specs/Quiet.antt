@@ -8,9 +8,9 @@ use Rattle.timeline.specs.Moment.{Origin, state_in}
 use Rattle.timeline.specs.Underway.{IsSkipped, halt_in, origin_of}
 use Rattle.timeline.specs.declared.halt.Halt.{Halt}
 use Rattle.timeline.specs.declared.halt.Halt.TheVariants.{End}
-use Rattle.timeline.specs.declared.underway.Progress.{Progress}
-use Rattle.timeline.specs.declared.underway.Progress.TheVariants.{Stays, Halts, Over}
-use Rattle.timeline.specs.declared.underway.Underway.{Underway}
+use Rattle.timeline.specs.declared.present_segment.SegmentOutcome.{SegmentOutcome}
+use Rattle.timeline.specs.declared.present_segment.SegmentOutcome.TheVariants.{Stays, Halts, Over}
+use Rattle.timeline.specs.declared.present_segment.PresentSegment.{PresentSegment}
 
 -- It halts at none of these for the instruction, and none is a call.
 pub record IsStill (wanted : Wanted) (origin : Origin) (from to : ℕ) : Type 0 where
@@ -19,7 +19,7 @@ pub record IsStill (wanted : Wanted) (origin : Origin) (from to : ℕ) : Type 0 
   pub calls : (k : ℕ) (hart : HartState) (memory : Memory) → from ≤ k → k < to → state_in origin k ≡ Some (hart, memory) → calls_next origin.work.segment.left k hart memory ≡ false
 
 -- It has come further, and halts at none of the instructions on the way.
-pub record IsSkippedStill (wanted : Wanted) (old : Underway) (until : ℕ) (new : Underway) : Type 0 where
+pub record IsSkippedStill (wanted : Wanted) (old : PresentSegment) (until : ℕ) (new : PresentSegment) : Type 0 where
   pub skipped : IsSkipped old until new
   pub still : IsStill wanted (origin_of old) old.done new.done
 
@@ -31,12 +31,12 @@ pub record IsQuiet (wanted : Wanted) (origin : Origin) (from to : ℕ) : Type 0 
       → calls_next origin.work.segment.left k hart memory ≡ false
 
 -- It halts for the instruction, or at the end for a trap.
-abbrev pub HaltsSo : Wanted → Halt → Underway → Type 0
+abbrev pub HaltsSo : Wanted → Halt → PresentSegment → Type 0
 HaltsSo wanted halt underway =
     (halt_in wanted underway ≡ Some halt) ⊎ ((halt_in wanted underway ≡ None) × (halt ≡ End) × ((trap : Trap) × (underway.trap ≡ Some trap)))
 
 -- It doesn't halt on the way.
-abbrev pub IsLooked : Wanted → Underway → Progress → Underway → Type 0
+abbrev pub IsLooked : Wanted → PresentSegment → SegmentOutcome → PresentSegment → Type 0
 IsLooked wanted old Stays new = IsQuiet wanted (origin_of old) old.done new.done
 IsLooked wanted old (Halts halt) new = IsQuiet wanted (origin_of old) old.done new.done × HaltsSo wanted halt new
 IsLooked wanted old (Over end) new = IfSome end (λ end. IsQuiet wanted (origin_of old) old.done end.count)

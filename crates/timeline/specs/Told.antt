@@ -12,7 +12,7 @@ use Rattle.timeline.specs.Moment.{Moment, origin_at, stop_in}
 use Rattle.timeline.specs.Shown.{Executing, own_at}
 use Rattle.timeline.specs.declared.stage.Stage.{Stage}
 use Rattle.timeline.specs.declared.stage.Stage.TheVariants.{Segment, Wake, Trap as Trapped, End}
-use Rattle.timeline.specs.declared.underway.Underway.{Underway}
+use Rattle.timeline.specs.declared.present_segment.PresentSegment.{PresentSegment}
 
 -- the turn, from 1: one more than were done, of which 2^64 - 1 are counted; at the end of the run the last one
 abbrev pub turn_at : Point → ℕ
@@ -29,7 +29,7 @@ abbrev pub thread_at : Point → ℕ → ℕ
 thread_at point last = thread_by (need_at point) last
 
 -- the trap that was found where the run stands, if its step was tried
-abbrev pub trap_found : Option Underway → Option Trap
+abbrev pub trap_found : Option PresentSegment → Option Trap
 trap_found None = None
 trap_found (Some underway) = underway.trap
 

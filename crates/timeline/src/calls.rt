@@ -7,14 +7,15 @@ ghost use Rattle.timeline.specs.Calls.{joint_in};
 ghost use Rattle.timeline.specs.Halts as halts;
 ghost use Rattle.timeline.specs.Present.{CanStep, IsBegun, IsReady, IsSound, moment_of, point_at, steps_of};
 
-use crate::access::Access;
+use crate::access::{is_seen, stored};
 use crate::checkpoint::Checkpoint;
 use crate::halt::Halt;
 use crate::present::Present;
+use crate::present_segment::PresentSegment;
 use crate::stops::Stops;
-use crate::underway::Underway;
-use abi::Call;
+use abi::Touched;
 use ecalls::call_of;
+use hart::MemoryAccess;
 use marked_memory::Watch;
 use std::alloc::AllocError;
 use thread_table::Thread;
@@ -41,8 +42,8 @@ impl Present {
     /// The first watch of which the call that comes next is an event.
     fn call_event(
         &self,
-        underway: &Underway,
-        read: &Option<Access>,
+        underway: &PresentSegment,
+        read: &Option<MemoryAccess>,
         watches: &[Watch],
     ) -> Option<Halt>
         ensures { result ≡ calls.call_event watches.now read.now (joint_in self.now underway.now) }
@@ -56,11 +57,16 @@ impl Present {
     }
 
     /// Whether a watch looks for what the call that comes next reads, or for what it joins.
-    fn is_event(&self, underway: &Underway, read: &Option<Access>, watch: &Watch) -> bool
+    fn is_event(
+        &self,
+        underway: &PresentSegment,
+        read: &Option<MemoryAccess>,
+        watch: &Watch,
+    ) -> bool
         ensures { result ≡ calls.is_event read.now (joint_in self.now underway.now) watch.now }
     {
         let is_read = match read {
-            Some(access) => access.is_seen_by(watch),
+            Some(access) => is_seen(access, watch),
             None => false,
         };
         is_read || self.joins(underway, watch)
@@ -69,22 +75,23 @@ impl Present {
     /// What the call that comes next stores, if it is a `read` into a watched range.
     fn read_access(
         &self,
-        underway: &Underway,
+        underway: &PresentSegment,
         watches: &[Watch],
-    ) -> Result<Option<Access>, TurnFault>
+    ) -> Result<Option<MemoryAccess>, TurnFault>
         requires { CanStep self.now }
         ensures { IfOk result
             (λ read. read ≡ calls.read_by watches.now (request.call_of underway.now.hart)
             (calls.count_read (moment_of self.now) underway.now.work.thread)) }
     {
-        let Call::Read { address, length } = call_of(&underway.hart) else {
-            return Ok(None);
+        let (address, length) = match call_of(&underway.hart).touched() {
+            Touched::Stores { address, length } => (address, length),
+            Touched::Loads { .. } | Touched::Nothing => return Ok(None),
         };
-        if !is_looked_for(&Access::stored(address, length), watches) {
+        if !is_looked_for(&stored(address, length), watches) {
             return Ok(None);
         }
         let count = self.count_read(underway.work.thread)?;
-        Ok(Some(Access::stored(address, count)))
+        Ok(Some(stored(address, count)))
     }
 
     /// How many bytes the call of a thread that comes next takes from the input: it is done on a copy of the run, and
@@ -102,7 +109,7 @@ impl Present {
 
     /// Whether the commit of a thread makes of a range something else than the thread has itself: it has changed a page of
     /// it, and others changed other bytes of it.
-    fn joins(&self, underway: &Underway, watch: &Watch) -> bool
+    fn joins(&self, underway: &PresentSegment, watch: &Watch) -> bool
         ensures { result ≡ calls.joins (joint_in self.now underway.now) watch.now }
     {
         if !watch.looks_for_stores() {
@@ -117,7 +124,7 @@ impl Present {
     }
 
     /// Whether it does so of the byte at an offset.
-    fn joins_at(&self, underway: &Underway, start: u32, offset: u32) -> bool
+    fn joins_at(&self, underway: &PresentSegment, start: u32, offset: u32) -> bool
         ensures { result ≡ calls.joins_at (joint_in self.now underway.now) (start + offset) }
     {
         match start.checked_add(offset) {
@@ -129,7 +136,7 @@ impl Present {
     }
 
     /// Whether another thread has changed a byte that this one hasn't.
-    fn is_behind(&self, underway: &Underway, address: u32) -> bool
+    fn is_behind(&self, underway: &PresentSegment, address: u32) -> bool
         ensures { result ≡ calls.is_behind (joint_in self.now underway.now) address }
     {
         underway.agrees_with(&underway.base, address)
@@ -148,10 +155,10 @@ fn count_in(row: Option<&Thread>) -> u32
 }
 
 /// Whether any of some watches looks for an access.
-fn is_looked_for(access: &Access, watches: &[Watch]) -> bool
+fn is_looked_for(access: &MemoryAccess, watches: &[Watch]) -> bool
     ensures { result ≡ list_any (halts.is_seen access.now) watches.now }
 {
-    watches.iter().any(|watch| access.is_seen_by(watch))
+    watches.iter().any(|watch| is_seen(access, watch))
 }
 
 /// The present turn of a run, as the first one of a run of its own.

@@ -1,5 +1,7 @@
 //! A run that can be asked for any of its positions, forward and back.
 //!
+//! It is the debugger's crate. What the option `--timeline` writes is the crate `trace_events`.
+//!
 //! A position is a turn and how many instructions of the turn's segment were executed. A [`Timeline`] stands at one and goes
 //! to others: forward by execution, back by execution from a checkpoint.
 #![tactic(auto)]
@@ -12,6 +14,7 @@ mod halt;
 mod line;
 mod motion;
 mod present;
+mod present_segment;
 mod scout;
 mod shown;
 mod spacing;
@@ -19,7 +22,6 @@ mod stage;
 mod stops;
 mod timeline;
 mod told;
-mod underway;
 
 pub use halt::Halt;
 pub use marked_memory::{Watch, WatchKind};

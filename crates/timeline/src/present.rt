@@ -8,8 +8,8 @@ ghost use Rattle.timeline.specs.Present.{count_of, IsWent};
 
 use crate::checkpoint::Begun;
 use crate::halt::Halt;
+use crate::present_segment::{PresentSegment, SegmentOutcome};
 use crate::stops::Stops;
-use crate::underway::{Progress, Underway};
 use std::alloc::AllocError;
 use token::{Need, NoRecord, SegmentEnd, Serial, TurnFault};
 
@@ -22,7 +22,7 @@ pub(crate) struct Present {
     /// What stands before the present turn.
     pub(crate) serial: Box<Serial<NoRecord>>,
     /// The segment of the present turn, once it has begun. Where it hasn't, nothing of it is executed.
-    pub(crate) underway: Option<Underway>,
+    pub(crate) underway: Option<PresentSegment>,
     /// How many steps were made before the present turn.
     pub(crate) before: u64,
     /// The thread of the last turn.
@@ -90,12 +90,12 @@ impl Present {
         }
         match self.serial.need() {
             Need::Segment(work) => {
-                let underway = Underway::begin(work, self.serial.base())?;
+                let underway = PresentSegment::begin(work, self.serial.base())?;
                 self.underway = Some(underway);
                 Ok(())
             }
             Need::Keeper(work) => {
-                let underway = Underway::begin(work, self.serial.now())?;
+                let underway = PresentSegment::begin(work, self.serial.now())?;
                 self.underway = Some(underway);
                 Ok(())
             }
@@ -152,9 +152,9 @@ impl Present {
     {
         let progress = self.progress(stops, until - self.before);
         match progress {
-            Ok(Progress::Stays) => Ok(None),
-            Ok(Progress::Halts(halt)) => Ok(Some(halt)),
-            Ok(Progress::Over(end)) => {
+            Ok(SegmentOutcome::Stays) => Ok(None),
+            Ok(SegmentOutcome::Halts(halt)) => Ok(Some(halt)),
+            Ok(SegmentOutcome::Over(end)) => {
                 self.turn(end.as_ref())?;
                 Ok(None)
             }
@@ -179,7 +179,7 @@ impl Present {
     }
 
     /// What becomes of the present turn within so many of its instructions.
-    fn progress(&mut self, stops: &Stops<'_>, most: u64) -> Result<Progress, AllocError>
+    fn progress(&mut self, stops: &Stops<'_>, most: u64) -> Result<SegmentOutcome, AllocError>
         requires ready { IsReady self.old }
         requires further { steps_of self.old.underway < most }
         requires call { call_at stops.now.watches.now (moment_of self.old) ≡ None }
@@ -190,7 +190,7 @@ impl Present {
         match &mut self.underway {
             Some(underway) => {
                 if underway.trap.is_some() {
-                    return Ok(Progress::Halts(underway.halt_at_trap(stops)));
+                    return Ok(SegmentOutcome::Halts(underway.halt_at_trap(stops)));
                 }
                 if stops.asks_within(underway.work.thread) {
                     underway.go_looking(stops, most)
@@ -199,8 +199,8 @@ impl Present {
                 }
             }
             None => match self.serial.need() {
-                Need::Ended(_) => Ok(Progress::Halts(Halt::End)),
-                _ => Ok(Progress::Over(None)),
+                Need::Ended(_) => Ok(SegmentOutcome::Halts(Halt::End)),
+                _ => Ok(SegmentOutcome::Over(None)),
             },
         }
     }

@@ -16,7 +16,7 @@ const QUIET: u32 = 4096;
 
 /// A halt, and the step at which it stands.
 #[derive(Clone, Copy)]
-pub struct Found {
+pub struct FoundHalt {
     pub(crate) step: u64,
     pub(crate) halt: Halt,
 }
@@ -27,7 +27,7 @@ impl Present {
         &mut self,
         stops: &Stops<'_>,
         until: u64,
-    ) -> Result<Option<Found>, TurnFault>
+    ) -> Result<Option<FoundHalt>, TurnFault>
         requires { CanReach self.old until }
         ensures { IfOk result (Finds (wanted_by stops.now) self.old until) }
     {
@@ -78,7 +78,7 @@ impl Present {
 
     /// Goes on by a step if something may be told of it, else as far as the turn goes, and answers the last halt on the way
     /// back from there.
-    fn pass(&mut self, stops: &Stops<'_>, until: u64) -> Result<Option<Found>, TurnFault>
+    fn pass(&mut self, stops: &Stops<'_>, until: u64) -> Result<Option<FoundHalt>, TurnFault>
         requires { CanPass self.old until }
         ensures { Passes (wanted_by stops.now) self.old until result self.new }
     {
@@ -91,7 +91,7 @@ impl Present {
     }
 
     /// Goes on by a step, and answers what is told of it.
-    fn pass_step(&mut self, stops: &Stops<'_>) -> Result<Option<Found>, TurnFault>
+    fn pass_step(&mut self, stops: &Stops<'_>) -> Result<Option<FoundHalt>, TurnFault>
         requires can { CanStep self.old }
         requires leads { LeadsTo self.old (step_of self.old + 1) }
         ensures stays { StaysInRun self.old self.new }
@@ -103,7 +103,7 @@ impl Present {
         let next = self.step_number() + 1;
         self.proceed(&Stops::none(), next)?;
         if moves_other {
-            return Ok(Some(Found {
+            return Ok(Some(FoundHalt {
                 step: next,
                 halt: Halt::OtherThread,
             }));
@@ -112,7 +112,7 @@ impl Present {
     }
 
     /// Goes on as far as the turn goes, if nothing is told of its instructions for what they are.
-    fn pass_turn(&mut self, stops: &Stops<'_>, until: u64) -> Result<Option<Found>, TurnFault>
+    fn pass_turn(&mut self, stops: &Stops<'_>, until: u64) -> Result<Option<FoundHalt>, TurnFault>
         requires can { CanPass self.old until }
         requires begun { IsBegun (point_at self.old) self.old.underway }
         requires quiet { looks (wanted_by stops.now) self.old.underway ≡ false }
@@ -121,7 +121,7 @@ impl Present {
         let moves_other = self.moves_other(stops);
         self.proceed(stops, until)?;
         if moves_other {
-            return Ok(Some(Found {
+            return Ok(Some(FoundHalt {
                 step: self.step_number(),
                 halt: Halt::OtherThread,
             }));
@@ -141,7 +141,7 @@ impl Present {
 
     /// What is told of the next instruction for what it is.
     #[tactic(auto, unfolding(crate::specs::Shown::own_at))]
-    fn back_halt(&self, stops: &Stops<'_>) -> Result<Option<Found>, TurnFault>
+    fn back_halt(&self, stops: &Stops<'_>) -> Result<Option<FoundHalt>, TurnFault>
         requires { CanStep self.now }
         ensures { IfOk result (IsToldOf (wanted_by stops.now) (moment_of self.now) (step_of self.now)) }
     {
@@ -154,7 +154,7 @@ impl Present {
             None => self.call_halt(stops)?,
         };
         if let Some(halt) = event {
-            return Ok(Some(Found {
+            return Ok(Some(FoundHalt {
                 step: here + 1,
                 halt,
             }));
@@ -162,7 +162,7 @@ impl Present {
         Ok(
             underway
                 .position_halt(stops)
-                .map(|halt| Found { step: here, halt }),
+                .map(|halt| FoundHalt { step: here, halt }),
         )
     }
 }

@@ -5,8 +5,8 @@ use Rattle.std.proofs.lemmas.Bool.{or_cases, or_left, or_right, eqb-true}
 use Rattle.abi.specs.declared.call.Call.{Call}
 use Rattle.abi.specs.declared.call.Call.TheVariants as call
 use Rattle.condvar_barrier.specs.Objects.{ObjectState, holds, holds_mutex, is_held_by, with_holder, with_waiter, without}
-use Rattle.condvar_barrier.specs.declared.place.Place.{Place}
-use Rattle.condvar_barrier.specs.declared.place.Place.TheVariants.{Condition}
+use Rattle.condvar_barrier.specs.declared.wait_place.WaitPlace.{WaitPlace}
+use Rattle.condvar_barrier.specs.declared.wait_place.WaitPlace.TheVariants.{Condition}
 use Rattle.abi.specs.declared.code.Code.TheVariants.{BadArgument, NotHolder, HoldsLock}
 use Rattle.abi.specs.declared.reply.Reply.TheVariants.{Waits}
 use Rattle.abi.specs.Limits as limit
@@ -95,7 +95,7 @@ without_only : (objects : ObjectState) (threads : List ℕ) (thread : ℕ) → O
 unfolding without
 without_only objects threads thread before = same_holders objects _ thread refl before
 
-waiter_only : (objects : ObjectState) (waiting : ℕ) (place : Place) (thread : ℕ) → OnlyHolder thread objects → OnlyHolder thread (with_waiter objects waiting place)
+waiter_only : (objects : ObjectState) (waiting : ℕ) (place : WaitPlace) (thread : ℕ) → OnlyHolder thread objects → OnlyHolder thread (with_waiter objects waiting place)
 unfolding with_waiter
 waiter_only objects waiting place thread before = same_holders objects _ thread refl before
 

@@ -9,19 +9,19 @@ use Rattle.trace_events.specs.Ending.{thread_states}
 use Rattle.trace_events.specs.Events.{is_in_phase}
 use Rattle.trace_events.specs.Recording.{Knows, blank, phase_at, phase_of, state_at}
 use Rattle.trace_events.specs.Waits.{let_go, release_of, wait_of}
-use Rattle.trace_events.specs.declared.progress.Progress.{Progress}
-use Rattle.trace_events.specs.declared.waiter.Waiter.{Waiter}
+use Rattle.trace_events.specs.declared.run_progress.RunProgress.{RunProgress}
+use Rattle.trace_events.specs.declared.waiting_thread.WaitingThread.{WaitingThread}
 use Rattle.trace_events.specs.Threads.{above, arrival, in_use, instructions, waiting, without, due, freed, instructions_of, is_among, is_of, last_of, pages_in, ready_in, state_after, state_due, thread_state, token_of, token_wait}
 use Rattle.trace_events.specs.Timeline.{entries_of, entry_of}
 use Rattle.trace_events.specs.Times.{keeps, newest, now, start, timed, timed_turn}
-use Rattle.trace_events.specs.declared.entry.Entry.{Entry}
-use Rattle.trace_events.specs.declared.phase.Phase.{Phase}
+use Rattle.trace_events.specs.declared.recorded_turn.RecordedTurn.{RecordedTurn}
+use Rattle.trace_events.specs.declared.phase_counts.PhaseCounts.{PhaseCounts}
 use Rattle.trace_events.specs.declared.thread_state.ThreadState.{ThreadState}
 use Rattle.trace_events.specs.declared.timed_turn.TimedTurn.{TimedTurn}
 
-pub timed_more : (entries : List Entry) (entry : Entry) → timed (entries ++ entry ∷ []) ≡ timed_turn (timed entries) entry ∷ timed entries
+pub timed_more : (entries : List RecordedTurn) (entry : RecordedTurn) → timed (entries ++ entry ∷ []) ≡ timed_turn (timed entries) entry ∷ timed entries
 unfolding timed
-timed_more entries entry = fold_push (λ (done : List TimedTurn) (entry : Entry). timed_turn done entry ∷ done) [] entries entry
+timed_more entries entry = fold_push (λ (done : List TimedTurn) (entry : RecordedTurn). timed_turn done entry ∷ done) [] entries entry
 
 pub entries_more : (turns : List Turn) (changes : List Change) (turn : Turn) (change : Change) → length changes ≡ length turns
     → entries_of (turns ++ turn ∷ []) (changes ++ change ∷ []) ≡ entries_of turns changes ++ entry_of turn change ∷ []
@@ -30,10 +30,10 @@ entries_more [] [] turn change same = refl
 entries_more [] (other ∷ changes) turn change same = absurd (omega arith)
 entries_more (one ∷ turns) [] turn change same = absurd (omega arith)
 entries_more (one ∷ turns) (other ∷ changes) turn change same =
-    ap (λ (rest : List Entry). entry_of one other ∷ rest) (entries_more turns changes turn change (omega arith))
+    ap (λ (rest : List RecordedTurn). entry_of one other ∷ rest) (entries_more turns changes turn change (omega arith))
 
 -- what is counted of a phase, by its parts
-abbrev pub counted : (start ready pages : ℕ) → Phase
+abbrev pub counted : (start ready pages : ℕ) → PhaseCounts
 counted start ready pages = record { start = start; ready = ready; pages = pages }
 
 -- a phase that goes on is that of the last turn
@@ -48,14 +48,14 @@ new_phase [] phase is = refl
 new_phase (timed ∷ before) phase is = rw is refl
 
 -- a phase has one turn more
-pub phase_more : (done : List TimedTurn) (timed : TimedTurn) (before : Phase) (more : ℕ) → before ≡ phase_at done timed.turn.phase → more ≡ (if keeps done timed.turn then 0 else 1)
+pub phase_more : (done : List TimedTurn) (timed : TimedTurn) (before : PhaseCounts) (more : ℕ) → before ≡ phase_at done timed.turn.phase → more ≡ (if keeps done timed.turn then 0 else 1)
     → counted before.start (before.ready + more) (before.pages + timed.pages) ≡ phase_at (timed ∷ done) timed.turn.phase
 unfolding start ready_in pages_in
 phase_more done timed before more is counts =
     let same : (timed.turn.phase == timed.turn.phase) ≡ true = eq-eqb timed.turn.phase timed.turn.phase refl in
-    let starts : before.start ≡ start done timed.turn.phase = ap (λ (one : Phase). one.start) is in
-    let ready : before.ready ≡ ready_in done timed.turn.phase = ap (λ (one : Phase). one.ready) is in
-    let pages : before.pages ≡ pages_in done timed.turn.phase = ap (λ (one : Phase). one.pages) is in
+    let starts : before.start ≡ start done timed.turn.phase = ap (λ (one : PhaseCounts). one.start) is in
+    let ready : before.ready ≡ ready_in done timed.turn.phase = ap (λ (one : PhaseCounts). one.ready) is in
+    let pages : before.pages ≡ pages_in done timed.turn.phase = ap (λ (one : PhaseCounts). one.pages) is in
     rw same cc
 
 -- what is known of a thread, by its parts
@@ -90,7 +90,7 @@ pub state_more : (done : List TimedTurn) (timed : TimedTurn) (thread : ℕ)
 state_more done timed thread = state_by done timed thread (is_of thread timed) refl
 
 -- all that is known of a run after one turn more
-pub Knows-more : (before after : Progress) (done : List TimedTurn) (timed : TimedTurn) (threads : List ℕ)
+pub Knows-more : (before after : RunProgress) (done : List TimedTurn) (timed : TimedTurn) (threads : List ℕ)
     → threads ≡ let_go (release_of timed.turn.thread timed.turn.stop) before.waiters.items
     → after.last ≡ Some timed → after.phase ≡ phase_at (timed ∷ done) timed.turn.phase → after.instructions ≡ before.instructions + timed.turn.ran
     → after.waiters.items ≡ without threads before.waiters.items ++ arrival timed.turn.thread (wait_of timed.turn.stop)
@@ -109,7 +109,7 @@ Knows-more before after done timed threads are last phase ran waiters grown stat
       waiters =
           waiters
           ∙ ap (λ (all : List ℕ). without all before.waiters.items ++ arrival timed.turn.thread (wait_of timed.turn.stop)) freed_are
-          ∙ ap (λ (all : List Waiter). without (freed done timed) all ++ arrival timed.turn.thread (wait_of timed.turn.stop)) has.waiters;
+          ∙ ap (λ (all : List WaitingThread). without (freed done timed) all ++ arrival timed.turn.thread (wait_of timed.turn.stop)) has.waiters;
       in_use =
           grown
           ∙ ap (λ (all : List ℕ). max (above (length before.threads.items) all) (timed.turn.thread + 1)) freed_are
@@ -122,11 +122,11 @@ Knows-more before after done timed threads are last phase ran waiters grown stat
     }
 
 -- nobody leaves if nobody is let go
-all_stay : (waiters : List Waiter) → filter (λ waiter. true) waiters ≡ waiters
+all_stay : (waiters : List WaitingThread) → filter (λ waiter. true) waiters ≡ waiters
 all_stay [] = refl
-all_stay (waiter ∷ waiters) = ap (λ (rest : List Waiter). waiter ∷ rest) (all_stay waiters)
+all_stay (waiter ∷ waiters) = ap (λ (rest : List WaitingThread). waiter ∷ rest) (all_stay waiters)
 
-pub none_leave : (threads : List ℕ) (waiters : List Waiter) → (length threads == 0) ≡ true → waiters ≡ without threads waiters
+pub none_leave : (threads : List ℕ) (waiters : List WaitingThread) → (length threads == 0) ≡ true → waiters ≡ without threads waiters
 none_leave [] waiters empty = sym (all_stay waiters)
 none_leave (thread ∷ threads) waiters empty = absurd (omega (arith, eqb-true (length (thread ∷ threads)) 0 empty))
 

@@ -7,10 +7,10 @@ use Rattle.tracer.specs.Recording.{Holds}
 use Rattle.trace_events.specs.Threads.{in_use, instructions, pages_in, ready_in, thread_state, waiting}
 use Rattle.trace_events.specs.Timeline.{begun_text, entries_of}
 use Rattle.trace_events.specs.Times.{newest, start, timed, timed_turn}
-use Rattle.trace_events.specs.declared.entry.Entry.{Entry}
+use Rattle.trace_events.specs.declared.recorded_turn.RecordedTurn.{RecordedTurn}
 use Rattle.trace_events.specs.declared.outlet.Outlet.{Outlet}
-use Rattle.trace_events.specs.declared.phase.Phase.{Phase}
-use Rattle.trace_events.specs.declared.progress.Progress.{Progress}
+use Rattle.trace_events.specs.declared.phase_counts.PhaseCounts.{PhaseCounts}
+use Rattle.trace_events.specs.declared.run_progress.RunProgress.{RunProgress}
 use Rattle.trace_events.specs.declared.thread_state.ThreadState.{ThreadState}
 use Rattle.trace_events.specs.declared.timed_turn.TimedTurn.{TimedTurn}
 use Rattle.trace_events.specs.declared.timeline_recorder.TimelineRecorder.{TimelineRecorder}
@@ -24,16 +24,16 @@ abbrev pub state_at : List ThreadState → ℕ → ThreadState
 state_at states thread = slice_index_or states thread blank
 
 -- what is counted of a phase
-abbrev pub phase_at : List TimedTurn → (phase : ℕ) → Phase
+abbrev pub phase_at : List TimedTurn → (phase : ℕ) → PhaseCounts
 phase_at done phase = record { start = start done phase; ready = ready_in done phase; pages = pages_in done phase }
 
 -- of that of the last turn
-abbrev pub phase_of : List TimedTurn → Option TimedTurn → Phase
+abbrev pub phase_of : List TimedTurn → Option TimedTurn → PhaseCounts
 phase_of done None = record { start = 0; ready = 0; pages = 0 }
 phase_of done (Some last) = phase_at done last.turn.phase
 
 -- what is known of a run is that of these turns
-pub record Knows (progress : Progress) (done : List TimedTurn) : Type 0 where
+pub record Knows (progress : RunProgress) (done : List TimedTurn) : Type 0 where
   pub last : progress.last ≡ newest done
   pub phase : progress.phase ≡ phase_of done (newest done)
   pub instructions : progress.instructions ≡ instructions done
@@ -42,7 +42,7 @@ pub record Knows (progress : Progress) (done : List TimedTurn) : Type 0 where
   pub threads : (thread : ℕ) → state_at progress.threads.items thread ≡ thread_state done thread
 
 -- a text has what is told of the turns that are known appended
-abbrev pub AppendsOf : Progress → (List TimedTurn → List ℕ) → List ℕ → List ℕ → Type 0
+abbrev pub AppendsOf : RunProgress → (List TimedTurn → List ℕ) → List ℕ → List ℕ → Type 0
 AppendsOf progress told old new = (done : List TimedTurn) → Knows progress done → new ≡ old ++ told done
 
 -- what the writer hasn't taken yet
@@ -56,7 +56,7 @@ pub record Sends {W : Type 0} (contents : W → Option (List ℕ)) (outlet : Out
   pub whole : written ++ unsent outlet ≡ text
 
 -- some turns, and one more if there is one
-abbrev pub with_entry : List TimedTurn → Option Entry → List TimedTurn
+abbrev pub with_entry : List TimedTurn → Option RecordedTurn → List TimedTurn
 with_entry done None = done
 with_entry done (Some entry) = timed_turn done entry ∷ done
 

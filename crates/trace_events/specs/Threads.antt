@@ -6,7 +6,7 @@ use Rattle.trace_events.specs.Waits.{let_go, release_of, wait_of}
 use Rattle.trace_events.specs.declared.thread_state.ThreadState.{ThreadState}
 use Rattle.trace_events.specs.declared.timed_turn.TimedTurn.{TimedTurn}
 use Rattle.trace_events.specs.declared.wait.Wait.{Wait}
-use Rattle.trace_events.specs.declared.waiter.Waiter.{Waiter}
+use Rattle.trace_events.specs.declared.waiting_thread.WaitingThread.{WaitingThread}
 
 -- whether a turn is a thread's
 abbrev pub is_of : ℕ → TimedTurn → Bool
@@ -21,16 +21,16 @@ unfoldable pub last_of : ℕ → List TimedTurn → Option TimedTurn
 last_of thread done = find (is_of thread) done
 
 -- a thread as one that waits, if it does
-abbrev pub arrival : ℕ → Option Wait → List Waiter
+abbrev pub arrival : ℕ → Option Wait → List WaitingThread
 arrival thread None = []
 arrival thread (Some wait) = record { thread = thread; wait = wait } ∷ []
 
 -- some waiting threads without those that are let go
-abbrev pub without : List ℕ → List Waiter → List Waiter
+abbrev pub without : List ℕ → List WaitingThread → List WaitingThread
 without threads waiters = filter (λ waiter. not (is_among waiter.thread threads)) waiters
 
 -- the threads that wait, the first to come in front
-unfoldable pub waiting : List TimedTurn → List Waiter
+unfoldable pub waiting : List TimedTurn → List WaitingThread
 waiting [] = []
 waiting (timed ∷ before) =
     without (let_go (release_of timed.turn.thread timed.turn.stop) (waiting before)) (waiting before)

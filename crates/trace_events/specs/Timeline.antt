@@ -6,14 +6,14 @@ use Rattle.trace_events.specs.Ending.{ending}
 use Rattle.trace_events.specs.Events.{events}
 use Rattle.trace_events.specs.Pages.{page_count}
 use Rattle.trace_events.specs.Times.{timed}
-use Rattle.trace_events.specs.declared.entry.Entry.{Entry}
+use Rattle.trace_events.specs.declared.recorded_turn.RecordedTurn.{RecordedTurn}
 use Rattle.trace_events.specs.declared.timed_turn.TimedTurn.{TimedTurn}
 
 -- a turn, and how many pages it changed
-abbrev pub entry_of : Turn → Change → Entry
+abbrev pub entry_of : Turn → Change → RecordedTurn
 entry_of turn change = record { turn = turn; pages = page_count change.addresses }
 
-unfoldable pub entries_of : List Turn → List Change → List Entry
+unfoldable pub entries_of : List Turn → List Change → List RecordedTurn
 entries_of turns changes = map (λ (turn, change). entry_of turn change) (zip turns changes)
 
 -- the file up to the events of the last of some turns

@@ -3,7 +3,7 @@ use Rattle.std.specs.Prelude.{ℕ, ◌+◌, ◌==◌, ◌&&◌, ◌||◌, Bool, 
 use Rattle.token.specs.declared.turn.Turn.{Turn}
 use Rattle.token.specs.declared.turn.TurnStop.{TurnStop}
 use Rattle.token.specs.declared.turn.TurnStop.TheVariants.{Call, Trap, Quantum, Wake}
-use Rattle.trace_events.specs.declared.entry.Entry.{Entry}
+use Rattle.trace_events.specs.declared.recorded_turn.RecordedTurn.{RecordedTurn}
 use Rattle.trace_events.specs.declared.timed_turn.TimedTurn.{TimedTurn}
 
 -- the last of some turns
@@ -48,7 +48,7 @@ abbrev pub begin : List TimedTurn → Turn → ℕ
 begin done turn = if keeps done turn || is_wake turn.stop then now done else start done turn.phase
 
 -- A turn is done once its segment has ended, and not before the turn before it.
-abbrev pub timed_turn : List TimedTurn → Entry → TimedTurn
+abbrev pub timed_turn : List TimedTurn → RecordedTurn → TimedTurn
 timed_turn done entry = record {
   number = number_by (newest done) + 1;
   turn = entry.turn;
@@ -58,5 +58,5 @@ timed_turn done entry = record {
 }
 
 -- turns with their times, of entries with the first turn's in front
-unfoldable pub timed : List Entry → List TimedTurn
+unfoldable pub timed : List RecordedTurn → List TimedTurn
 timed entries = fold (λ done entry. timed_turn done entry ∷ done) [] entries

@@ -11,14 +11,26 @@ use Rattle.trace_events.specs.declared.release.Release.{Release}
 use Rattle.trace_events.specs.declared.release.Release.TheVariants.{Made, First, All}
 use Rattle.trace_events.specs.declared.wait.Wait.{Wait}
 use Rattle.trace_events.specs.declared.wait.Wait.TheVariants.{Join, Condition, Barrier}
-use Rattle.trace_events.specs.declared.waiter.Waiter.{Waiter}
+use Rattle.trace_events.specs.declared.waiting_thread.WaitingThread.{WaitingThread}
 
 -- what a call that waits waits for; a lock never waits, since only the keeper of the token holds a mutex between two turns
 abbrev pub wait_by : Option CallKind → (argument : ℕ) → Option Wait
+wait_by None argument = None
+wait_by (Some kind.Exit) argument = None
+wait_by (Some kind.ThreadExit) argument = None
+wait_by (Some kind.Create) argument = None
 wait_by (Some kind.Join) argument = Some (Join argument)
+wait_by (Some kind.Lock) argument = None
+wait_by (Some kind.Unlock) argument = None
 wait_by (Some kind.Wait) argument = Some (Condition argument)
+wait_by (Some kind.Signal) argument = None
+wait_by (Some kind.Broadcast) argument = None
 wait_by (Some kind.Barrier) argument = Some (Barrier argument)
-wait_by _ argument = None
+wait_by (Some kind.Write) argument = None
+wait_by (Some kind.Read) argument = None
+wait_by (Some kind.Memory) argument = None
+wait_by (Some kind.Sync) argument = None
+wait_by (Some kind.Release) argument = None
 
 abbrev pub wait_by_reply : Reply → (number argument : ℕ) → Option Wait
 wait_by_reply Waits number argument = wait_by (kind_of number) argument
@@ -47,12 +59,22 @@ value_of Ends = None
 -- whom a call lets go: the thread that it makes, those that wait for its thread's end, the first at a condition variable, all that
 -- wait there, or all at the barrier that it completes
 abbrev pub release_by : Option CallKind → (thread argument : ℕ) → Option ℕ → Option Release
-release_by (Some kind.Create) thread argument value = option_map Made value
+release_by None thread argument value = None
+release_by (Some kind.Exit) thread argument value = None
 release_by (Some kind.ThreadExit) thread argument value = Some (All (Join thread))
+release_by (Some kind.Create) thread argument value = option_map Made value
+release_by (Some kind.Join) thread argument value = None
+release_by (Some kind.Lock) thread argument value = None
+release_by (Some kind.Unlock) thread argument value = None
+release_by (Some kind.Wait) thread argument value = None
 release_by (Some kind.Signal) thread argument value = Some (First (Condition argument))
 release_by (Some kind.Broadcast) thread argument value = Some (All (Condition argument))
 release_by (Some kind.Barrier) thread argument value = option_map (λ _. All (Barrier argument)) value
-release_by _ thread argument value = None
+release_by (Some kind.Write) thread argument value = None
+release_by (Some kind.Read) thread argument value = None
+release_by (Some kind.Memory) thread argument value = None
+release_by (Some kind.Sync) thread argument value = None
+release_by (Some kind.Release) thread argument value = None
 
 -- whom the turn of a thread lets go
 unfoldable pub release_of : (thread : ℕ) → TurnStop → Option Release
@@ -62,11 +84,11 @@ release_of thread (Wake mutex) = None
 release_of thread (Quantum pc) = None
 
 -- those of some waiting threads that wait for this
-abbrev pub threads_at : Wait → List Waiter → List ℕ
+abbrev pub threads_at : Wait → List WaitingThread → List ℕ
 threads_at wait waiters = map (λ waiter. waiter.thread) (filter (λ waiter. same_wait waiter.wait wait) waiters)
 
 -- the threads that are let go, of those that wait, the first to come in front
-abbrev pub let_go : Option Release → List Waiter → List ℕ
+abbrev pub let_go : Option Release → List WaitingThread → List ℕ
 let_go None waiters = []
 let_go (Some (Made thread)) waiters = thread ∷ []
 let_go (Some (First wait)) waiters = take 1 (threads_at wait waiters)

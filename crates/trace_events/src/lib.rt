@@ -1,5 +1,7 @@
 //! Timelines of runs for trace viewers, in the Trace Event Format: one event a line.
 //!
+//! It is what the option `--timeline` writes. The crate `timeline` is the debugger's.
+//!
 //! Time is in instructions, as the run would take them if each thread had a processor of its own. The segments of a
 //! phase begin together; the turns follow in token order, none before the end of its segment; the segment of a thread
 //! that kept the token begins at its turn.
@@ -9,20 +11,20 @@
 #![tactic(auto)]
 
 mod ending;
-mod entry;
 mod event;
 mod events;
 mod outlet;
 mod pages;
-mod phase;
-mod progress;
+mod phase_counts;
+mod recorded_turn;
 mod release;
+mod run_progress;
 mod sum;
 mod thread_state;
 mod threads;
 mod timed_turn;
 mod timeline_recorder;
 mod wait;
-mod waiter;
+mod waiting_thread;
 
 pub use timeline_recorder::TimelineRecorder;

@@ -1,5 +1,6 @@
 //! Whom a turn lets go.
-ghost use Rattle.std.specs.Prelude.{◌≡◌};
+ghost use Rattle.std.specs.Prelude.{◌≡◌, is_some, IsTrue};
+ghost use Rattle.abi.specs.Calls.{lets_go};
 ghost use Rattle.trace_events.specs.Waits.{release_by, release_of, value_of};
 
 use crate::wait::Wait;
@@ -34,13 +35,14 @@ impl Release {
                 arguments[0],
                 value(reply),
             ),
-            _ => None,
+            TurnStop::Trap { .. } | TurnStop::Wake { .. } | TurnStop::Quantum { .. } => None,
         }
     }
 
     /// Whom a call with this value lets go.
     fn by(kind: Option<CallKind>, thread: u32, argument: u32, value: Option<u32>) -> Option<Self>
-        ensures { result ≡ release_by kind thread argument value }
+        ensures release { result ≡ release_by kind thread argument value }
+        ensures table { IsTrue (is_some result) → IsTrue (lets_go kind) }
     {
         match kind {
             Some(CallKind::Create) => match value {
@@ -66,7 +68,17 @@ impl Release {
                 }),
                 None => None,
             },
-            _ => None,
+            Some(CallKind::Exit)
+            | Some(CallKind::Join)
+            | Some(CallKind::Lock)
+            | Some(CallKind::Unlock)
+            | Some(CallKind::Wait)
+            | Some(CallKind::Write)
+            | Some(CallKind::Read)
+            | Some(CallKind::Memory)
+            | Some(CallKind::Sync)
+            | Some(CallKind::Release)
+            | None => None,
         }
     }
 }

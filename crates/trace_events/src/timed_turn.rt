@@ -26,7 +26,7 @@ pub(crate) fn is_wake(stop: TurnStop) -> bool
 {
     match stop {
         TurnStop::Wake { .. } => true,
-        _ => false,
+        TurnStop::Call { .. } | TurnStop::Trap { .. } | TurnStop::Quantum { .. } => false,
     }
 }
 

@@ -1,10 +1,10 @@
 //! A recorder that writes the timeline to a writer as turns are done, through a bounded buffer.
 ghost use Rattle.std.specs.Prelude.{◌≡◌, List, [], None, OnOk};
 
-use crate::entry::Entry;
 use crate::outlet::Outlet;
 use crate::pages::changed_pages;
-use crate::progress::Progress;
+use crate::recorded_turn::RecordedTurn;
+use crate::run_progress::RunProgress;
 use commit::Patch;
 use std::alloc::Global;
 use std::io::Write;
@@ -21,9 +21,9 @@ pub struct TimelineRecorder<W> {
     /// Where the events go.
     outlet: Outlet<W>,
     /// What is known after the turns whose events are made.
-    progress: Progress,
+    progress: RunProgress,
     /// The turn whose events aren't made yet.
-    last: Option<Entry>,
+    last: Option<RecordedTurn>,
     /// How many pages the turn changed that it is prepared for.
     pages: u64,
     /// Where the events of a turn are made.
@@ -47,7 +47,7 @@ impl<W: Write> TimelineRecorder<W> {
         TimelineRecorder {
             alloc,
             outlet: Outlet::new(alloc, writer),
-            progress: Progress::new(alloc),
+            progress: RunProgress::new(alloc),
             last: None,
             pages: 0,
             line: String::new(alloc),
@@ -145,7 +145,7 @@ impl<W: Write> Recorder for TimelineRecorder<W> {
     }
 
     fn record(&mut self, turn: Turn) {
-        self.last = Some(Entry {
+        self.last = Some(RecordedTurn {
             turn,
             pages: self.pages,
         });

@@ -1,5 +1,6 @@
 //! What a thread waits for between two of its turns.
-ghost use Rattle.std.specs.Prelude.{◌≡◌, ◌++◌, OnOk};
+ghost use Rattle.std.specs.Prelude.{◌≡◌, ◌++◌, is_some, OnOk};
+ghost use Rattle.abi.specs.Calls.{fate_of, may_wait};
 ghost use Rattle.std.specs.String.{string_bytes};
 ghost use Rattle.trace_events.specs.Events.{wait_text};
 ghost use Rattle.trace_events.specs.Waits.{same_wait, wait_by, wait_of};
@@ -32,13 +33,17 @@ impl Wait {
                 arguments,
                 reply: Reply::Waits,
             } => Wait::by(CallKind::from_number(number), arguments[0]),
-            _ => None,
+            TurnStop::Call { .. }
+            | TurnStop::Trap { .. }
+            | TurnStop::Wake { .. }
+            | TurnStop::Quantum { .. } => None,
         }
     }
 
     /// What a call that waits waits for.
     fn by(kind: Option<CallKind>, argument: u32) -> Option<Self>
-        ensures { result ≡ wait_by kind argument }
+        ensures wait { result ≡ wait_by kind argument }
+        ensures table { is_some result ≡ may_wait (fate_of kind) }
     {
         match kind {
             Some(CallKind::Join) => Some(Wait::Join { thread: argument }),
@@ -46,7 +51,19 @@ impl Wait {
                 condition: argument,
             }),
             Some(CallKind::Barrier) => Some(Wait::Barrier { barrier: argument }),
-            _ => None,
+            Some(CallKind::Exit)
+            | Some(CallKind::ThreadExit)
+            | Some(CallKind::Create)
+            | Some(CallKind::Lock)
+            | Some(CallKind::Unlock)
+            | Some(CallKind::Signal)
+            | Some(CallKind::Broadcast)
+            | Some(CallKind::Write)
+            | Some(CallKind::Read)
+            | Some(CallKind::Memory)
+            | Some(CallKind::Sync)
+            | Some(CallKind::Release)
+            | None => None,
         }
     }
 

@@ -66,7 +66,9 @@ stop_text (Quantum pc) = codes "quantum " ++ word_text pc
 -- the counts of a turn that stopped so: a wake changes nothing and executes nothing
 abbrev pub counts_by : Turn → TurnStop → List ℕ
 counts_by turn (Wake mutex) = counts_text 0 0
-counts_by turn stop = counts_text turn.changed turn.ran
+counts_by turn (Call number arguments reply) = counts_text turn.changed turn.ran
+counts_by turn (Trap pc trap) = counts_text turn.changed turn.ran
+counts_by turn (Quantum pc) = counts_text turn.changed turn.ran
 
 -- the line of a turn
 unfoldable pub line_of : Turn → List ℕ

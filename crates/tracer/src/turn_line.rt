@@ -38,7 +38,9 @@ pub fn write_line(text: &mut String, turn: &Turn) -> Result<(), AllocError>
     write_stop(text, turn.stop)?;
     match turn.stop {
         TurnStop::Wake { .. } => write_counts(text, 0, 0),
-        _ => write_counts(text, turn.changed, turn.ran),
+        TurnStop::Call { .. } | TurnStop::Trap { .. } | TurnStop::Quantum { .. } => {
+            write_counts(text, turn.changed, turn.ran)
+        }
     }
 }
 

@@ -11,7 +11,7 @@ use crate::first_job::FirstJob;
 use crate::of_run::OfRun;
 use claim_table::DrawSeat;
 use phase_jobs::SharedJobs;
-use phase_workers::{Desk, Hand, SharedPhase};
+use phase_workers::{Dispatcher, Hand, SharedPhase};
 use segment::Segment;
 use std::alloc::{AllocError, Global};
 use std::sync::Wait;
@@ -85,7 +85,7 @@ fn draw_before<B: OfRun>(shared: &SharedPhase<EndsOfRun<B>>, seat: &mut DrawSeat
 pub(crate) fn share_out<B: OfRun + Send + Sync, R: Wait, K: Recorder>(
     rt: &R,
     alloc: Global,
-    desk: &mut Desk<EndsOfRun<B>>,
+    dispatcher: &mut Dispatcher<EndsOfRun<B>>,
     serial: &Serial<K>,
     most: u32,
     from: FirstJob,
@@ -102,6 +102,6 @@ pub(crate) fn share_out<B: OfRun + Send + Sync, R: Wait, K: Recorder>(
     let mut seat = first_seat(&shared, &mut seats);
     draw_before(&shared, &mut seat, from.thread);
     let shared = shared.with_told(from.told);
-    desk.share(rt, alloc, shared, Hand { seat, held: None }, seats)?;
+    dispatcher.share(rt, alloc, shared, Hand { seat, held: None }, seats)?;
     Ok(true)
 }

@@ -13,7 +13,7 @@ use crate::first_job::FirstJob;
 use crate::of_run::OfRun;
 use crate::opening::share_out;
 use phase_jobs::Gate;
-use phase_workers::{Crew, Desk};
+use phase_workers::{Dispatcher, WorkerChannels};
 use segment::SegmentEnd;
 use std::alloc::{AllocError, Global};
 use std::marker::Model;
@@ -38,8 +38,8 @@ pub struct Pool<B: OfRun> {
     most: u32,
     /// How many host threads there are, the caller counted.
     hands: u32,
-    desk: Desk<EndsOfRun<B>>,
-    /// The phase that the desk and `taken` speak of.
+    dispatcher: Dispatcher<EndsOfRun<B>>,
+    /// The phase that the dispatcher and `taken` speak of.
     phase: u64,
     /// How many of its jobs the caller took without sharing it out.
     taken: u32,
@@ -72,7 +72,7 @@ impl<B: OfRun + Send + Sync> Pool<B> {
             alloc,
             most,
             hands: 1,
-            desk: Desk::new(),
+            dispatcher: Dispatcher::new(),
             phase: 0,
             taken: 0,
             is_told: false,
@@ -100,17 +100,17 @@ impl<B: OfRun + Send + Sync> Pool<B> {
     }
 
     /// What the workers of the run share. Each works once somebody lets it serve.
-    pub fn hire(&mut self) -> Result<Crew<EndsOfRun<B>>, AllocError>
+    pub fn hire(&mut self) -> Result<WorkerChannels<EndsOfRun<B>>, AllocError>
         ensures { self.new ≡ self.old }
     {
-        self.desk.hire(self.alloc)
+        self.dispatcher.hire(self.alloc)
     }
 
     /// Tells the workers that the run has ended.
     pub fn dismiss(&mut self)
         ensures { self.new ≡ self.old }
     {
-        self.desk.dismiss();
+        self.dispatcher.dismiss();
     }
 
     /// Comes to the phase of a run, and answers whether nobody but the caller has to do with it: there may be no worker, or
@@ -119,7 +119,7 @@ impl<B: OfRun + Send + Sync> Pool<B> {
         ensures { self.new ≡ self.old }
     {
         self.come_to(serial.phase());
-        !self.desk.is_shared_out() && (self.most < 2 || serial.list().len() < 2)
+        !self.dispatcher.is_shared_out() && (self.most < 2 || serial.list().len() < 2)
     }
 
     /// The end of the segment that a run needs next, on the memory that its phase began with. The caller executes it.
@@ -154,7 +154,7 @@ impl<B: OfRun + Send + Sync> Pool<B> {
         ensures wants { IfOk result (λ end. IfNone end (self.old.hands < self.old.most)) }
         ensures same { self.new ≡ self.old }
     {
-        if self.credit > 0 || self.desk.is_shared_out() {
+        if self.credit > 0 || self.dispatcher.is_shared_out() {
             return self.segment_beside(rt, serial, work, gate);
         }
         self.tell(gate);
@@ -181,7 +181,7 @@ impl<B: OfRun + Send + Sync> Pool<B> {
         ensures wants { IfOk result (λ end. IfNone end (self.old.hands < self.old.most)) }
         ensures same { self.new ≡ self.old }
     {
-        if !self.desk.is_shared_out() {
+        if !self.dispatcher.is_shared_out() {
             if self.wants_worker(serial) {
                 return Ok(None);
             }
@@ -201,7 +201,7 @@ impl<B: OfRun + Send + Sync> Pool<B> {
             self.phase = phase;
             self.taken = 0;
             self.is_told = false;
-            self.desk.clear();
+            self.dispatcher.clear();
         }
     }
 
@@ -239,8 +239,8 @@ impl<B: OfRun + Send + Sync> Pool<B> {
             thread,
             told: self.is_told.then_some(self.taken),
         };
-        let desk = &mut self.desk;
-        if !share_out(rt, self.alloc, desk, serial, self.most, from).unwrap_or(false) {
+        let dispatcher = &mut self.dispatcher;
+        if !share_out(rt, self.alloc, dispatcher, serial, self.most, from).unwrap_or(false) {
             self.tell(gate);
             self.count();
         }
@@ -257,7 +257,7 @@ impl<B: OfRun + Send + Sync> Pool<B> {
         ensures end { IfSome result (IsEndIn B.setup phase thread) }
         ensures same { self.new ≡ self.old }
     {
-        let end = self.desk.awaited(rt, gate, phase, thread)?;
+        let end = self.dispatcher.awaited(rt, gate, phase, thread)?;
         if end.count >= FIRST {
             self.credit = CREDIT;
         }

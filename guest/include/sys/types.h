@@ -4,6 +4,7 @@
 
 #include_next <sys/types.h>
 #include <dthreads/types.h>
+#include <dthreads/large_files.h>
 /* As on Linux: fd_set and struct timeval. */
 #if __MISC_VISIBLE
 #include <sys/select.h>

@@ -19,8 +19,9 @@ int files_finish(int code)
     monitor_finish();
     if (code >= 0)
         return code;
+    /* (a call on a stream ends it first) */
     if (code == -ECANCELED)
-        cancel_here(CANCELLED);
+        cancel_point();
     if (code == -EPIPE)
         raise(SIGPIPE);
     errno = -code;
@@ -132,12 +133,25 @@ static int open_new(struct place *place, int flags, mode_t mode)
     return code;
 }
 
+/* Moves a place whose name is a symbolic link to what the link stands for, if it may be opened. */
+static int link_open(struct place *place, int flags)
+{
+    struct node *node = place_node(place);
+    if (!node || node->kind != LINK)
+        return 0;
+    if ((flags & (O_CREAT | O_EXCL)) == (O_CREAT | O_EXCL))
+        return -EEXIST;
+    return flags & O_NOFOLLOW && !place->wants_directory ? -ELOOP : place_follow(place);
+}
+
 int file_open(int base, const char *path, int flags, mode_t mode)
 {
     struct place place;
     int code = path_place(base, path, &place);
     if ((flags & O_ACCMODE) == O_ACCMODE)
         return -EINVAL;
+    if (code == 0)
+        code = link_open(&place, flags);
     if (code < 0)
         return code;
     struct node *node = place_node(&place);
@@ -339,11 +353,11 @@ ssize_t pwrite(int descriptor, const void *bytes, size_t length, off_t offset)
     return files_finish(code < 0 ? code : file_write(file, bytes, length, &place));
 }
 
-static ssize_t read_parts(struct open_file *file, const struct iovec *parts, int count)
+static ssize_t read_parts(struct open_file *file, const struct iovec *parts, int count, uint32_t *place)
 {
     ssize_t all = 0;
     for (int i = 0; i < count; i++) {
-        ssize_t got = file_read(file, parts[i].iov_base, parts[i].iov_len, &file->place);
+        ssize_t got = file_read(file, parts[i].iov_base, parts[i].iov_len, place);
         if (got < 0)
             return all ? all : got;
         all += got;
@@ -358,14 +372,23 @@ ssize_t readv(int descriptor, const struct iovec *parts, int count)
     monitor_enter();
     struct open_file *file = file_of(descriptor);
     int code = !file ? -EBADF : count < 0 || count > IOV_MAX ? -EINVAL : 0;
-    return files_finish(code < 0 ? code : read_parts(file, parts, count));
+    return files_finish(code < 0 ? code : read_parts(file, parts, count, &file->place));
 }
 
-static ssize_t write_parts(struct open_file *file, const struct iovec *parts, int count)
+ssize_t preadv(int descriptor, const struct iovec *parts, int count, off_t offset)
+{
+    monitor_enter();
+    struct open_file *file = file_of(descriptor);
+    uint32_t place = (uint32_t)offset;
+    int code = count < 0 || count > IOV_MAX ? -EINVAL : seekable(file, offset);
+    return files_finish(code < 0 ? code : read_parts(file, parts, count, &place));
+}
+
+static ssize_t write_parts(struct open_file *file, const struct iovec *parts, int count, uint32_t *place)
 {
     ssize_t all = 0;
     for (int i = 0; i < count; i++) {
-        ssize_t done = file_write(file, parts[i].iov_base, parts[i].iov_len, &file->place);
+        ssize_t done = file_write(file, parts[i].iov_base, parts[i].iov_len, place);
         if (done < 0)
             return all ? all : done;
         all += done;
@@ -380,7 +403,16 @@ ssize_t writev(int descriptor, const struct iovec *parts, int count)
     monitor_enter();
     struct open_file *file = file_of(descriptor);
     int code = !file ? -EBADF : count < 0 || count > IOV_MAX ? -EINVAL : 0;
-    return files_finish(code < 0 ? code : write_parts(file, parts, count));
+    return files_finish(code < 0 ? code : write_parts(file, parts, count, &file->place));
+}
+
+ssize_t pwritev(int descriptor, const struct iovec *parts, int count, off_t offset)
+{
+    monitor_enter();
+    struct open_file *file = file_of(descriptor);
+    uint32_t place = (uint32_t)offset;
+    int code = count < 0 || count > IOV_MAX ? -EINVAL : seekable(file, offset);
+    return files_finish(code < 0 ? code : write_parts(file, parts, count, &place));
 }
 
 /* Places. */

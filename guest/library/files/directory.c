@@ -75,6 +75,7 @@ static unsigned char type_of(const struct node *node)
     case REGULAR:
         return DT_REG;
     case ALIAS:
+    case LINK:
         return DT_LNK;
     default:
         return DT_CHR;

@@ -183,11 +183,11 @@ int renameat(int base, const char *path, int other_base, const char *other)
     return files_finish(rename_here(base, path, other_base, other));
 }
 
-static int link_here(int base, const char *path, int other_base, const char *other)
+static int link_here(int base, const char *path, int other_base, const char *other, int flags)
 {
     struct place place;
     struct node *node;
-    int code = path_node(base, path, &node);
+    int code = flags & AT_SYMLINK_FOLLOW ? path_node(base, path, &node) : path_name(base, path, &node);
     if (code == 0)
         code = new_place(other_base, other, &place);
     if (code < 0)
@@ -200,30 +200,42 @@ static int link_here(int base, const char *path, int other_base, const char *oth
 int link(const char *path, const char *other)
 {
     monitor_enter();
-    return files_finish(link_here(HERE, path, HERE, other));
+    return files_finish(link_here(HERE, path, HERE, other, 0));
 }
 
 int linkat(int base, const char *path, int other_base, const char *other, int flags)
 {
-    (void)flags;
     monitor_enter();
-    return files_finish(link_here(base, path, other_base, other));
+    return files_finish(link_here(base, path, other_base, other, flags));
 }
 
-/* There are no symbolic links. */
+/* Symbolic links. */
 
-static int symlink_here(int base, const char *path)
+static int symlink_here(const char *target, int base, const char *path)
 {
     struct place place;
-    int code = new_place(base, path, &place);
-    return code < 0 ? code : -EPERM;
+    int code = *target ? new_place(base, path, &place) : -ENOENT;
+    if (code < 0)
+        return code;
+    if (strlen(target) > LONGEST_PATH)
+        return -ENAMETOOLONG;
+    if (place.wants_directory)
+        return -ENOENT;
+    struct node *node = node_make(LINK, 0777);
+    if (!node)
+        return -ENOSPC;
+    node->target = strdup(target);
+    node->size = (uint32_t)strlen(target);
+    code = node->target ? entry_add(place.directory, place.name, place.length, node) : -ENOSPC;
+    if (code < 0)
+        node_release(node);
+    return code;
 }
 
 int symlinkat(const char *target, int base, const char *path)
 {
-    (void)target;
     monitor_enter();
-    return files_finish(symlink_here(base, path));
+    return files_finish(symlink_here(target, base, path));
 }
 
 int symlink(const char *target, const char *path)
@@ -231,14 +243,21 @@ int symlink(const char *target, const char *path)
     return symlinkat(target, HERE, path);
 }
 
-ssize_t readlinkat(int base, const char *restrict path, char *restrict text, size_t size)
+static int target_of(int base, const char *path, char *text, size_t size)
 {
     struct node *node;
-    (void)text;
-    (void)size;
+    int code = path_name(base, path, &node);
+    if (code < 0 || node->kind != LINK)
+        return code < 0 ? code : -EINVAL;
+    uint32_t length = node->size < size ? node->size : (uint32_t)size;
+    memcpy(text, node->target, length);
+    return (int)length;
+}
+
+ssize_t readlinkat(int base, const char *restrict path, char *restrict text, size_t size)
+{
     monitor_enter();
-    int code = path_node(base, path, &node);
-    return files_finish(code < 0 ? code : -EINVAL);
+    return files_finish(target_of(base, path, text, size));
 }
 
 ssize_t readlink(const char *restrict path, char *restrict text, size_t size)

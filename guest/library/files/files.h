@@ -32,7 +32,9 @@ enum kind {
     NULL_DEVICE,
     ZERO_DEVICE,
     RANDOM_DEVICE,
-    PIPE
+    PIPE,
+    /* A symbolic link. */
+    LINK
 };
 
 struct node {
@@ -57,6 +59,8 @@ struct node {
     uint32_t serial;
     struct node *parent;
     struct pipe *pipe;
+    /* A symbolic link: the path that it stands for. */
+    char *target;
 };
 
 struct entry {
@@ -98,7 +102,11 @@ void entry_remove(struct node *directory, struct entry *entry);
 /* Paths. */
 extern struct node *files_root, *files_here;
 int path_place(int base, const char *path, struct place *place);
+/* Moves a place to the one that the symbolic links of its name stand for. */
+int place_follow(struct place *place);
 int path_node(int base, const char *path, struct node **node);
+/* The node of the name itself, which may be a symbolic link. */
+int path_name(int base, const char *path, struct node **node);
 /* The node of a place, or NULL. */
 struct node *place_node(const struct place *place);
 bool is_dots(const struct place *place);

@@ -41,11 +41,13 @@ ssize_t getdelim(char **restrict line, size_t *restrict room, int end, FILE *res
         errno = EINVAL;
         return -1;
     }
-    if (stream)
-        stream_enter(stream);
+    if (!stream)
+        return read_up_to(line, room, end, file);
+    cancel_point();
+    stream_enter(stream);
     ssize_t length = read_up_to(line, room, end, file);
-    if (stream)
-        stream_leave(stream);
+    stream_leave(stream);
+    cancel_point();
     return length;
 }
 

@@ -72,6 +72,34 @@ int munmap(void *address, size_t length)
     return finish(is_range && heap_unmap(address, pages_of(length)), EINVAL);
 }
 
+/* Moves pages to others, with zeros behind the old ones. */
+static void *move(char *address, uint32_t old, uint32_t pages)
+{
+    char *fresh = heap_map(pages);
+    if (!fresh)
+        return refuse(ENOMEM);
+    memcpy(fresh, address, (size_t)old * DTHREADS_PAGE);
+    memset(fresh + (size_t)old * DTHREADS_PAGE, 0, (size_t)(pages - old) * DTHREADS_PAGE);
+    if (heap_unmap(address, old))
+        return fresh;
+    heap_unmap(fresh, pages);
+    return refuse(EFAULT);
+}
+
+void *mremap(void *address, size_t length, size_t wanted, int flags, ...)
+{
+    uint32_t old = pages_of(length), pages = pages_of(wanted);
+    if ((uintptr_t)address % DTHREADS_PAGE != 0 || length == 0 || wanted == 0 || flags & ~MREMAP_MAYMOVE)
+        return refuse(EINVAL);
+    if (wanted > (size_t)DTHREADS_HEAP_PAGES * DTHREADS_PAGE || (pages > old && !(flags & MREMAP_MAYMOVE)))
+        return refuse(ENOMEM);
+    if (pages > old)
+        return move(address, old, pages);
+    if (pages < old && !heap_unmap((char *)address + (size_t)pages * DTHREADS_PAGE, old - pages))
+        return refuse(EFAULT);
+    return address;
+}
+
 int mprotect(void *address, size_t length, int protection)
 {
     (void)length;

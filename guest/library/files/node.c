@@ -35,6 +35,7 @@ void node_release(struct node *node)
     chunks_free(node, 0);
     free(node->chunks);
     pipe_free(node->pipe);
+    free(node->target);
     free(node);
 }
 

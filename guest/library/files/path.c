@@ -57,6 +57,45 @@ static int place_next(struct place *place, const char **path)
     return place->directory->kind == DIRECTORY ? 0 : -ENOTDIR;
 }
 
+static int follow(struct place *place, uint32_t links);
+
+/* Walks from the place's directory to that of the path's last name. So many symbolic links were followed already. */
+static int walk(struct place *place, const char *path, uint32_t links)
+{
+    if (*path == '/')
+        place->directory = files_root;
+    path = skip_slashes(path);
+    int code = place_next(place, &path);
+    while (code == 0 && *path) {
+        code = follow(place, links);
+        struct node *node = code == 0 ? place_node(place) : NULL;
+        if (!node)
+            return code < 0 ? code : -ENOENT;
+        place->directory = node;
+        code = place_next(place, &path);
+    }
+    return code;
+}
+
+static int follow(struct place *place, uint32_t links)
+{
+    bool wants_directory = place->wants_directory;
+    struct node *node = place_node(place);
+    while (node && node->kind == LINK) {
+        int code = ++links > SYMLOOP_MAX ? -ELOOP : walk(place, node->target, links);
+        if (code < 0)
+            return code;
+        node = place_node(place);
+    }
+    place->wants_directory |= wants_directory;
+    return 0;
+}
+
+int place_follow(struct place *place)
+{
+    return follow(place, 0);
+}
+
 int path_place(int base, const char *path, struct place *place)
 {
     int code = 0;
@@ -67,26 +106,31 @@ int path_place(int base, const char *path, struct place *place)
     *place = (struct place){.directory = files_root};
     if (*path != '/')
         code = base_node(base, &place->directory);
-    path = skip_slashes(path);
-    if (code == 0)
-        code = place_next(place, &path);
-    while (code == 0 && *path) {
-        place->directory = place_node(place);
-        if (!place->directory)
-            return -ENOENT;
-        code = place_next(place, &path);
-    }
-    return code;
+    return code < 0 ? code : walk(place, path, 0);
+}
+
+static int node_at(const struct place *place, struct node **node)
+{
+    *node = place_node(place);
+    if (!*node)
+        return -ENOENT;
+    return place->wants_directory && (*node)->kind != DIRECTORY ? -ENOTDIR : 0;
 }
 
 int path_node(int base, const char *path, struct node **node)
 {
     struct place place;
     int code = path_place(base, path, &place);
-    if (code < 0)
-        return code;
-    *node = place_node(&place);
-    if (!*node)
-        return -ENOENT;
-    return place.wants_directory && (*node)->kind != DIRECTORY ? -ENOTDIR : 0;
+    if (code == 0)
+        code = place_follow(&place);
+    return code < 0 ? code : node_at(&place, node);
+}
+
+int path_name(int base, const char *path, struct node **node)
+{
+    struct place place;
+    int code = path_place(base, path, &place);
+    if (code == 0 && place.wants_directory)
+        code = place_follow(&place);
+    return code < 0 ? code : node_at(&place, node);
 }

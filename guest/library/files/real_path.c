@@ -28,7 +28,7 @@ static void go_up(char *done)
         *slash = 0;
 }
 
-/* Puts a link's target before what is left. */
+/* Puts a link's target before what is left, which is empty or begins with a slash. */
 static bool follow(struct walk *walk)
 {
     char target[PATH_MAX];
@@ -38,7 +38,7 @@ static bool follow(struct walk *walk)
         return false;
     }
     target[length] = 0;
-    strcat(strcat(target, "/"), walk->rest);
+    strcat(target, walk->rest);
     strcpy(walk->rest, target);
     if (*target == '/')
         walk->done[0] = 0;

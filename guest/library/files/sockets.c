@@ -1,4 +1,5 @@
 /* There is no network: no socket can be made, and no descriptor is one. */
+#define _GNU_SOURCE
 #include <errno.h>
 #include <sys/socket.h>
 
@@ -54,6 +55,15 @@ int accept(int descriptor, struct sockaddr *restrict address, socklen_t *restric
     (void)address;
     (void)size;
     return refuse(ENOTSOCK);
+}
+
+/* A program may have a function of this name. */
+#pragma weak accept4
+
+int accept4(int descriptor, struct sockaddr *restrict address, socklen_t *restrict size, int flags)
+{
+    (void)flags;
+    return accept(descriptor, address, size);
 }
 
 int shutdown(int descriptor, int how)

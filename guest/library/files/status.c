@@ -23,6 +23,7 @@ static mode_t type_of(const struct node *node)
     case CONSOLE:
         return S_IFIFO;
     case ALIAS:
+    case LINK:
         return S_IFLNK;
     default:
         return S_IFCHR;
@@ -65,10 +66,10 @@ int fstat(int descriptor, struct stat *status)
     return files_finish(file ? status_of(file->node, status) : -EBADF);
 }
 
-/* The node that a name stands for: behind /dev/stdin and its kin, what the descriptor has open. */
+/* The node that a name stands for: behind a symbolic link its target, behind /dev/stdin and its kin what the descriptor has open. */
 static int node_behind(int base, const char *path, bool follows, struct node **node)
 {
-    int code = path_node(base, path, node);
+    int code = follows ? path_node(base, path, node) : path_name(base, path, node);
     if (code < 0 || (*node)->kind != ALIAS || !follows)
         return code;
     struct open_file *file = file_of((*node)->stream);

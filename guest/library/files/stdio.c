@@ -149,6 +149,15 @@ static bool put_text(struct stream *stream, const char *bytes, uint32_t length)
     return is_output(&stream->file) ? emit(stream, bytes, length) : stream_write(stream, bytes, length);
 }
 
+/* The text of a call, which is a cancellation point where it begins and where it ends. */
+static bool put_shared(struct stream *stream, const char *bytes, uint32_t length)
+{
+    cancel_point();
+    bool is_done = put_text(stream, bytes, length);
+    cancel_point();
+    return is_done;
+}
+
 int stream_put(char character, FILE *file)
 {
     struct stream *stream = (struct stream *)file;
@@ -194,20 +203,25 @@ static void piece_end(FILE *stream)
         monitor_leave();
 }
 
-/* Threads share the run's input and what fopen gives; the streams of sprintf and its kin are a thread's own. */
+/* Threads share the run's input and what fopen gives; the streams of sprintf and its kin are a thread's own. A call on a shared stream is a
+ * cancellation point where it begins and, since it ends without success if it is cancelled while it waits, where it ends. */
 
 static void shared_begin(FILE *file)
 {
     struct stream *stream = stream_of(file);
-    if (stream)
+    if (stream) {
+        cancel_point();
         stream_enter(stream);
+    }
 }
 
 static void shared_end(FILE *file)
 {
     struct stream *stream = stream_of(file);
-    if (stream)
+    if (stream) {
         stream_leave(stream);
+        cancel_point();
+    }
 }
 
 int __d_vfprintf(FILE *, const char *, va_list);
@@ -228,6 +242,7 @@ int __wrap_vfprintf(FILE *stream, const char *format, va_list arguments)
     if (!is_output(stream) || piece)
         return print_shared(stream, format, arguments);
     struct piece here;
+    cancel_point();
     piece_begin(&here);
     int count = dthreads_vfprintf(stream, format, arguments);
     piece_end(stream);
@@ -239,9 +254,9 @@ static __attribute__((noinline)) int put_slowly(int character, FILE *file)
     unsigned char byte = (unsigned char)character;
     if (!(file->flags & __SWR))
         return EOF;
-    if (is_output(file))
-        return emit((struct stream *)file, (char *)&byte, 1) ? byte : EOF;
-    return file->put((char)byte, file) < 0 ? EOF : byte;
+    if (!stream_of(file))
+        return file->put((char)byte, file) < 0 ? EOF : byte;
+    return put_shared((struct stream *)file, (char *)&byte, 1) ? byte : EOF;
 }
 
 int fputc(int character, FILE *file)
@@ -277,7 +292,7 @@ static size_t put_bytes(const char *bytes, size_t length, FILE *file)
         return 0;
     }
     if (stream)
-        return put_text(stream, bytes, (uint32_t)length) ? length : 0;
+        return put_shared(stream, bytes, (uint32_t)length) ? length : 0;
     for (size_t i = 0; i < length; i++)
         if (fputc(bytes[i], file) == EOF)
             return i;
@@ -293,6 +308,7 @@ int fputs(const char *text, FILE *stream)
 int puts(const char *text)
 {
     struct piece here;
+    cancel_point();
     piece_begin(&here);
     for (; *text; text++)
         stream_put(*text, stdout);
@@ -369,11 +385,7 @@ int fileno(FILE *file)
 
 static ssize_t read_file(struct stream *stream, void *bytes, uint32_t length)
 {
-    bool was_disabled = own.cancel_disabled;
-    own.cancel_disabled = true;
-    ssize_t count = files_read ? files_read(stream->descriptor, bytes, length) : -1;
-    own.cancel_disabled = was_disabled;
-    return count;
+    return files_read ? files_read(stream->descriptor, bytes, length) : -1;
 }
 
 /* Into the stream's buffer, which is the library's. */
@@ -411,7 +423,7 @@ static uint32_t fetch(struct stream *stream, void *bytes, uint32_t length)
     if (stream == &input_stream)
         output_flush();
     ssize_t count = read_some(stream, bytes, length);
-    if (count <= 0)
+    if (count <= 0 && !cancel_is_due())
         stream->file.flags |= count < 0 ? __SERR : __SEOF;
     return count > 0 ? (uint32_t)count : 0;
 }
@@ -451,7 +463,7 @@ static __attribute__((noinline)) int get_slowly(FILE *stream)
     } else {
         character = stream->get(stream);
     }
-    if (character < 0)
+    if (character < 0 && !cancel_is_due())
         stream->flags |= character == _FDEV_EOF ? __SEOF : __SERR;
     shared_end(stream);
     return character < 0 ? EOF : character;

@@ -15,8 +15,6 @@ static struct stream *all;
 
 static bool write_whole(struct stream *stream, const char *bytes, uint32_t length)
 {
-    bool was_disabled = own.cancel_disabled;
-    own.cancel_disabled = true;
     while (length > 0) {
         ssize_t count = write(stream->descriptor, bytes, length);
         if (count < 0)
@@ -24,8 +22,7 @@ static bool write_whole(struct stream *stream, const char *bytes, uint32_t lengt
         bytes += count;
         length -= (uint32_t)count;
     }
-    own.cancel_disabled = was_disabled;
-    if (length > 0)
+    if (length > 0 && !cancel_is_due())
         stream->file.flags |= __SERR;
     return length == 0;
 }

@@ -203,6 +203,14 @@ uint32_t heap_given(void)
     return given;
 }
 
+uint32_t heap_left(void)
+{
+    uint32_t left = DTHREADS_HEAP_PAGES - given;
+    for (const struct run *run = runs; run; run = run->next)
+        left += run->pages;
+    return left;
+}
+
 /* Pages of mmap, which may be given back in any parts. */
 
 void *heap_map(uint32_t pages)

@@ -93,7 +93,6 @@ long get_avphys_pages(void)
 
 /* A program may have functions of these names. */
 #pragma weak sysinfo
-#pragma weak syscall
 #pragma weak secure_getenv
 
 int sysinfo(struct sysinfo *information)
@@ -106,13 +105,6 @@ int sysinfo(struct sysinfo *information)
         .mem_unit = 1,
     };
     return 0;
-}
-
-/* No call has a number. */
-long syscall(long number, ...)
-{
-    (void)number;
-    return refuse(ENOSYS);
 }
 
 int getloadavg(double *loads, int count)

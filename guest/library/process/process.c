@@ -87,6 +87,8 @@ void _Exit(int status)
 
 void exit(int status)
 {
+    /* (nobody is cancelled any more) */
+    own.ending = true;
     if (__call_exitprocs)
         __call_exitprocs(status, NULL);
     for (void (*const *each)(void) = __fini_array_end; each > __fini_array_start;)

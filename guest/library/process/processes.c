@@ -49,6 +49,65 @@ int posix_spawn(pid_t *process, const char *path, const posix_spawn_file_actions
     return ENOSYS;
 }
 
+/* Actions and attributes of a process that isn't made: none is kept. */
+int posix_spawn_file_actions_init(posix_spawn_file_actions_t *actions)
+{
+    *actions = NULL;
+    return 0;
+}
+
+int posix_spawn_file_actions_destroy(posix_spawn_file_actions_t *actions)
+{
+    return 0;
+}
+
+int posix_spawn_file_actions_addopen(posix_spawn_file_actions_t *restrict actions, int descriptor, const char *restrict path, int flags,
+                                     mode_t mode)
+{
+    return 0;
+}
+
+int posix_spawn_file_actions_adddup2(posix_spawn_file_actions_t *actions, int descriptor, int other)
+{
+    return 0;
+}
+
+int posix_spawn_file_actions_addclose(posix_spawn_file_actions_t *actions, int descriptor)
+{
+    return 0;
+}
+
+int posix_spawnattr_init(posix_spawnattr_t *attributes)
+{
+    *attributes = NULL;
+    return 0;
+}
+
+int posix_spawnattr_destroy(posix_spawnattr_t *attributes)
+{
+    return 0;
+}
+
+int posix_spawnattr_setflags(posix_spawnattr_t *attributes, short flags)
+{
+    return 0;
+}
+
+int posix_spawnattr_setpgroup(posix_spawnattr_t *attributes, pid_t group)
+{
+    return 0;
+}
+
+int posix_spawnattr_setsigdefault(posix_spawnattr_t *restrict attributes, const sigset_t *restrict set)
+{
+    return 0;
+}
+
+int posix_spawnattr_setsigmask(posix_spawnattr_t *restrict attributes, const sigset_t *restrict set)
+{
+    return 0;
+}
+
 WARN(posix_spawnp);
 int posix_spawnp(pid_t *process, const char *file, const posix_spawn_file_actions_t *actions, const posix_spawnattr_t *attributes,
                  char *const arguments[], char *const environment[])

@@ -185,17 +185,28 @@ _sig_func_ptr signal(int signal, _sig_func_ptr handler)
     return sigaction(signal, &action, &old) == 0 ? old.sa_handler : SIG_ERR;
 }
 
-int pthread_kill(pthread_t name, int signal)
+static int send_to_thread(pthread_t name, int signal, const siginfo_t *info)
 {
-    siginfo_t info = {.si_signo = signal, .si_code = SI_TKILL, .si_pid = getpid()};
     if (signal != 0 && !is_signal(signal))
         return EINVAL;
     monitor_enter();
     struct dthreads_thread *thread = thread_of(name);
     if (thread && thread->life == LIVING && signal != 0)
-        signal_send(thread, signal, &info);
+        signal_send(thread, signal, info);
     monitor_finish();
     return thread ? 0 : ESRCH;
+}
+
+int pthread_kill(pthread_t name, int signal)
+{
+    siginfo_t info = {.si_signo = signal, .si_code = SI_TKILL, .si_pid = getpid()};
+    return send_to_thread(name, signal, &info);
+}
+
+int pthread_sigqueue(pthread_t name, int signal, const union sigval value)
+{
+    siginfo_t info = {.si_signo = signal, .si_code = SI_QUEUE, .si_pid = getpid(), .si_value = value};
+    return send_to_thread(name, signal, &info);
 }
 
 int raise(int signal)

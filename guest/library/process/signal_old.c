@@ -39,6 +39,30 @@ int sigpause(int signal)
     return sigsuspend(&mask);
 }
 
+/* Masks of an int have the signals 1 to 31, each by the bit of its number. */
+
+static int mask_after(int how, int mask)
+{
+    sigset_t set = (uint32_t)mask, old;
+    sigprocmask(how, &set, &old);
+    return (int)(uint32_t)old;
+}
+
+int sigblock(int mask)
+{
+    return mask_after(SIG_BLOCK, mask);
+}
+
+int sigsetmask(int mask)
+{
+    return mask_after(SIG_SETMASK, mask);
+}
+
+int siggetmask(void)
+{
+    return mask_after(SIG_BLOCK, 0);
+}
+
 int siginterrupt(int signal, int interrupts)
 {
     struct sigaction action;

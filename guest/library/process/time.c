@@ -1,4 +1,5 @@
-/* Functions on the clock. */
+/* Functions on the clock. Each clock is the one of the run, those of the day with the day at its start. */
+#define _GNU_SOURCE
 #include <sys/time.h>
 #include <sys/times.h>
 #include <unistd.h>
@@ -6,8 +7,7 @@
 
 static bool is_clock(clockid_t clock)
 {
-    return clock == CLOCK_REALTIME || clock == CLOCK_MONOTONIC || clock == CLOCK_PROCESS_CPUTIME_ID
-        || clock == CLOCK_THREAD_CPUTIME_ID;
+    return clock <= CLOCK_BOOTTIME;
 }
 
 static struct timespec timespec_of(uint64_t nanoseconds)
@@ -22,7 +22,7 @@ int clock_gettime(clockid_t clock, struct timespec *time)
         return -1;
     }
     *time = timespec_of(read_clock());
-    if (clock == CLOCK_REALTIME)
+    if (clock == CLOCK_REALTIME || clock == CLOCK_REALTIME_COARSE)
         time->tv_sec += dthreads_epoch;
     return 0;
 }

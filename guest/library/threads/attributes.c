@@ -61,7 +61,7 @@ int pthread_attr_getstacksize(const pthread_attr_t *attributes, size_t *size)
 
 int pthread_attr_setstack(pthread_attr_t *attributes, void *address, size_t size)
 {
-    if (size < PTHREAD_STACK_MIN || (uintptr_t)address % 16 != 0)
+    if (size < PTHREAD_STACK_MIN)
         return EINVAL;
     attributes->stack_address = address;
     attributes->stack_size = size;
@@ -73,6 +73,32 @@ int pthread_attr_getstack(const pthread_attr_t *attributes, void **address, size
     *address = attributes->stack_address;
     *size = attributes->stack_size;
     return 0;
+}
+
+/* The same in two parts, the address of a stack that grows downwards being its upper end. */
+
+int pthread_attr_setstackaddr(pthread_attr_t *attributes, void *address)
+{
+    attributes->stack_address = (char *)address - attributes->stack_size;
+    return 0;
+}
+
+int pthread_attr_getstackaddr(const pthread_attr_t *attributes, void **address)
+{
+    *address = (char *)attributes->stack_address + attributes->stack_size;
+    return 0;
+}
+
+int pthread_attr_setaffinity_np(pthread_attr_t *attributes, size_t size, const cpu_set_t *set)
+{
+    (void)attributes;
+    return sched_setaffinity(0, size, set) == 0 ? 0 : errno;
+}
+
+int pthread_attr_getaffinity_np(const pthread_attr_t *attributes, size_t size, cpu_set_t *set)
+{
+    (void)attributes;
+    return sched_getaffinity(0, size, set) == 0 ? 0 : errno;
 }
 
 int pthread_attr_setguardsize(pthread_attr_t *attributes, size_t size)

@@ -3,13 +3,24 @@
 #include "kept.h"
 #include "monitor.h"
 
-/* Set in every second round; `crowd` counts conditions otherwise. */
-#define ODD UINT32_C(0x80000000)
+/* `crowd` is the number of a condition and, above it, the number of rounds. */
+#define NEXT_ROUND ((unsigned)CROWD_CONDITIONS)
 
 /* The object of hints is another one in the next round, which a thread may begin before the last has left this one. */
 static const char *round_of(const pthread_barrier_t *barrier)
 {
-    return (const char *)barrier + (barrier->crowd & ODD ? 1 : 0);
+    return (const char *)barrier + (barrier->crowd & NEXT_ROUND ? 1 : 0);
+}
+
+/* Waits for the end of this round. A thread whose handlers ran has to look whether it has ended meanwhile; another one finds the barrier
+ * perhaps destroyed. */
+static void wait_for_others(pthread_barrier_t *barrier)
+{
+    unsigned round = barrier->crowd;
+    enum wake wake;
+    do
+        wake = monitor_sleep_in_crowd(&barrier->waiters, round);
+    while (wake == INTERRUPTED && barrier->crowd == round);
 }
 
 int pthread_barrier_init(pthread_barrier_t *barrier, const pthread_barrierattr_t *attributes, unsigned count)
@@ -18,7 +29,7 @@ int pthread_barrier_init(pthread_barrier_t *barrier, const pthread_barrierattr_t
     if (count == 0)
         return EINVAL;
     monitor_enter();
-    *barrier = (pthread_barrier_t){.count = count, .crowd = monitor.crowds++};
+    *barrier = (pthread_barrier_t){.count = count, .crowd = monitor.crowds++ % NEXT_ROUND};
     monitor_finish();
     return 0;
 }
@@ -38,10 +49,10 @@ int pthread_barrier_wait(pthread_barrier_t *barrier)
     wakes_others = is_last && barrier->count > 1;
     if (is_last) {
         barrier->arrived = 0;
-        barrier->crowd ^= ODD;
+        barrier->crowd += NEXT_ROUND;
         monitor_wake_all(&barrier->waiters);
     } else {
-        monitor_sleep_in_crowd(&barrier->waiters, barrier->crowd);
+        wait_for_others(barrier);
     }
     dthreads_hint_acquire(round);
     monitor_finish();

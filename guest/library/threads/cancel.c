@@ -15,6 +15,8 @@ bool cancel_is_due(void)
 
 void cancel_point(void)
 {
+    if (own.depth > 0)
+        return;
     signal_point();
     if (cancel_is_due())
         pthread_exit(PTHREAD_CANCELED);

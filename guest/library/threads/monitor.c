@@ -367,15 +367,43 @@ enum wake monitor_sleep_lightly(struct dthreads_queue *queue, uint64_t deadline,
     return sleep_in(queue, deadline, may_be_cancelled);
 }
 
-void monitor_sleep_in_crowd(struct dthreads_queue *queue, uint32_t crowd)
+/* Runs the handlers of the signal that ended a sleep. */
+static enum wake handled(enum wake wake)
+{
+    if (wake == INTERRUPTED) {
+        monitor_leave();
+        signals_deliver();
+        monitor_enter();
+    }
+    return wake;
+}
+
+enum wake monitor_sleep_on(struct dthreads_queue *queue, uint64_t deadline)
+{
+    /* Within a call of the library handlers would run in the monitor. */
+    if (own.depth > 1)
+        return monitor_sleep(queue, deadline, false);
+    enum wake wake = monitor_sleep_lightly(queue, deadline, own.cancels_at_once);
+    if (wake == CANCELLED) {
+        monitor_leave();
+        cancel_here(wake);
+    }
+    return handled(wake);
+}
+
+enum wake monitor_sleep_in_crowd(struct dthreads_queue *queue, uint32_t crowd)
 {
     struct dthreads_thread *thread = self();
+    bool may_be_interrupted = signals_deliver && own.depth == 1;
+    if (may_be_interrupted && thread->pending & ~thread->blocked)
+        return handled(INTERRUPTED);
     append(queue, thread);
     thread->condition = (uint8_t)(OWN_CONDITIONS + crowd % CROWD_CONDITIONS);
     thread->may_be_cancelled = false;
-    thread->may_be_interrupted = false;
+    thread->may_be_interrupted = may_be_interrupted;
     thread->deadline = NEVER;
     sleep_here(thread);
+    return handled(thread->wake);
 }
 
 /* The access between two fences is no data of the library's. Its object isn't known, so it is ordered with all atomic objects. */

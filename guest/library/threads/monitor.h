@@ -188,8 +188,11 @@ void monitor_breathe(void);
 enum wake monitor_sleep(struct dthreads_queue *queue, uint64_t deadline, bool may_be_cancelled);
 /* As the first, but a signal ends the sleep, too. */
 enum wake monitor_sleep_lightly(struct dthreads_queue *queue, uint64_t deadline, bool may_be_cancelled);
-/* As the first, for a queue whose sleepers are all woken at once: `crowd` is its condition's number. */
-void monitor_sleep_in_crowd(struct dthreads_queue *queue, uint32_t crowd);
+/* As the first, for waits that no signal ends: handlers run meanwhile, outside of the monitor and of the queue, and the wait is INTERRUPTED
+ * after them; the caller looks anew. A thread of the asynchronous type may be cancelled, and doesn't come back then. */
+enum wake monitor_sleep_on(struct dthreads_queue *queue, uint64_t deadline);
+/* The same, for a queue whose sleepers are all woken at once, and without cancellation: `crowd` is its condition's number. */
+enum wake monitor_sleep_in_crowd(struct dthreads_queue *queue, uint32_t crowd);
 void monitor_wake(struct dthreads_thread *thread, enum wake wake);
 /* Wakes the first of a queue, or nobody. */
 static inline struct dthreads_thread *monitor_wake_first(struct dthreads_queue *queue)
@@ -247,7 +250,7 @@ bool deadline_of(clockid_t clock, const struct timespec *time, uint64_t *deadlin
 void cancel_here(enum wake wake);
 /* Whether it was asked to, as far as the thread knows: it learns of it by its calls. */
 bool cancel_is_due(void);
-/* A call that takes no turn to find out. */
+/* A call that takes no turn to find out: within another call of the library it is none. */
 void cancel_point(void);
 
 /* Of the functions of signal.h, which are linked by need. Runs the handlers of what came; false if one of them doesn't let the
@@ -283,8 +286,9 @@ __attribute__((weak)) void robust_drop(pthread_mutex_t *mutex);
 void heap_flush(void);
 /* Pages for a stack and the like, or NULL; they are never given back. */
 void *heap_pages(uint32_t pages);
-/* Pages given so far. */
+/* Pages given so far, and those that are free or can still be given, in the monitor. */
 uint32_t heap_given(void);
+uint32_t heap_left(void);
 /* Pages that can be given back, or NULL; false for a range that isn't whole of such pages. */
 void *heap_map(uint32_t pages);
 bool heap_unmap(void *address, uint32_t pages);

@@ -44,7 +44,7 @@ static void mutex_free(pthread_mutex_t *mutex)
 static int mutex_wait(pthread_mutex_t *mutex, uint64_t deadline)
 {
     do
-        if (monitor_sleep(&mutex->waiters, deadline, false) == TIMED_OUT)
+        if (monitor_sleep_on(&mutex->waiters, deadline) == TIMED_OUT)
             return ETIMEDOUT;
     while (mutex_is_kept(mutex));
     if (mutex->robust == NOT_RECOVERABLE)

@@ -134,7 +134,7 @@ static int wait_for_turn(pthread_rwlock_t *lock, bool is_writer, uint64_t deadli
     thread->is_writer = is_writer;
     do {
         thread->handed = false;
-        if (monitor_sleep(&lock->waiters, deadline, false) == TIMED_OUT) {
+        if (monitor_sleep_on(&lock->waiters, deadline) == TIMED_OUT) {
             if (!lock->writer)
                 hand_over(lock);
             return ETIMEDOUT;

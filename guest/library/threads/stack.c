@@ -1,4 +1,7 @@
-/* Stacks, with the thread-local storage at their upper end. They are used again and never given back. */
+/* Stacks, with the thread-local storage at their upper end. They are used again and never given back.
+ *
+ * The machine gives each page of a stack when it is made, so many large stacks exceed the heap where a host gives pages by need. So a stack
+ * of up to 8 MiB that would leave less than half of the heap gets a part of what is left, but no less than an ordinary stack. */
 #include <string.h>
 #include "monitor.h"
 
@@ -10,7 +13,10 @@ struct stack {
 enum {
     /* Threads that live at a time with an ample stack, and its bytes: 16 MiB of the heap at most. */
     AMPLE_STACKS = 32,
-    AMPLE_STACK = 524288
+    AMPLE_STACK = 524288,
+    /* Of what is left of the heap, a large stack gets one part of so many; one of more bytes than the second gets all or nothing. */
+    PARTS = 64,
+    LARGEST_SHRUNK = 8 << 20
 };
 
 extern char __tls_template[];
@@ -62,10 +68,25 @@ static struct stack *new_stack(uint32_t pages)
     return stack;
 }
 
+/* How many pages a new stack may have of those that are asked for. */
+static uint32_t pages_allowed(uint32_t pages)
+{
+    uint32_t left = heap_left(), part = left / PARTS, ordinary = stack_pages(DTHREADS_STACK);
+    if (pages <= ordinary || pages > stack_pages(LARGEST_SHRUNK) || (pages < left && left - pages >= DTHREADS_HEAP_PAGES / 2))
+        return pages;
+    if (part < ordinary)
+        part = ordinary;
+    return part < pages ? part : pages;
+}
+
 static struct stack *stack_take(size_t size)
 {
     uint32_t pages = stack_pages(size);
     struct stack *stack = used_stack(pages);
+    if (stack)
+        return stack;
+    pages = pages_allowed(pages);
+    stack = used_stack(pages);
     return stack ? stack : new_stack(pages);
 }
 
@@ -91,6 +112,8 @@ bool stack_attach(struct dthreads_thread *thread, const pthread_attr_t *attribut
             return false;
         top = (char *)thread->stack;
         thread->stack_base = (char *)(thread->stack + 1) - (size_t)thread->stack->pages * DTHREADS_PAGE;
+        if (thread->stack_size > (uint32_t)(top - thread->stack_base))
+            thread->stack_size = (uint32_t)(top - thread->stack_base);
     }
     dthreads_hint_fresh(thread->stack_base, (uint32_t)(top - thread->stack_base));
     thread->block = block_below(top);

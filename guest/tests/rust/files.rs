@@ -2,6 +2,7 @@
 
 use std::fs::*;
 use std::io::{BufRead, BufReader, BufWriter, Read, Result, Seek, SeekFrom, Write};
+use std::os::unix::fs::symlink;
 
 fn main() -> Result<()> {
     let d = std::env::temp_dir().join("dthreads-rust-test");
@@ -63,6 +64,11 @@ fn main() -> Result<()> {
     set_permissions("buffered", pm)?;
     println!("{}", metadata("buffered")?.permissions().readonly());
     println!("{:?}", hard_link("buffered", "hard").is_ok());
+    symlink("a", "link")?;
+    println!("{:?} {}", read_link("link")?, symlink_metadata("link")?.file_type().is_symlink());
+    println!("{} {}", metadata("link")?.is_dir(), canonicalize("link/../hard")?.ends_with("hard"));
+    symlink("nowhere", "link/lost")?;
+    println!("{:?}", read("a/lost").unwrap_err().kind());
     std::env::set_current_dir("/")?;
     remove_file(d.join("by-thread"))?;
     remove_dir_all(&d)?;

@@ -11,7 +11,7 @@ import re
 from . import exceptions, sources
 from dt_mutants.functions import functions_of
 
-KINDS = ["Call", "CallKind", "Stop", "TurnStop"]
+KINDS = ["Call", "CallKind", "MemoryUse", "Touched", "Stop", "TurnStop"]
 CASE = re.compile(rf"\b(?:{'|'.join(KINDS)})::[A-Z]")
 ONE_CASE = re.compile(rf"\b(?:let|matches!\() ?[^=]*{CASE.pattern}")
 OTHERS = re.compile(r"_|[a-z]\w*")

@@ -37,6 +37,7 @@ PARTS = [
     Part("samples", ["test", "c-samples"], 1, []),
     Part("builds of others", ["test", "builds"], 1, ["guest/tests/builds"]),
     Part("page", ["test", "c-page"], 1, ["docs/C.md", "docs/CLEAN-RUNS.md", "docs/EXPLORING.md", "docs/OPENMP.md"]),
+    Part("course", ["test", "course"], 2, ["docs/course"]),
     Part("manual pages", ["test", "manual"], 1, ["guest/tests/manual"]),
 ]
 # What is made if guest/build-rust was done.

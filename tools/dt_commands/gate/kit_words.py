@@ -168,7 +168,17 @@ def full(room):
     return with_workers(room, "full"), {(5, "\0" * 60000 * 279, said)}
 
 
-CASES = [preprocessed, main_in_archive, warns_once, visible, models, quantum, before, prepared, explored, clock, files, full]
+def sanitizers(room):
+    """A sanitizer whose library isn't here is told in a line, with what to use; one that needs none is compiled."""
+    write_file(f"{room}/over.c", "int main(int count, char **words) { int many = 2147483646 + count; return (many + count) / 2 == 0; }\n")
+    ran = [call([it, "-c", "over.c"], room) for it in ("-fsanitize=thread", "-fsanitize=address,undefined")]
+    told = [(it.returncode, it.stderr.count("\n"), it.stderr.startswith(f"dthreads-cc: {word}: ")) for it, word in
+            zip(ran, ("-fsanitize=thread", "-fsanitize=address,undefined"))]
+    trapped = status(room, "-O2", "-fsanitize=undefined", "-fsanitize-undefined-trap-on-error", "over.c")
+    return (told, "--races" in ran[0].stderr, trapped), ([(1, 1, True)] * 2, True, 120)
+
+
+CASES = [preprocessed, main_in_archive, warns_once, visible, models, quantum, before, prepared, explored, clock, files, full, sanitizers]
 
 
 def test(_):

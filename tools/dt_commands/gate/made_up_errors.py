@@ -53,7 +53,7 @@ BEYOND_ANY_HOST = {
     ("crates/sharing_report/src/sharing_recorder.rt", "return Err(TurnFault::OutOfMemory);"),
     ("crates/races/src/steps.rt", "return Err(AllocError);"),
     ("crates/races/src/depths.rt", "None => Err(AllocError),"),
-    ("crates/races/src/page.rt", "return Err(AllocError);"),
+    ("crates/races/src/page_history.rt", "return Err(AllocError);"),
     ("crates/trace_events/src/sum.rt", "None => Err(TurnFault::OutOfMemory),"),
 }
 

@@ -50,7 +50,7 @@ RACE = re.compile(rf"race address=\S+ bytes=\d {ACCESS} {ACCESS}")
 
 
 def arguments(parser):
-    parser.add_argument("names", nargs="*", metavar="NAME", help="programs, `project`, `explored`, `page`, or parts of std's tests (default: all)")
+    parser.add_argument("names", nargs="*", metavar="NAME", help="programs, `project`, `explored`, `stealing`, `page`, or parts of std's tests (default: all)")
     parser.add_argument("--host", action="store_true", help="compare the programs with the host's builds, too")
     for name, help_text in PARTS.items():
         parser.add_argument(f"--{name}", action="store_true", help=help_text)
@@ -224,6 +224,25 @@ def test_project(tally, room):
         tally.fail(f"project: files were changed: {sorted(it for it in {**before, **after} if before.get(it) != after.get(it))}")
 
 
+def test_stealing(tally, room):
+    """Builds and runs the sample whose sum rayon's threads share: it prints stealing.out, in one trace, without a race."""
+    if rust_crates.missing(["rayon"]):
+        print("stealing: left out, librust-rayon-dev is missing: apt-get install librust-rayon-dev")
+        return
+    where = f"{room}/stealing"
+    shutil.copytree(f"{SAMPLES}/stealing", where)
+    ran = called(where, "build", "--offline", "--release")
+    if ran.returncode:
+        tally.fail(f"stealing: doesn't build: {ran.stderr[-600:]}")
+        return
+    elf = f"{where}/target/riscv32im-dthreads/release/stealing"
+    guest = guest_runs.Guest([f"{guest_runs.KIT}/dthreads-exec", elf], environment=environment())
+    guest_runs.agree(tally, "stealing", guest, room, contents(f"{SAMPLES}/stealing.out"), 0)
+    found = races_of(elf, [], None, room)
+    if found:
+        tally.fail(f"stealing: races {found[:3]}")
+
+
 def test_page(tally, room):
     """Runs the commands of the page."""
     if not c_page.is_as_told("docs/RUST.md"):
@@ -234,7 +253,7 @@ def tasks(options):
     """Returns what is tried of the programs: a name and a call each."""
     cases = [Case(where, *row) for where in (FOLDER, SAMPLES) if os.path.exists(f"{where}/list") for row in rows_of(f"{where}/list")]
     found = [(it.name, lambda tally, room, it=it: test_program(tally, room, it, options.host)) for it in cases]
-    found += [("project", test_project), ("explored", test_explored), ("page", test_page)]
+    found += [("project", test_project), ("explored", test_explored), ("stealing", test_stealing), ("page", test_page)]
     return [it for it in found if not options.names or it[0] in options.names]
 
 

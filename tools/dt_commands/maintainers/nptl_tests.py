@@ -130,12 +130,7 @@ def is_wanted(text, status):
 def run(elf, workers, room):
     """Runs a test. Returns its status and text, or None if it didn't end."""
     command = [f"{guest_runs.KIT}/dthreads-exec", elf, "--workers", str(workers), "--bound", BOUND, "--digest", f"{room}/digest", "--", "--direct"]
-    try:
-        ran = subprocess.run(command, stdin=subprocess.DEVNULL, stdout=subprocess.PIPE, stderr=subprocess.STDOUT, timeout=SECONDS, check=False,
-                             env={**os.environ, "DTHREADS": guest_runs.program()})
-    except subprocess.TimeoutExpired:
-        return None
-    return ran.returncode, ran.stdout.decode(errors="replace")
+    return guest_runs.ended_within(SECONDS, command)
 
 
 def tried(test, folder, archive):

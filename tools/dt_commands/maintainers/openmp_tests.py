@@ -78,15 +78,13 @@ def faults(program, elf, room):
     for workers in WORKERS:
         words = [part for it in program.directives.variables() for part in ("--env", it)]
         command = [f"{guest_runs.KIT}/dthreads-exec", elf, *words, "--workers", str(workers), "--bound", BOUND, "--digest", f"{room}/digest"]
-        try:
-            ran = subprocess.run(command, stdin=subprocess.DEVNULL, stdout=subprocess.PIPE, stderr=subprocess.STDOUT, timeout=SECONDS,
-                                 env={**os.environ, "DTHREADS": guest_runs.program()}, check=False)
-        except subprocess.TimeoutExpired:
+        ran = guest_runs.ended_within(SECONDS, command)
+        if ran is None:
             yield f"no end within {SECONDS} seconds"
             return
-        text = ran.stdout.decode(errors="replace")
-        if (ran.returncode != 0) != program.directives.is_to_fail():
-            yield f"status {ran.returncode} with {workers} workers: {text[-200:]!r}"
+        status, text = ran
+        if (status != 0) != program.directives.is_to_fail():
+            yield f"status {status} with {workers} workers: {text[-200:]!r}"
             return
         if not re.search(program.directives.output(), text):
             yield f"another output: {text[:200]!r}"

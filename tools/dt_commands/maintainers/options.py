@@ -11,7 +11,7 @@ from dt_commands.texts import read_text
 TABLE, COMMANDS = ("crates/command_requests/src/" + it for it in ("parameters.rt", "commands.rt"))
 ROW = re.compile(
     r"const (?P<row>\w+): Parameter = Parameter \{\s*name: \"(?P<name>[^\"]*)\",\s*form: Form::(?P<form>\w+)(?:\(Text::(?P<text>\w+)\))?,"
-    r"\s*need: Need::(?P<need>\w+)(?:\(\"(?P<default>[^\"]*)\"\))?,\s*help:\s*\"(?P<help>[^\"]*)\",\s*\};"
+    r"\s*need: Requirement::(?P<need>\w+)(?:\(\"(?P<default>[^\"]*)\"\))?,\s*help:\s*\"(?P<help>[^\"]*)\",\s*\};"
 )
 LIST = re.compile(r"static (\w+): \[Parameter; (\d+)\] =\s*\[([^\]]*)\];")
 COMMAND = re.compile(r"command\(\s*alloc,\s*\"(\w+)\",\s*\"([^\"]*)\",\s*&(\w+),?\s*\)")

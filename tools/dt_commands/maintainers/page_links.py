@@ -9,7 +9,8 @@ from .texts import read_text
 
 def pages():
     """Returns the pages whose links are looked at, by their paths from the top."""
-    return ["README.md", "CONTRIBUTING.md", "samples/README.md"] + sorted(os.path.relpath(it, TOP) for it in glob.glob(f"{TOP}/docs/*.md"))
+    below = glob.glob(f"{TOP}/docs/**/*.md", recursive=True)
+    return ["README.md", "CONTRIBUTING.md", "samples/README.md"] + sorted(os.path.relpath(it, TOP) for it in below)
 
 
 def read(page):

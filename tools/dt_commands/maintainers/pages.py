@@ -4,8 +4,8 @@ Generated are docs/CONFORMANCE.md as a whole, from tools/changes and tools/pages
 each crate root; the limits in docs/GUEST.md, from the definitions; the list of the definitions that the headline
 needs in docs/LAW.md, from the contracts of run, run_into and run_recorded; how many public functions have no `ensures` in
 docs/PROVED.md; the transcripts in docs/DEBUGGING.md, from the
-sessions of guest/tests/gdb; the tables of options in docs/CLI.md and the completions, from the table in the sources; and man/dthreads.1,
-from docs/CLI.md and tools/pages. Besides, each line of a block marked `antt` must be in the sources, so that no page quotes what isn't there, each link must lead to a file
+sessions of guest/tests/gdb; the tables of options in docs/CLI.md and the completions, from the table in the sources; man/dthreads.1,
+from docs/CLI.md and tools/pages; and the manual pages and completions of the kit's commands, from what each prints for --help. Besides, each line of a block marked `antt` must be in the sources, so that no page quotes what isn't there, each link must lead to a file
 and a heading, the command lines in docs/CLI.md must have the options of their commands, the picture of the layers in docs/ARCHITECTURE.md must show what crates.txt has, what README.md says of speed must be in
 docs/BENCH.md, docs/PROVED.md must name the toolchain of the release, and the pages that are read as a whole have a size that they
 don't exceed.
@@ -14,7 +14,7 @@ import os
 import re
 
 from . import completions, conformance_page, crate_pages, debugging_page, definitions, layer_picture, man_page, options, page_links
-from . import uncontracted
+from . import tool_pages, uncontracted
 from .repository import TOP
 from .sources import below
 from .texts import read_text, write_file
@@ -53,6 +53,7 @@ def pages():
     command_line = command_line_page()
     return {
         **completions.files(),
+        **tool_pages.files(),
         man_page.SOURCE: command_line,
         "docs/CONFORMANCE.md": conformance_page.page(),
         "docs/CRATES.md": crate_pages.page(),

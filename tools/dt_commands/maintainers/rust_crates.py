@@ -19,9 +19,9 @@ PACKAGES = ["arc-swap", "async-channel", "crossbeam", "dashmap", "flume", "futur
             "thread-local", "threadpool", "tokio"]
 
 
-def missing():
+def missing(packages=PACKAGES):
     """Returns the packages that aren't there."""
-    return [f"librust-{it}-dev" for it in PACKAGES if not glob.glob(f"{REGISTRY}/{it.replace('-', '[-_]')}-[0-9]*")]
+    return [f"librust-{it}-dev" for it in packages if not glob.glob(f"{REGISTRY}/{it.replace('-', '[-_]')}-[0-9]*")]
 
 
 def names():

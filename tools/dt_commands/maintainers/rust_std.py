@@ -1,16 +1,18 @@
-"""The tests that Rust's std brings with it, from the package rust-web-src, over crates that stand for those which they use of others."""
+"""The tests that Rust's std and alloc bring with them, from the package rust-web-src, over crates that stand for those which they use of
+others. rust_alloc says where those of alloc are."""
+import os
 import re
 import subprocess
 import tempfile
 from collections import namedtuple
 
-from dt_commands import guest_runs, rust_tests
+from dt_commands import guest_runs, rust_alloc, rust_tests
 from dt_commands.progress import Progress
 from dt_commands.texts import contents
 
 FOLDER = "/usr/lib/rustlib/src/rust/library"
-# Some of the tests: their first file below FOLDER, the tests that are left out and why, and further words of rustc.
-Part = namedtuple("Part", "file left_out words", defaults=({}, ()))
+# Some of the tests: their first file, below FOLDER or elsewhere, the tests that are left out and why, further words of rustc, the edition.
+Part = namedtuple("Part", "file left_out words edition", defaults=({}, (), "2024"))
 # (what is unstable in std, the file of `sync` doesn't say)
 TESTS = {
     "sync": Part("std/tests/sync/lib.rs", {"test_rwlock_max_readers": "it reads a lock 2^30 times"}, ["-Zcrate-attr=feature(sync_poison_mod)"]),
@@ -20,6 +22,8 @@ TESTS = {
     "panic": Part("std/tests/panic.rs"),
     "time": Part("std/tests/time.rs", {"instant_monotonic_concurrent": "it reads the clock 40,000,000 times"}),
     "env": Part("std/tests/env.rs", {"test_self_exe_path": "a program has no file of its own"}),
+    "alloc": Part(rust_alloc.BESIDE),
+    "alloc_api": Part(None, rust_alloc.LEFT_OUT, ["--extern=alloc", "--cap-lints=allow"], "2021"),
 }
 # The crates that stand for those of others, with what each takes of them.
 CRATES = {"rand": [], "rand_xorshift": ["--extern=rand"]}
@@ -38,11 +42,21 @@ def run(elf, part, workers, room):
     return ran.returncode, ran.stdout, contents(digest)
 
 
+def words_of(name, part, room):
+    """Returns the words of rustc that build some of the tests, or None if they aren't there."""
+    file = rust_alloc.older(room) if name == "alloc_api" else os.path.join(FOLDER, part.file)
+    own = rust_alloc.words_beside() if name == "alloc" else part.words
+    crates = [f"--extern={it}" for it in CRATES]
+    return file and ["--test", "--edition", part.edition, "-Awarnings", *own, f"-L{room}", *crates, file]
+
+
 def test_part(tally, room, name, part):
     """Builds and runs some of the tests, and says what came of them."""
     elf = f"{room}/{name}.elf"
-    crates = [f"--extern={it}" for it in CRATES]
-    words = ["--test", "--edition", "2024", "-Awarnings", *part.words, f"-L{room}", *crates, f"{FOLDER}/{part.file}"]
+    words = words_of(name, part, room)
+    if not words:
+        print(f"{name}: left out: {rust_alloc.HOW}", flush=True)
+        return
     said = rust_tests.compiled(words, elf, room)
     if said is not None:
         tally.fail(f"{said[-2000:]}{name}: doesn't build")
@@ -69,7 +83,7 @@ def build_crates(room):
 
 
 def test(options):
-    """Runs the tests of std, or those of the named parts."""
+    """Runs the tests of std and alloc, or those of the named parts."""
     chosen = [it for it in TESTS.items() if not options.names or it[0] in options.names]
     tally = guest_runs.Tally()
     tally.tried = len(chosen)

@@ -1,6 +1,7 @@
 """Runs of guest programs: which program runs them, with which workers, and how the runs of one guest are compared."""
 import os
 import re
+import signal
 import subprocess
 import sys
 import tempfile
@@ -56,6 +57,20 @@ def taken(process):
             process.returncode = 0
             return used.ru_utime + used.ru_stime, most
         time.sleep(LOOK)
+
+
+def ended_within(seconds, command):
+    """Runs a command and what it starts, without input. Returns its status and all that it said, or None if it didn't end in time."""
+    how = {"stdin": subprocess.DEVNULL, "stdout": subprocess.PIPE, "stderr": subprocess.STDOUT, "start_new_session": True}
+    with subprocess.Popen(command, env={**os.environ, "DTHREADS": program()}, **how) as process:
+        try:
+            said = process.communicate(timeout=seconds)[0]
+        except BaseException as why:
+            os.killpg(process.pid, signal.SIGKILL)
+            if isinstance(why, subprocess.TimeoutExpired):
+                return None
+            raise
+    return process.returncode, said.decode(errors="replace")
 
 
 def with_share(parser):

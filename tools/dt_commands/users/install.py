@@ -2,7 +2,7 @@
 
 Below PREFIX, bin/ has dthreads, and dthreads-cc, dthreads-c++, dthreads-rustc, dthreads-cargo, dthreads-exec, dthreads-gdb,
 dthreads-lines and dthreads-picture as links to the kit; share/dthreads/ has the kit (guest/), the samples and what draws pictures
-(tools/), share/doc/dthreads the pages, as they speak of what is installed, share/man/man1 the manual page, and the completions are where
+(tools/), share/doc/dthreads the pages, as they speak of what is installed, share/man/man1 the manual pages, and the completions are where
 bash and zsh look for them. All of it works without the checkout, from any folder, and may be moved as a whole. What an earlier call left below share/dthreads and share/doc/dthreads is
 replaced.
 
@@ -16,15 +16,19 @@ import shutil
 import subprocess
 import sys
 
-from dt_commands import built_from, completions, executable, installed_pages, release
+from dt_commands import built_from, completions, executable, installed_pages, release, tool_pages
 from dt_commands.progress import Progress
 from dt_commands.repository import TOP
 from dt_commands.texts import read_text, write_file
 
 # The folders below the prefix.
 BIN, SHARE, DOC, MAN = "bin", "share/dthreads", "share/doc/dthreads", "share/man/man1"
-# Where bash and zsh look for completions, by their files in the checkout.
-COMPLETIONS = {completions.BASH: "share/bash-completion/completions/dthreads", completions.ZSH: "share/zsh/site-functions/_dthreads"}
+# Where bash and zsh look for completions: bash for a file of the command's name.
+OF_BASH, OF_ZSH = "share/bash-completion/completions", "share/zsh/site-functions"
+COMPLETIONS = {
+    completions.BASH: f"{OF_BASH}/dthreads", completions.ZSH: f"{OF_ZSH}/_dthreads",
+    tool_pages.BASH: f"{OF_BASH}/{tool_pages.COMMANDS[0]}", tool_pages.ZSH: f"{OF_ZSH}/_dthreads-tools",
+}
 # What of guest/ isn't the kit: its tests, the lists that a page is made from, and what was built.
 NOT_KIT = ("tests", "reference", "out")
 COMMANDS = ("dthreads-cc", "dthreads-c++", "dthreads-rustc", "dthreads-cargo", "dthreads-exec", "dthreads-gdb", "dthreads-lines",
@@ -112,13 +116,16 @@ def install_pages(prefix):
     for top in (f"{prefix}/{DOC}", f"{prefix}/{SHARE}"):
         for file in glob.glob(f"{top}/**/*.md", recursive=True):
             write_installed(os.path.relpath(file, top), file)
-    shutil.copyfile(f"{TOP}/man/dthreads.1", f"{prefix}/{MAN}/dthreads.1")
+    for file in glob.glob(f"{TOP}/man/*.1"):
+        shutil.copyfile(file, f"{prefix}/{MAN}/{os.path.basename(file)}")
 
 
 def install_completions(prefix):
     for file, target in COMPLETIONS.items():
         os.makedirs(os.path.dirname(f"{prefix}/{target}"), exist_ok=True)
         shutil.copyfile(f"{TOP}/{file}", f"{prefix}/{target}")
+    for name in tool_pages.COMMANDS[1:]:
+        link(f"{prefix}/{OF_BASH}/{tool_pages.COMMANDS[0]}", f"{prefix}/{OF_BASH}/{name}")
 
 
 def build_library(prefix):
@@ -129,11 +136,12 @@ def build_library(prefix):
         say(f"the C library is not built: {ran.stderr.strip()}")
 
 
-def run(options):
-    prefix, data = os.path.abspath(os.path.expanduser(options.prefix)), program()
+def is_installed(prefix):
+    """Installs all below a prefix. Returns whether there is a program to install."""
+    data = program()
     if data is None:
         say("there is no program of these sources: `./dthreads --build` builds it")
-        return 1
+        return False
     for it in (BIN, SHARE, DOC, MAN):
         os.makedirs(f"{prefix}/{it}", exist_ok=True)
     put(data, f"{prefix}/{BIN}/dthreads")
@@ -142,5 +150,12 @@ def run(options):
     install_pages(prefix)
     install_completions(prefix)
     build_library(prefix)
-    print(f"installed below {prefix}: {BIN}/dthreads, {', '.join(COMMANDS)}, {SHARE}, {DOC}, {MAN}/dthreads.1, {', '.join(COMPLETIONS.values())}")
+    return True
+
+
+def run(options):
+    prefix = os.path.abspath(os.path.expanduser(options.prefix))
+    if not is_installed(prefix):
+        return 1
+    print(f"installed below {prefix}: {BIN}/dthreads, {', '.join(COMMANDS)}, {SHARE}, {DOC}, {MAN}, {OF_BASH}, {OF_ZSH}")
     return 0

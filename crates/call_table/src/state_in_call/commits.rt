@@ -89,10 +89,24 @@ impl StateInCall {
         ensures objects { self.new.objects ≡ self.old.objects }
         ensures input { self.new.input ≡ self.old.input }
     {
-        if let Call::Write { length, .. } = call {
-            self.output.reserve(length.min(TRANSFER) as usize)?;
+        match call {
+            Call::Write { length, .. } => self.output.reserve(length.min(TRANSFER) as usize),
+            Call::Exit { .. }
+            | Call::ThreadExit { .. }
+            | Call::Create { .. }
+            | Call::Join { .. }
+            | Call::Lock { .. }
+            | Call::Unlock { .. }
+            | Call::Wait { .. }
+            | Call::Signal { .. }
+            | Call::Broadcast { .. }
+            | Call::Barrier { .. }
+            | Call::Read { .. }
+            | Call::Memory { .. }
+            | Call::Sync
+            | Call::Release { .. }
+            | Call::Unknown { .. } => Ok(()),
         }
-        Ok(())
     }
 
     /// Does what `commit_and_call` does for a call that may change the shared memory. A clone of the memory is kept,
@@ -125,8 +139,8 @@ impl StateInCall {
 fn changes_memory(call: Call) -> bool
     ensures { result ≡ changes_memory call }
 {
-    matches!(
-        call,
-        Call::Read { .. } | Call::Memory { .. } | Call::Release { .. }
-    )
+    match call.kind() {
+        Some(kind) => kind.memory_use().is_change(),
+        None => false,
+    }
 }

@@ -5,7 +5,7 @@ ghost use Rattle.claim_table.specs.Logs.{most_seats};
 use crate::failures::guests::{Guest, jobs_of, memory_of};
 use crate::failures::taker::Digester;
 use commit::changed;
-use parallel_phase::{Outcome, Ran, run_in_order, run_phase};
+use parallel_phase::{FinishedJob, Outcome, run_in_order, run_phase};
 use phase_jobs::OpenGate;
 use std::alloc::{AllocError, Global};
 use std::sync::Wait;
@@ -17,7 +17,7 @@ pub fn mixed(digest: u64, number: u64) -> u64 {
 }
 
 /// A digest with a job that was run.
-pub fn with_ran(digest: u64, ran: &Ran) -> u64 {
+pub fn with_ran(digest: u64, ran: &FinishedJob) -> u64 {
     let end = ran.end();
     let digest = mixed(digest, u64::from(ran.number()));
     let digest = mixed(digest, u64::from(end.hart.pc()));

@@ -5,7 +5,7 @@ ghost use Rattle.parallel_phase.specs.declared.taker_stage.TakerStage.TheVariant
 
 use crate::failures::digests::with_ran;
 use paged_memory::Snapshot;
-use parallel_phase::{Job, Ran, TakerStage, TurnTaker};
+use parallel_phase::{FinishedJob, Job, TakerStage, TurnTaker};
 use std::alloc::{AllocError, Global};
 use std::marker::Model;
 
@@ -62,7 +62,7 @@ impl TurnTaker for Digester {
         Ok(true)
     }
 
-    fn take(&mut self, job: u32, ran: Ran) -> Result<bool, AllocError> {
+    fn take(&mut self, job: u32, ran: FinishedJob) -> Result<bool, AllocError> {
         self.digest = with_ran(self.digest, &ran);
         self.stage = TakerStage::Going(job + 1);
         Ok(true)

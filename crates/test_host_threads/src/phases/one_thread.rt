@@ -12,7 +12,7 @@ use claim_table::DrawSeat;
 use data_guest_programs::{BAD_WRITE, SEVEN};
 use hart::Stop;
 use paged_memory::Snapshot;
-use parallel_phase::{Job, Phase, WorkDone, run_phase};
+use parallel_phase::{Job, ParallelPhase, WorkDone, run_phase};
 use phase_jobs::OpenGate;
 use std::alloc::{AllocError, Global};
 use std::thread::Threads;
@@ -35,7 +35,7 @@ fn a_job_above_an_exit_is_skipped<R: Threads + Sync>(rt: &R, alloc: Global) -> R
 
 /// The works of all seats, one after another in this thread.
 fn work_in_turn(
-    phase: &Phase,
+    phase: &ParallelPhase,
     seats: Vec<DrawSeat>,
     alloc: Global,
 ) -> Result<Vec<WorkDone>, AllocError>
@@ -76,7 +76,7 @@ fn the_first_seat_takes_all_jobs<R: Threads + Sync>(rt: &R, alloc: Global) -> Re
 fn is_all_of_first(alloc: Global, jobs: &[Job], base: &Snapshot) -> Result<bool, AllocError>
     requires { length jobs.now ≤ most_jobs }
 {
-    let (phase, seats) = Phase::open(alloc, jobs, 4, base)?;
+    let (phase, seats) = ParallelPhase::open(alloc, jobs, 4, base)?;
     let works = work_in_turn(&phase, seats, alloc)?;
     let are_first = are_all_first(&works, jobs.len());
     let outcomes = phase.collect(works)?;

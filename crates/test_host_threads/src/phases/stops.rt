@@ -13,7 +13,7 @@ use claim_table::DrawSeat;
 use data_guest_programs::file_of;
 use hart::{Cause, Hart, Stop, Trap};
 use paged_memory::Snapshot;
-use parallel_phase::{Job, Phase, WorkDone, run_phase};
+use parallel_phase::{Job, ParallelPhase, WorkDone, run_phase};
 use phase_jobs::OpenGate;
 use std::alloc::{AllocError, Global};
 use std::thread;
@@ -260,7 +260,7 @@ fn is_stop<R: Threads + Sync>(
 
 /// Whether the job of a row ends so in a phase of its own.
 fn is_alone(alloc: Global, base: &Snapshot, row: &Row) -> Result<bool, AllocError> {
-    let (phase, mut seats) = Phase::open(alloc, &[job_of(row)], 1, base)?;
+    let (phase, mut seats) = ParallelPhase::open(alloc, &[job_of(row)], 1, base)?;
     match phase.one(&mut seats[0], &OpenGate)? {
         Some(drawn) => Ok(are(&[drawn.outcome], &[row.fate])),
         None => Ok(false),
@@ -285,7 +285,7 @@ fn is_last<R: Threads + Sync>(
 /// The works of all seats, each in a thread of its own where one can be started.
 fn work_side_by_side<R: Threads + Sync>(
     rt: &R,
-    phase: &Phase,
+    phase: &ParallelPhase,
     seats: Vec<DrawSeat>,
 ) -> Result<Vec<WorkDone>, AllocError>
     requires { All (λ seat. (seat.row ≡ phase.now.row) × (seat.log ≡ new_log 1)) seats.items }
@@ -327,7 +327,7 @@ fn works_once<R: Threads + Sync>(
         job_of(&QUANTUM),
         job_of(&BOUNDED),
     ];
-    let (phase, seats) = Phase::open(alloc, &jobs, 3, base)?;
+    let (phase, seats) = ParallelPhase::open(alloc, &jobs, 3, base)?;
     let works = work_side_by_side(rt, &phase, seats)?;
     let outcomes = phase.collect(works)?;
     let wanted = [CALL.fate, QUANTUM.fate, QUANTUM.fate, BOUNDED.fate];

@@ -7,7 +7,7 @@ use crate::phases::gates::Flag;
 use crate::phases::patience::Patience;
 use anyhow::Result;
 use paged_memory::Snapshot;
-use parallel_phase::{Job, Ran, TakerStage, TurnTaker};
+use parallel_phase::{FinishedJob, Job, TakerStage, TurnTaker};
 use std::alloc::{AllocError, Global};
 use std::rt::Clock;
 
@@ -68,7 +68,7 @@ impl<'a, R: Clock> TurnTaker for Taking<'a, R> {
         Ok(true)
     }
 
-    fn take(&mut self, job: u32, _ran: Ran) -> Result<bool, AllocError> {
+    fn take(&mut self, job: u32, _ran: FinishedJob) -> Result<bool, AllocError> {
         let goes_on = job + 1 < self.most;
         self.stage = if goes_on {
             TakerStage::Going(job + 1)

@@ -1,5 +1,5 @@
 //! Events of small histories, as rows and random histories have them: without memory of their own.
-use races::{Access, Event};
+use races::{Access, ObservedEvent};
 use std::alloc::{AllocError, Global};
 
 /// An event of a history. Its fields are those of the recorder's event of the same name, in their order.
@@ -34,26 +34,26 @@ pub enum Told {
 }
 
 /// The event that the recorder is told.
-pub fn event_of(alloc: Global, told: Told) -> Result<Event, AllocError> {
+pub fn event_of(alloc: Global, told: Told) -> Result<ObservedEvent, AllocError> {
     Ok(match told {
-        Told::Access(access) => Event::Access(access),
-        Told::Create(thread, created) => Event::Create { thread, created },
-        Told::End(thread) => Event::End { thread },
-        Told::Join(thread, ended) => Event::Join { thread, ended },
-        Told::Unlock(thread, mutex) => Event::Unlock { thread, mutex },
-        Told::Lock(thread, mutex) => Event::Lock { thread, mutex },
-        Told::LetGo(thread, waiter) => Event::LetGo { thread, waiter },
+        Told::Access(access) => ObservedEvent::Access(access),
+        Told::Create(thread, created) => ObservedEvent::Create { thread, created },
+        Told::End(thread) => ObservedEvent::End { thread },
+        Told::Join(thread, ended) => ObservedEvent::Join { thread, ended },
+        Told::Unlock(thread, mutex) => ObservedEvent::Unlock { thread, mutex },
+        Told::Lock(thread, mutex) => ObservedEvent::Lock { thread, mutex },
+        Told::LetGo(thread, waiter) => ObservedEvent::LetGo { thread, waiter },
         Told::Round(first, second) => return round(alloc, first, second),
-        Told::Acquire(thread, object) => Event::Acquire { thread, object },
-        Told::Release(thread, object) => Event::Release { thread, object },
-        Told::Enter(thread) => Event::Enter { thread },
-        Told::Leave(thread) => Event::Leave { thread },
-        Told::Fresh(address, length) => Event::Fresh { address, length },
+        Told::Acquire(thread, object) => ObservedEvent::Acquire { thread, object },
+        Told::Release(thread, object) => ObservedEvent::Release { thread, object },
+        Told::Enter(thread) => ObservedEvent::Enter { thread },
+        Told::Leave(thread) => ObservedEvent::Leave { thread },
+        Told::Fresh(address, length) => ObservedEvent::Fresh { address, length },
     })
 }
 
 /// The round of two threads.
-fn round(alloc: Global, first: u8, second: u8) -> Result<Event, AllocError> {
+fn round(alloc: Global, first: u8, second: u8) -> Result<ObservedEvent, AllocError> {
     let threads = vec![in alloc; first, second]?;
-    Ok(Event::Round { threads })
+    Ok(ObservedEvent::Round { threads })
 }

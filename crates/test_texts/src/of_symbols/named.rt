@@ -1,6 +1,6 @@
 //! What an address is called, as a text.
 use std::alloc::{AllocError, Global};
-use symbols::{Place, Symbols};
+use symbols::{SymbolOffset, Symbols};
 
 /// An address, and what it is called as an object and as a function, with these texts before, between and after the names.
 pub fn names_of(
@@ -15,7 +15,7 @@ pub fn names_of(
 }
 
 /// A name and an offset, as `counter+4`, or nothing.
-fn text_of(alloc: Global, place: Option<Place<'_>>) -> Result<String, AllocError> {
+fn text_of(alloc: Global, place: Option<SymbolOffset<'_>>) -> Result<String, AllocError> {
     match place {
         Some(place) => match str::from_utf8(place.name) {
             Ok(name) => format!(in alloc; "{name}+{}", place.offset),

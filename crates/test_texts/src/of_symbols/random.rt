@@ -4,7 +4,7 @@ use crate::of_symbols::file::{Written, file_of};
 use crate::of_symbols::literal::{Found, found_in};
 use anyhow::{Result, anyhow};
 use std::alloc::{AllocError, Global};
-use symbols::{Place, Symbols};
+use symbols::{SymbolOffset, Symbols};
 
 /// How many addresses a file is asked for.
 const QUESTIONS: u32 = 12;
@@ -57,7 +57,7 @@ fn look_at(alloc: Global, file: &[u8], dice: &mut Dice, number: u32) -> Result<u
 }
 
 /// Whether both readers say the same.
-fn is_same(place: Option<Place<'_>>, found: Option<Found<'_>>) -> bool {
+fn is_same(place: Option<SymbolOffset<'_>>, found: Option<Found<'_>>) -> bool {
     match (place, found) {
         (Some(place), Some(found)) => {
             place.name == found.name && u64::from(place.offset) == found.offset

@@ -4,7 +4,7 @@ use crate::of_symbols::file::{Written, file_of};
 use crate::of_symbols::named::names_of;
 use anyhow::Result;
 use std::alloc::{AllocError, Global};
-use symbols::{Place, Symbols};
+use symbols::{SymbolOffset, Symbols};
 
 /// What an address is called.
 #[derive(Clone, Copy)]
@@ -79,7 +79,7 @@ fn first_other(symbols: &Symbols, wanted: &[Wanted]) -> Option<u32> {
 }
 
 /// Whether a place is called so.
-fn is_called(place: Option<Place<'_>>, wanted: &str) -> bool {
+fn is_called(place: Option<SymbolOffset<'_>>, wanted: &str) -> bool {
     match (place, wanted.split_once('+')) {
         (Some(place), Some((name, offset))) => {
             place.name == name.as_bytes() && offset.parse() == Ok(place.offset)

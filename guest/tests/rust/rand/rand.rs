@@ -1,4 +1,4 @@
-//! What std's own tests ask of the crate rand: a generator's words, its bytes as numbers, and a coin.
+//! What the tests of std and alloc ask of the crate rand: a generator's words, its bytes as numbers, a coin, and an order that is drawn.
 
 pub trait RngCore {
     fn next_u32(&mut self) -> u32;
@@ -22,3 +22,20 @@ pub trait Rng: RngCore {
 }
 
 impl<T: RngCore> Rng for T {}
+
+pub mod seq {
+    use crate::RngCore;
+
+    pub trait SliceRandom {
+        /// Puts the values into an order that is drawn.
+        fn shuffle<R: RngCore>(&mut self, rng: &mut R);
+    }
+
+    impl<T> SliceRandom for [T] {
+        fn shuffle<R: RngCore>(&mut self, rng: &mut R) {
+            for at in (1..self.len()).rev() {
+                self.swap(at, rng.next_u32() as usize % (at + 1));
+            }
+        }
+    }
+}

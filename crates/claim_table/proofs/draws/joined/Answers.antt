@@ -1,6 +1,6 @@
 use Rattle.std.proofs.Common.{◌∙◌, arith, ap}
 use Rattle.atomic_table.specs.Table.{Me}
-use Rattle.claim_table.specs.declared.view.View.{View}
+use Rattle.claim_table.specs.declared.seat_view.SeatView.{SeatView}
 use Rattle.claim_table.proofs.Steps.{joins_on}
 use Rattle.claim_table.proofs.Gathers.{gather_first, gather_next, rows_split}
 use Rattle.claim_table.proofs.draws.joined.Goals as goal
@@ -31,11 +31,11 @@ loop-next-preserved c =
     let pop = c.in-Some-pop.ensures in
     let next = c.into_seat.ensures in
     let joined = c.join_seat.ensures in
-    let log = ap (λ (m : Me (Unit {0}) View). m.0.log) joined.2 in
-    let seats = ap (λ (m : Me (Unit {0}) View). m.0.log.seats) joined.2 in
+    let log = ap (λ (m : Me (Unit {0}) SeatView). m.0.log) joined.2 in
+    let seats = ap (λ (m : Me (Unit {0}) SeatView). m.0.log.seats) joined.2 in
     record {
       row = (rows_split _ _ _ _ pop.items kept.row).0;
-      whole = (joined.0 ∙ kept.whole.0, ap (λ (m : Me (Unit {0}) View). m.1) joined.2 ∙ kept.whole.1);
+      whole = (joined.0 ∙ kept.whole.0, ap (λ (m : Me (Unit {0}) SeatView). m.1) joined.2 ∙ kept.whole.1);
       seats = omega (arith, seats, next.3, pop.len, kept.seats);
       some = omega (arith, seats, kept.some);
       same = gather_next _ _ _ _ _ _ _ pop.items next.2 log kept.same;

@@ -3,12 +3,12 @@ use Rattle.std.proofs.lemmas.List.Elements.{All-push, All-same}
 use Rattle.command_run.specs.Recording.{IsTold}
 use Rattle.command_requests.specs.declared.destination.Destination.TheVariants.{StandardOutput}
 use Rattle.command_requests.specs.declared.text.Text.TheVariants.{Trace}
-use Rattle.command_requests.specs.declared.wanted.Wanted.{Wanted}
+use Rattle.command_requests.specs.declared.requested_text.RequestedText.{RequestedText}
 use Rattle.command_run.proofs.Begun.{kept_by_front, kept_by_one, one_more, one_unbegun}
 use Rattle.command_run.proofs.beginning.begin.Goals as goal
 
 -- what is read past the end, which doesn't happen
-nowhere : Wanted
+nowhere : RequestedText
 nowhere = record { text = Trace; destination = StandardOutput }
 
 pub returns-in-Err-clause-kept : goal.returns-in-Err-clause-kept

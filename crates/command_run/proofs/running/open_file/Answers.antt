@@ -1,15 +1,15 @@
 use Rattle.std.proofs.Common.{ℕ, List, Option, Result, Ok, Err, IfOk}
 use Rattle.elf32_reader.specs.Format.{file_limit}
 use Rattle.abi.specs.Limits as limit
-use Rattle.runtime.specs.declared.config.Config.{Config}
-use Rattle.command_run.specs.declared.opened.Opened.{Opened}
+use Rattle.shuffled_phases.specs.declared.config.Config.{Config}
+use Rattle.command_run.specs.declared.opened_run.OpenedRun.{OpenedRun}
 use Rattle.command_run.specs.Serves.{AreOpenedFrom, AreRun}
 use Rattle.command_requests.specs.Reading.{AreRead}
 use Rattle.command_requests.specs.declared.failure.Failure.{Failure}
 use Rattle.command_run.proofs.running.open_file.Goals as goal
 
 -- the run of the bytes that were read is the run of the file
-opens_file : (content input : Option (List ℕ)) (elf given : List ℕ) (config : Config) (result : Result Opened Failure) → AreRead file_limit content elf
+opens_file : (content input : Option (List ℕ)) (elf given : List ℕ) (config : Config) (result : Result OpenedRun Failure) → AreRead file_limit content elf
     → AreRead limit.input input given → IfOk result (λ opened. AreOpenedFrom config opened elf given) → IfOk result (λ opened. AreRun content input (AreOpenedFrom config opened))
 opens_file content input elf given config (Ok all) file_read input_read opened = (elf, given, file_read, input_read, opened)
 opens_file content input elf given config (Err failure) file_read input_read opened = tt

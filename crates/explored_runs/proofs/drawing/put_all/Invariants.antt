@@ -1,6 +1,6 @@
 use Rattle.std.proofs.Common.{ℕ, List, vec_len}
 use Rattle.elf32_reader.specs.LoadImage.{LoadImage}
-use Rattle.runtime.specs.declared.config.Config.{Config}
+use Rattle.shuffled_phases.specs.declared.config.Config.{Config}
 use Rattle.explored_runs.specs.Runs.{AllSeen, AreSlots}
 use Rattle.explored_runs.proofs.drawing.put_all.Given as goal
 

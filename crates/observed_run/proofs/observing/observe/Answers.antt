@@ -11,7 +11,7 @@ use Rattle.twins.specs.View as views
 use Rattle.observed_run.specs.Events.{events_upto, steps_before}
 use Rattle.observed_run.specs.Told.{IsTold}
 use Rattle.observed_run.proofs.Told.{none_done, not_used_up, told_none}
-use Rattle.observed_run.proofs.Ending.{end_of}
+use Rattle.segment.proofs.Ending.{end_of}
 use Rattle.observed_run.proofs.observing.observe.Goals as goal
 
 pub loop-view-init : goal.loop-view-init
@@ -51,7 +51,7 @@ returns-in-Stopped-clause-end c =
     let observed = rw c.in-Stopped.is at c.in_ok-end.ensures.observed in
     let there = observed.ends c.args.segment.hart copy so_far.runs in
     let base = c.observe_some.ensures.base ∙ so_far.base in
-    IfOk-weaker c.ended.result _ _ (λ end is. end_of c.args.segment copy c.in-Stopped.stop c.in-Stopped.count c.observe_some.new.hart view end base there is) c.ended.ensures
+    IfOk-weaker c.of.result _ _ (λ end is. end_of c.args.segment copy c.in-Stopped.stop c.in-Stopped.count c.observe_some.new.hart view end base there is) c.of.ensures
 
 pub returns-in-Stopped-clause-told : goal.returns-in-Stopped-clause-told
 returns-in-Stopped-clause-told c =
@@ -60,8 +60,8 @@ returns-in-Stopped-clause-told c =
     let so_far = c.loop-view.invariant in
     let observed = rw c.in-Stopped.is at c.in_ok-end.ensures.observed in
     let told = observed.told segment.hart copy c.args.recorder.now so_far.runs so_far.told in
-    IfOk-weaker c.ended.result _ _
+    IfOk-weaker c.of.result _ _
     (λ end is.
     subst (λ (stop : Stop). IsTold c.args.recorder.now c.observe_some.new.recorder (events_upto c.args.actor segment.hart copy (steps_before stop end.count))) (sym is.stop_is)
     (subst (λ (count : ℕ). IsTold c.args.recorder.now c.observe_some.new.recorder (events_upto c.args.actor segment.hart copy (steps_before c.in-Stopped.stop count))) (sym is.count_is) told))
-    c.ended.ensures
+    c.of.ensures

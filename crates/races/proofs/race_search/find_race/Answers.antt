@@ -3,7 +3,7 @@ use Rattle.std.proofs.lemmas.Result.{on_ok_weaker}
 use Rattle.races.specs.Bytes.{has}
 use Rattle.races.specs.Words.{found_at}
 use Rattle.races.specs.declared.byte_set.ByteSet.{ByteSet}
-use Rattle.races.specs.declared.found.Found.{Found}
+use Rattle.races.specs.declared.found_race.FoundRace.{FoundRace}
 use Rattle.races.proofs.Finding.{finding_hit}
 use Rattle.races.proofs.Kept.{some_byte}
 use Rattle.races.proofs.race_search.find_race.Goals as goal
@@ -21,7 +21,7 @@ returns-clause-own c =
     let past = c.args.past.now in
     let access = c.args.access.now in
     let bytes : ByteSet = c.common-bytes.result in
-    let race : Found = record { bytes = bytes; first = past.site; second = access.site; step = c.args.step } in
+    let race : FoundRace = record { bytes = bytes; first = past.site; second = access.site; step = c.args.step } in
     let place = some_byte bytes (sym c.if-is_empty.ensures) in
     on_ok_weaker c.note.result
     (λ noted steps latest done knows among times step finding.

@@ -1,16 +1,10 @@
 use Rattle.std.proofs.Common.{◌∙◌, ap}
-use Rattle.runtime.proofs.Valid.{in_range}
 use Rattle.token.specs.RunInTurn.{point_of}
 use Rattle.token.specs.declared.run_in_turn.RunInTurn.{RunInTurn}
 use Rattle.small_schedules.proofs.Walked.{begins_at}
 use Rattle.small_schedules.proofs.differing.open.Goals as goal
 
-pub open-requires : goal.open-requires
-open-requires c =
-    let range = in_range c.args.config.now c.requires in
-    record { bound = range.bound; some = range.some; quantum = range.quantum; some_quantum = range.some_quantum }
-
 pub returns-clause-phase : goal.returns-clause-phase
 returns-clause-phase c =
     begins_at (point_of c.recorded_by-serial.result) c.stands.ensures.0 c.stands.ensures.1
-    (ap (λ (run : RunInTurn). (point_of run).done) c.recorded_by-serial.ensures ∙ c.in_ok-start.ensures.done)
+    (ap (λ (run : RunInTurn). (point_of run).done) c.recorded_by-serial.ensures ∙ c.in_ok-open_shuffled.ensures.done)

@@ -1,7 +1,7 @@
 use Rattle.std.proofs.Common.{◌∙◌, ap, subst, List, ℕ}
 use Rattle.std.specs.Prelude.{option_map}
 use Rattle.call_table.specs.State.{State}
-use Rattle.races.specs.declared.event.Event.{Event}
+use Rattle.races.specs.declared.observed_event.ObservedEvent.{ObservedEvent}
 use Rattle.token.specs.Point.{Point, step_at}
 use Rattle.token.specs.RunInTurn.{point_of}
 use Rattle.token.specs.declared.turn.Turn.{Turn}
@@ -25,5 +25,5 @@ returns-clause-told g c =
       c.in_ok-events.events.items,
       last_is (actor_of point.done c.args.thread) c.actor_in-actor.result point c.args.thread end step c.as_slice.result.now c.as_slice-2.result.now c.in_ok-turn.turn.stop c.in_ok-events.events.items
           c.actor_in-actor.ensures held goes stops c.in_ok-events.ensures,
-      subst (λ (events : List Event). IsTold c.args.self.now.races c.tell_all.new.recorder events) c.deref.ensures.value c.in_ok-tell_all.ensures,
+      subst (λ (events : List ObservedEvent). IsTold c.args.self.now.races c.tell_all.new.recorder events) c.deref.ensures.value c.in_ok-tell_all.ensures,
     )

@@ -1,8 +1,8 @@
 use Rattle.std.proofs.Common.{ap, ◌∙◌, sym, subst}
 use Rattle.std.proofs.lemmas.Result.{on_ok_weaker}
 use Rattle.races.specs.Clocks.{time, time_kept, times_of}
-use Rattle.races.specs.declared.place.Place.{Place}
-use Rattle.races.specs.declared.place.Place.TheVariants.{Ended}
+use Rattle.races.specs.declared.clock_owner.ClockOwner.{ClockOwner}
+use Rattle.races.specs.declared.clock_owner.ClockOwner.TheVariants.{Ended}
 use Rattle.races.proofs.Clocked.{IsPlaceJoined, thread_joined, ended_joined, mutex_joined, object_joined}
 use Rattle.races.proofs.clocks.Clocks.join.Goals as goal
 
@@ -10,7 +10,7 @@ pub returns-in-Thread : goal.returns-in-Thread
 returns-in-Thread c =
     let old = c.args.self.now in
     on_ok_weaker c.join.result
-    (λ joined. subst (λ (place : Place). IsPlaceJoined (time_kept old) (times_of c.join.new.self.clocks.items old.ended old.mutexes old.objects) place (time c.args.past.now)) (sym c.in-Thread.is)
+    (λ joined. subst (λ (place : ClockOwner). IsPlaceJoined (time_kept old) (times_of c.join.new.self.clocks.items old.ended old.mutexes old.objects) place (time c.args.past.now)) (sym c.in-Thread.is)
     (thread_joined old.threads.clocks.items old.ended old.mutexes old.objects c.join.new.self.clocks.items c.in-Thread.thread (time c.args.past.now) joined))
     c.join.ensures
 
@@ -18,7 +18,7 @@ pub returns-in-Ended : goal.returns-in-Ended
 returns-in-Ended c =
     let old = c.args.self.now in
     on_ok_weaker c.join_in.result
-    (λ joined. subst (λ (place : Place). IsPlaceJoined (time_kept old) (times_of old.threads.clocks.items c.join_in.new.clocks old.mutexes old.objects) place (time c.args.past.now)) (ap Ended c.from.ensures ∙ sym c.in-Ended.is)
+    (λ joined. subst (λ (place : ClockOwner). IsPlaceJoined (time_kept old) (times_of old.threads.clocks.items c.join_in.new.clocks old.mutexes old.objects) place (time c.args.past.now)) (ap Ended c.from.ensures ∙ sym c.in-Ended.is)
     (ended_joined old.threads.clocks.items old.ended old.mutexes old.objects c.join_in.new.clocks c.from.result (time c.args.past.now) joined))
     c.join_in.ensures
 
@@ -26,7 +26,7 @@ pub returns-in-Mutex : goal.returns-in-Mutex
 returns-in-Mutex c =
     let old = c.args.self.now in
     on_ok_weaker c.join_in-in-Mutex.result
-    (λ joined. subst (λ (place : Place). IsPlaceJoined (time_kept old) (times_of old.threads.clocks.items old.ended c.join_in-in-Mutex.new.clocks old.objects) place (time c.args.past.now)) (sym c.in-Mutex.is)
+    (λ joined. subst (λ (place : ClockOwner). IsPlaceJoined (time_kept old) (times_of old.threads.clocks.items old.ended c.join_in-in-Mutex.new.clocks old.objects) place (time c.args.past.now)) (sym c.in-Mutex.is)
     (mutex_joined old.threads.clocks.items old.ended old.mutexes old.objects c.join_in-in-Mutex.new.clocks c.in-Mutex.mutex (time c.args.past.now) joined))
     c.join_in-in-Mutex.ensures
 
@@ -34,6 +34,6 @@ pub returns-in-Object : goal.returns-in-Object
 returns-in-Object c =
     let old = c.args.self.now in
     on_ok_weaker c.join_in-in-Object.result
-    (λ joined. subst (λ (place : Place). IsPlaceJoined (time_kept old) (times_of old.threads.clocks.items old.ended old.mutexes c.join_in-in-Object.new.clocks) place (time c.args.past.now)) (sym c.in-Object.is)
+    (λ joined. subst (λ (place : ClockOwner). IsPlaceJoined (time_kept old) (times_of old.threads.clocks.items old.ended old.mutexes c.join_in-in-Object.new.clocks) place (time c.args.past.now)) (sym c.in-Object.is)
     (object_joined old.threads.clocks.items old.ended old.mutexes old.objects c.join_in-in-Object.new.clocks c.in-Object.object (time c.args.past.now) joined))
     c.join_in-in-Object.ensures

@@ -5,7 +5,7 @@ use Rattle.std.proofs.lemmas.Result.{on_ok_weaker}
 use Rattle.races.specs.Linked.{latest_in}
 use Rattle.races.specs.Words.{IsKept, latest_on}
 use Rattle.races.specs.declared.latest.Latest.{Latest}
-use Rattle.races.specs.declared.page.Page.{Page}
+use Rattle.races.specs.declared.page_history.PageHistory.{PageHistory}
 use Rattle.races.proofs.Paged.{latest_found, page_kept, page_kept_own}
 use Rattle.races.proofs.pages.Pages.keep.Goals as goal
 
@@ -37,7 +37,7 @@ returns-in_ok-first_page-in-None c =
     let there = c.in_ok-reach.ensures.inside in
     let inside : c.page_of-number.result < length pages.items = omega arith in
     let was = c.index_mut-slot.result.now in
-    let none : latest_on (Some was) c.place_of-place.result ≡ [] = ap (λ (slot : Option (Box Page)). latest_on (Some slot) c.place_of-place.result) c.in-None.is in
+    let none : latest_on (Some was) c.place_of-place.result ≡ [] = ap (λ (slot : Option (Box PageHistory)). latest_on (Some slot) c.place_of-place.result) c.in-None.is in
     record {
       own =
           page_kept_own pages.items c.args.word c.page_of-number.result c.place_of-place.result was (Some c.in_ok-first_page-in-None.field-0) c.args.own _ c.page_of-number.ensures c.place_of-place.ensures inside
@@ -47,6 +47,6 @@ returns-in_ok-first_page-in-None c =
       others = λ other apart.
           page_kept pages.items c.args.word c.page_of-number.result c.place_of-place.result was (Some c.in_ok-first_page-in-None.field-0) c.page_of-number.ensures c.place_of-place.ensures inside
           c.index_mut-slot.ensures.value
-          (λ place away. c.in_ok-first_page-in-None.ensures.others place away ∙ sym (ap (λ (slot : Option (Box Page)). latest_on (Some slot) place) c.in-None.is)) other apart
+          (λ place away. c.in_ok-first_page-in-None.ensures.others place away ∙ sym (ap (λ (slot : Option (Box PageHistory)). latest_on (Some slot) place) c.in-None.is)) other apart
           ∙ c.in_ok-reach.ensures.same other;
     }

@@ -3,7 +3,7 @@ use Rattle.std.specs.Box.{with_value}
 use Rattle.std.specs.Global.{Box}
 use Rattle.races.specs.Words.{IsRenewed, latest_on}
 use Rattle.races.specs.declared.latest.Latest.{Latest}
-use Rattle.races.specs.declared.page.Page.{Page}
+use Rattle.races.specs.declared.page_history.PageHistory.{PageHistory}
 use Rattle.races.proofs.Paged.{latest_found, pages_all, pages_more}
 use Rattle.races.proofs.Kept.{renewed_none, renewed_same}
 use Rattle.races.proofs.pages.Pages.renew.Goals as goal
@@ -20,7 +20,7 @@ loop-number-preserved c =
     let first = c.page_of-from.result in
     elim c.match-index_mut.branch [
       | in-Some w ↦
-          (let now : Option (Box Page) = Some (with_value w.in-Some.page w.renew.new.self) in
+          (let now : Option (Box PageHistory) = Some (with_value w.in-Some.page w.renew.new.self) in
           let own : (place : ℕ) → place < 4096 → IsRenewed fresh.address fresh.length (number * 4096 + place) (latest_on (Some was) place) (latest_on (Some now) place) =
           (λ place small. subst (λ (old : List Latest). IsRenewed fresh.address fresh.length (number * 4096 + place) old (latest_on (Some now) place))
           (sym (latest_found was w.in-Some.page w.deref_mut.result.now w.in-Some.is w.deref_mut.ensures.value place)) (w.renew.ensures place small)) in
@@ -30,7 +30,7 @@ loop-number-preserved c =
             c.loop-number.invariant.1,
           ))
       | in_default w ↦
-          (let none : (place : ℕ) → latest_on (Some was) place ≡ [] = (λ place. ap (λ (slot : Option (Box Page)). latest_on (Some slot) place) w.in_default.is) in
+          (let none : (place : ℕ) → latest_on (Some was) place ≡ [] = (λ place. ap (λ (slot : Option (Box PageHistory)). latest_on (Some slot) place) w.in_default.is) in
           let own : (place : ℕ) → place < 4096 → IsRenewed fresh.address fresh.length (number * 4096 + place) (latest_on (Some was) place) (latest_on (Some was) place) =
           (λ place small. renewed_same fresh.address fresh.length (number * 4096 + place) [] [] (latest_on (Some was) place) (latest_on (Some was) place) (sym (none place)) (sym (none place))
           (renewed_none fresh.address fresh.length (number * 4096 + place))) in

@@ -2,12 +2,12 @@ use Rattle.std.proofs.Common.{◌≡◌, ◌<◌, ℕ, List, arith, inl, inr, le
 use Rattle.std.specs.Prelude.{◌⊎◌, Contains}
 use Rattle.races.specs.Recent.{IsSlotOf}
 use Rattle.races.specs.declared.site.Access.{Access}
-use Rattle.races.specs.declared.slot.Slot.{Slot}
+use Rattle.races.specs.declared.recent_access.RecentAccess.{RecentAccess}
 use Rattle.races.proofs.Noting.{set_cases}
 use Rattle.races.proofs.recent.Recent.note.Goals as goal
 
 -- what is known of a slot by slots of before, by those from which they come
-moved : (old slots : List Slot) (since now : ℕ) (access : Access) (step : ℕ) (slot : Slot) → now ≡ since → ((one : Slot) → Contains slots one → (one.step ≡ 0) ⊎ Contains old one)
+moved : (old slots : List RecentAccess) (since now : ℕ) (access : Access) (step : ℕ) (slot : RecentAccess) → now ≡ since → ((one : RecentAccess) → Contains slots one → (one.step ≡ 0) ⊎ Contains old one)
     → IsSlotOf slots now access step slot → IsSlotOf old since access step slot
 moved old slots since now access step slot same from is = ⊎_elim
     (λ noted. inl (record {
@@ -31,13 +31,13 @@ moved old slots since now access step slot same from is = ⊎_elim
 
 pub returns-then-place-len-clause-noted : goal.returns-then-place-len-clause-noted
 returns-then-place-len-clause-noted c = λ slot among.
-    let slots : List Slot = c.make_room.new.self.slots.items in
+    let slots : List RecentAccess = c.make_room.new.self.slots.items in
     let long = c.make_room.new.self.slots.ok.0 in
     let is_len = c.len.ensures in
     let inside : c.place_of-place.result < length slots = omega (arith, c.if-place-len.true) in
     ⊎_elim
     (λ own.
-    subst (λ (one : Slot). IsSlotOf c.args.self.now.slots.items c.args.self.now.since c.args.access.now c.args.step one) own
+    subst (λ (one : RecentAccess). IsSlotOf c.args.self.now.slots.items c.args.self.now.since c.args.access.now c.args.step one) own
     (moved c.args.self.now.slots.items slots c.args.self.now.since c.make_room.new.self.since c.args.access.now c.args.step c.taken_by.result c.make_room.ensures.since c.make_room.ensures.noted
     (c.taken_by.ensures slots (c.place_of-place.result, inside, sym c.index.ensures))))
     (λ before. inr (c.make_room.ensures.noted slot before))

@@ -3,17 +3,17 @@ use Rattle.std.specs.List.Sorted.{IsPermutation}
 use Rattle.std.proofs.lemmas.Result.{IfOk-weaker}
 use Rattle.races.specs.Races.{AreRaces}
 use Rattle.races.specs.Steps.{steps_in}
-use Rattle.races.specs.declared.told.Told.{Told}
+use Rattle.races.specs.declared.ordered_race.OrderedRace.{OrderedRace}
 use Rattle.races.proofs.Gathered.{told_races}
 use Rattle.races.proofs.recorder.RaceRecorder.races.Goals as goal
 
 pub returns-clause-races : goal.returns-clause-races
 returns-clause-races c =
     let words = c.args.self.now.steps.words in
-    let sorted : List Told = c.sort_by_key.new.self.items in
-    let order : IsPermutation _ sorted = subst (λ (told : List Told). IsPermutation told sorted) c.in_ok-told.ensures.told c.sort_by_key.ensures.permutation in
+    let sorted : List OrderedRace = c.sort_by_key.new.self.items in
+    let order : IsPermutation _ sorted = subst (λ (told : List OrderedRace). IsPermutation told sorted) c.in_ok-told.ensures.told c.sort_by_key.ensures.permutation in
     IfOk-weaker c.races_of.result _ _
     (λ races made history records.
-    subst (AreRaces (steps_in history)) (sym (made ∙ ap (map (λ (one : Told). one.race)) c.deref.ensures.value))
+    subst (AreRaces (steps_in history)) (sym (made ∙ ap (map (λ (one : OrderedRace). one.race)) c.deref.ensures.value))
     (told_races (steps_in history) words.pages.pages.items words.races.words c.told.ensures.ordered records.steps.words sorted order))
     c.races_of.ensures

@@ -4,17 +4,17 @@ use Rattle.std.proofs.lemmas.Result.{on_ok_weaker}
 use Rattle.races.specs.Recording.{Adds, KnowsSteps, Records, RecordsMore, depth_of}
 use Rattle.races.specs.Steps.{depth_after, meeting, steps_of}
 use Rattle.races.specs.declared.depths.Depths.{Depths}
-use Rattle.races.specs.declared.event.Event.{Event}
-use Rattle.races.specs.declared.event.Event.TheVariants.{Access, Create, End, Join, Unlock, Lock, LetGo, Round, Acquire, Release, Enter, Leave, Fresh}
+use Rattle.races.specs.declared.observed_event.ObservedEvent.{ObservedEvent}
+use Rattle.races.specs.declared.observed_event.ObservedEvent.TheVariants.{Access, Create, End, Join, Unlock, Lock, LetGo, Round, Acquire, Release, Enter, Leave, Fresh}
 use Rattle.races.specs.declared.recorder.RaceRecorder.{RaceRecorder}
 use Rattle.races.proofs.Telling.{told_more}
 use Rattle.races.proofs.recorder.RaceRecorder.tell.Goals as goal
 
 -- an event that changes no depth
-told : (old new : RaceRecorder) (event is : Event) → event ≡ is → ((depth : ℕ → ℕ) (thread : ℕ) → depth_after depth is thread ≡ depth thread) → new.depths ≡ old.depths
+told : (old new : RaceRecorder) (event is : ObservedEvent) → event ≡ is → ((depth : ℕ → ℕ) (thread : ℕ) → depth_after depth is thread ≡ depth thread) → new.depths ≡ old.depths
     → Adds old.steps (steps_of (depth_of old.depths) is) new.steps → RecordsMore old event new
 told old new event is same stays depths steps history records =
-    subst (λ (one : Event). Records new (history ++ one ∷ [])) (sym same)
+    subst (λ (one : ObservedEvent). Records new (history ++ one ∷ [])) (sym same)
     (told_more old new history is (λ thread. ap (λ (one : Depths). depth_of one thread) depths ∙ sym (stays (depth_of old.depths) thread)) steps records)
 
 pub returns-in-Create : goal.returns-in-Create
@@ -82,14 +82,14 @@ pub returns-in-Enter : goal.returns-in-Enter
 returns-in-Enter c =
     on_ok_weaker c.enter.result
     (λ depths history records.
-    subst (λ (one : Event). Records (record c.args.self.now { depths = c.enter.new.self }) (history ++ one ∷ [])) (sym c.in-Enter.is)
+    subst (λ (one : ObservedEvent). Records (record c.args.self.now { depths = c.enter.new.self }) (history ++ one ∷ [])) (sym c.in-Enter.is)
     (told_more c.args.self.now (record c.args.self.now { depths = c.enter.new.self }) history (Enter c.in-Enter.thread) depths
     (λ steps knows. subst (KnowsSteps c.args.self.now.steps) (sym (append-nil steps)) knows) records))
     c.enter.ensures
 
 pub returns-in-Leave : goal.returns-in-Leave
 returns-in-Leave c history records =
-    subst (λ (one : Event). Records (record c.args.self.now { depths = c.leave.new.self }) (history ++ one ∷ [])) (sym c.in-Leave.is)
+    subst (λ (one : ObservedEvent). Records (record c.args.self.now { depths = c.leave.new.self }) (history ++ one ∷ [])) (sym c.in-Leave.is)
     (told_more c.args.self.now (record c.args.self.now { depths = c.leave.new.self }) history (Leave c.in-Leave.thread) c.leave.ensures
     (λ steps knows. subst (KnowsSteps c.args.self.now.steps) (sym (append-nil steps)) knows) records)
 

@@ -3,7 +3,7 @@ use Rattle.std.proofs.lemmas.Result.{on_ok_weaker}
 use Rattle.races.specs.Linked.{latest_in}
 use Rattle.races.specs.Words.{IsFinding, KnowsLatest, found_at, latest_at}
 use Rattle.races.specs.declared.latest.Latest.{Latest}
-use Rattle.races.specs.declared.page.Page.{Page}
+use Rattle.races.specs.declared.page_history.PageHistory.{PageHistory}
 use Rattle.races.proofs.Finding.{finding_all, finding_none}
 use Rattle.races.proofs.words.Words.find.Goals as goal
 
@@ -12,7 +12,7 @@ returns-in-Some-clause-own c =
     let access = c.args.access.now in
     let clocks = c.args.clocks.now in
     let latest : List Latest = latest_at c.args.self.now.pages.pages.items access.word in
-    let page : Page = c.in-Some.page.now in
+    let page : PageHistory = c.in-Some.page.now in
     let same : latest_in page.entries.items c.place_of.result ≡ latest = subst (λ (n : ℕ). latest_in page.entries.items n ≡ latest) (sym c.place_of.ensures) c.in-Some.ensures in
     on_ok_weaker c.find_races.result
     (λ own steps knows times step.

@@ -1,12 +1,12 @@
 use Rattle.std.proofs.Common.{◌≡◌, ◌∙◌, ap, sym, subst, arith}
 use Rattle.guest_memory.specs.Memory.{Memory}
 use Rattle.decoded_code.specs.Code.{HasCode}
-use Rattle.commit.specs.Merge.{changes}
 use Rattle.hart.proofs.Segments.{begun}
 use Rattle.hart.specs.Slice.{IsThere}
 use Rattle.paged_memory.specs.PageMap.{memory_of_pages}
 use Rattle.paged_memory.specs.Snapshot.{cells_of}
 use Rattle.twins.specs.View as views
+use Rattle.segment.proofs.Ending.{end_of}
 use Rattle.segment.proofs.segment.Segment.run_within.Goals as goal
 
 pub run_coded_slice-requires-clause-code : goal.run_coded_slice-requires-clause-code
@@ -29,4 +29,5 @@ returns-clause-end c =
     c.run_coded_slice.ensures.base ∙ ap cells_of c.open-view.ensures.base ∙ ap memory_of_pages c.in_ok-try_clone.ensures.pages in
     let there = subst (λ (memory : Memory). IsThere c.args.self.hart memory c.args.self.left c.args.self.quantum c.in_ok-end.end c.run_coded_slice.new.hart (views.cells_of c.run_coded_slice.new.memory)) opened
     (c.in_ok-end.ensures.ends _ _ (begun _ _ _ _)) in
-    record { memory = views.cells_of c.run_coded_slice.new.memory; patch = c.in_ok-patch-in-Stopped.ensures ∙ ap (λ (memory : Memory). changes memory (views.cells_of c.run_coded_slice.new.memory)) base; segment_is = rw c.in-Stopped.is at there }
+    end_of c.args.self (cells_of c.args.base.now) c.in-Stopped.stop c.in-Stopped.count c.run_coded_slice.new.hart c.run_coded_slice.new.memory _ base
+    (rw c.in-Stopped.is at there) c.in_ok-end-in-Stopped.ensures

@@ -11,13 +11,13 @@ use Rattle.sharing_report.specs.declared.changer.Changer.{Changer}
 use Rattle.sharing_report.specs.declared.changer.Changer.TheVariants.{Nobody}
 use Rattle.sharing_report.specs.declared.clashes.Clashes.{Clashes}
 use Rattle.sharing_report.specs.declared.mark.Mark.{Mark}
-use Rattle.sharing_report.specs.declared.mark.Spot.{Spot}
+use Rattle.sharing_report.specs.declared.mark.PhaseAddress.{PhaseAddress}
 use Rattle.sharing_report.proofs.Adding.{All-last, counted_on, spot_laws}
 use Rattle.sharing_report.proofs.Places.{contested_count-snoc, threads_at_apart, threads_at_here}
 use Rattle.sharing_report.proofs.clashes.Clashes.add.Goals as goal
 
 -- who changed each byte once a thread changed one of them
-placed : (items : List Changer) (page phase place thread : ℕ) (changer : Changer) (marks : List (Mark Spot)) → place < length items
+placed : (items : List Changer) (page phase place thread : ℕ) (changer : Changer) (marks : List (Mark PhaseAddress)) → place < length items
     → ((other : ℕ) → other < 4096 → IsChanger (slice_index_or items other Nobody) (threads_at same_spot marks (record { phase = phase; address = page + other })))
     → IsChanger changer (threads_at same_spot marks (record { phase = phase; address = page + place }) ++ thread ∷ [])
     → (other : ℕ) → other < 4096
@@ -25,10 +25,10 @@ placed : (items : List Changer) (page phase place thread : ℕ) (changer : Chang
     (threads_at same_spot (marks ++ record { place = record { phase = phase; address = page + place }; thread = thread } ∷ []) (record { phase = phase; address = page + other }))
 placed items page phase place thread changer marks inside were is other small = ⊎_elim here apart (cases_eq other place)
   where
-    mark : Mark Spot
+    mark : Mark PhaseAddress
     mark = record { place = record { phase = phase; address = page + place }; thread = thread }
 
-    spot : ℕ → Spot
+    spot : ℕ → PhaseAddress
     spot at = record { phase = phase; address = page + at }
 
     here : other ≡ place → IsChanger (slice_index_or (set items place changer) other Nobody) (threads_at same_spot (marks ++ mark ∷ []) (spot other))
@@ -44,15 +44,15 @@ placed items page phase place thread changer marks inside were is other small = 
         (subst (IsChanger (slice_index_or items other Nobody)) (sym (threads_at_apart spot_laws marks mark (spot other) off)) (were other small))
 
 -- a thread more at a place of the present phase
-counted_more : (begun made : Clashes) (page phase place thread : ℕ) (changer : Changer) (second : Bool) (marks : List (Mark Spot)) → place < length begun.changers.items → IsPhaseOfPage begun page phase marks
+counted_more : (begun made : Clashes) (page phase place thread : ℕ) (changer : Changer) (second : Bool) (marks : List (Mark PhaseAddress)) → place < length begun.changers.items → IsPhaseOfPage begun page phase marks
     → made.phase ≡ begun.phase → made.changers.items ≡ set begun.changers.items place changer
     → IsChanger changer (threads_at same_spot marks (record { phase = phase; address = page + place }) ++ thread ∷ [])
     → second ≡ (not (two_of (threads_at same_spot marks (record { phase = phase; address = page + place }))) && two_of (threads_at same_spot marks (record { phase = phase; address = page + place }) ++ thread ∷ []))
     → made.count ≡ begun.count + cond second 1 0 → made.count ≤ begun.count + 1
     → CountsClashes made page (marks ++ record { place = record { phase = phase; address = page + place }; thread = thread } ∷ [])
 counted_more begun made page phase place thread changer second marks inside at phase_is items_are is told stepped few =
-    let mark : Mark Spot = record { place = record { phase = phase; address = page + place }; thread = thread } in
-    let more : List (Mark Spot) = marks ++ mark ∷ [] in
+    let mark : Mark PhaseAddress = record { place = record { phase = phase; address = page + place }; thread = thread } in
+    let more : List (Mark PhaseAddress) = marks ++ mark ∷ [] in
     let threads : List ℕ = threads_at same_spot marks mark.place in
     let fits = at.fits in
     let now : made.phase ≡ phase = phase_is ∙ at.phase_is in record {
@@ -61,11 +61,11 @@ counted_more begun made page phase place thread changer second marks inside at p
         count = counted_on begun.count made.count second (not (two_of threads) && two_of (threads ++ thread ∷ [])) (contested_count same_spot marks) (contested_count same_spot more)
             at.count told (contested_count-snoc spot_laws marks mark) stepped;
         fits = omega (arith, length-append marks (mark ∷ []));
-        upto = All-push (λ (one : Mark Spot). one.place.phase ≤ phase) marks mark at.upto (omega arith);
+        upto = All-push (λ (one : Mark PhaseAddress). one.place.phase ≤ phase) marks mark at.upto (omega arith);
         changers = subst (λ (items : List Changer). (other : ℕ) → other < 4096 → IsChanger (slice_index_or items other Nobody) (threads_at same_spot more (record { phase = phase; address = page + other }))) (sym items_are)
             (placed begun.changers.items page phase place thread changer marks inside at.changers is);
       });
-      least = λ bound all. let last = All-last (λ (one : Mark Spot). one.place.phase ≤ bound) marks mark all in subst (λ (p : ℕ). p ≤ bound) (sym now) last;
+      least = λ bound all. let last = All-last (λ (one : Mark PhaseAddress). one.place.phase ≤ bound) marks mark all in subst (λ (p : ℕ). p ≤ bound) (sym now) last;
     }
 
 pub returns-then-is_second : goal.returns-then-is_second

@@ -5,7 +5,7 @@ use Rattle.sharing_report.specs.Sharing.{phase_mark, spot_mark}
 use Rattle.sharing_report.specs.Tallies.{CountsClashes, CountsShared, CountsTurns, IsThreadSet}
 use Rattle.sharing_report.specs.declared.byte_change.ByteChange.{ByteChange}
 use Rattle.sharing_report.specs.declared.mark.Mark.{Mark}
-use Rattle.sharing_report.specs.declared.mark.Spot.{Spot}
+use Rattle.sharing_report.specs.declared.mark.PhaseAddress.{PhaseAddress}
 use Rattle.sharing_report.proofs.page_state.PageState.note.Goals as goal
 
 pub returns : goal.returns
@@ -16,7 +16,7 @@ returns c page bytes has upto is few =
     let was = has.count in
     let added = c.saturating_add-self.ensures in
     let spot : page + c.args.address % 4096 ≡ c.args.address = omega (arith, is) in
-    let clash = c.add-4.ensures page (map spot_mark bytes) has.clashes (All-map (λ (mark : Mark Spot). mark.place.phase ≤ c.args.phase) spot_mark bytes (λ k d inside. (upto k d inside).1)) (omega (arith, length-map bytes spot_mark)) in
+    let clash = c.add-4.ensures page (map spot_mark bytes) has.clashes (All-map (λ (mark : Mark PhaseAddress). mark.place.phase ≤ c.args.phase) spot_mark bytes (λ k d inside. (upto k d inside).1)) (omega (arith, length-map bytes spot_mark)) in
     record {
       turns = subst (CountsTurns c.add.new.self) (sym (map_push turn_of bytes byte))
           (c.add.ensures (map turn_of bytes) has.turns (All-map (λ other. other ≤ c.args.turn) turn_of bytes (λ k d inside. (upto k d inside).0)) (omega (arith, length-map bytes turn_of)));

@@ -4,7 +4,7 @@ use Rattle.token.specs.declared.turn.Turn.{Turn}
 use Rattle.trace_events.specs.Recording.{with_entry}
 use Rattle.trace_events.specs.Timeline.{entries_of, entry_of}
 use Rattle.trace_events.specs.Times.{timed, timed_turn}
-use Rattle.trace_events.specs.declared.entry.Entry.{Entry}
+use Rattle.trace_events.specs.declared.recorded_turn.RecordedTurn.{RecordedTurn}
 use Rattle.trace_events.specs.declared.timed_turn.TimedTurn.{TimedTurn}
 use Rattle.trace_events.proofs.More.{entries_more, timed_more}
 use Rattle.trace_events.proofs.timeline_recorder.TimelineRecorderRecorder.record.Goals as goal
@@ -14,7 +14,7 @@ returns g c addresses turns changes ready has whole =
     let recorder = c.args.self.now in
     let turn : Turn = c.args.turn in
     let change : Change = change_by turn addresses in
-    let entry : Entry = entry_of turn change in
+    let entry : RecordedTurn = entry_of turn change in
     let was = has whole in
     let paired = was.paired in
     record {

@@ -1,6 +1,0 @@
-use Rattle.std.proofs.Common.{◌≡◌}
-use Rattle.claim_table.specs.Seat.{members}
-use Rattle.claim_table.proofs.marks.Marks.numbers.Given as goal
-
-abbrev pub invariant-loop-number : goal.invariant-loop-number
-invariant-loop-number l = l.numbers.items ≡ members l.number l.self.marks

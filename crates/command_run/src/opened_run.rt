@@ -1,0 +1,12 @@
+//! A run that was opened, with the names that its races are told by.
+use runtime::Start;
+use symbols::Symbols;
+
+/// A run of which no turn is done, and the symbols of its file if its races are wanted.
+#[derive(Drop)]
+pub(crate) struct OpenedRun {
+    /// The run.
+    pub(crate) start: Start,
+    /// The symbols of its file.
+    pub(crate) symbols: Option<Symbols>,
+}
