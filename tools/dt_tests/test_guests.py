@@ -7,6 +7,7 @@ import random
 import shutil
 import tempfile
 import unittest
+from unittest import mock
 
 from dt_commands import c_page, c_samples, guest_runs, guest_tests, manual_examples, measure_c_samples, random_guests, samples
 from dt_commands import texts, written_guests
@@ -104,6 +105,11 @@ class Pages(unittest.TestCase):
     def test_the_commands_of_a_page_and_what_is_below_them(self):
         page = "$ not here\n```\nnot this\n$ one\nsaid\n```\n```\nno command\n```\n```\n$ two\n```\n"
         self.assertEqual(c_page.shown_in(page), ["$ one", "said", "$ two"])
+
+    def test_a_relative_program_is_the_same_one_in_the_folder_of_the_commands(self):
+        with mock.patch.dict(os.environ, {"DTHREADS": "crates/a/program"}):
+            got = c_page.ran("docs/A.md", "```\n$ echo $DTHREADS; readlink dthreads\n```\n")
+        self.assertEqual(got[1:], [os.path.realpath("crates/a/program")] * 2)
 
     def test_the_first_whole_program_of_the_last_heading_is_the_example(self):
         self.assertEqual(manual_examples.program_in(PAGE), "#include <stdio.h>\n    printf(\"\\n-''\");\n")

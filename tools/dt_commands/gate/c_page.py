@@ -41,23 +41,28 @@ def printed(text, room, progress):
     """Runs the commands of a page in a folder, and returns their lines, each with what was printed below it."""
     for contents, name in files_in(text):
         write_file(f"{room}/{name}", contents)
-    got = []
+    got, environment = [], {**os.environ, "DTHREADS": guest_runs.program()}
     for line in progress.each([it for it in shown_in(text) if it.startswith("$ ")]):
         how = {"stdin": subprocess.DEVNULL, "stdout": subprocess.PIPE, "stderr": subprocess.STDOUT}
-        ran = subprocess.run(["bash", "-c", line[2:]], cwd=room, errors="replace", **how)
+        ran = subprocess.run(["bash", "-c", line[2:]], cwd=room, env=environment, errors="replace", **how)
         got += [line, *ran.stdout.splitlines()]
     return got
+
+
+def ran(page, text):
+    """Runs the commands of a page in a folder of their own, and returns their lines, each with what was printed below it."""
+    count = sum(it.startswith("$ ") for it in shown_in(text))
+    with tempfile.TemporaryDirectory() as room, Progress(f"commands of {page}", count) as progress:
+        for name, target in (("guest", guest_runs.KIT), ("samples", f"{TOP}/samples"), ("dthreads", guest_runs.program())):
+            os.symlink(target, f"{room}/{name}")
+        return printed(text, room, progress)
 
 
 def is_as_told(page):
     """Returns whether the commands of a page print what the page says. If not, prints where that begins."""
     text = read_text(f"{TOP}/{page}")
-    wanted = shown_in(text)
+    wanted, got = shown_in(text), ran(page, text)
     count = sum(it.startswith("$ ") for it in wanted)
-    with tempfile.TemporaryDirectory() as room, Progress("commands", count) as progress:
-        for name, target in (("guest", guest_runs.KIT), ("samples", f"{TOP}/samples"), ("dthreads", guest_runs.program())):
-            os.symlink(target, f"{room}/{name}")
-        got = printed(text, room, progress)
     if got != wanted:
         print(first_difference("\n".join(got).encode(), "\n".join(wanted).encode()), f"{page} says something else", sep="\n", file=sys.stderr)
         return False
