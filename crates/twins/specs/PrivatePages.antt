@@ -1,4 +1,4 @@
-use Rattle.std.specs.Prelude.{◌≡◌, ℕ, ◌<◌, ◌==◌, [], ◌∷◌, ◌++◌, Option, Some, None, IsSome, List, length, slice_index, find, map, option_map}
+use Rattle.std.specs.Prelude.{◌≡◌, ℕ, ◌%◌, ◌<◌, ◌==◌, [], ◌∷◌, ◌++◌, Option, Some, None, IsSome, List, length, slice_index, find, map, option_map}
 use Rattle.paged_memory.specs.Page.{PageValue}
 use Rattle.paged_memory.specs.PageMap.{with_page}
 use Rattle.std.specs.Global.{Box}
@@ -21,6 +21,10 @@ pub record StandsAt (pages : List PrivatePage) (number place : ℕ) : Type 0 whe
   pub inside : place < length pages
   pub number_there : slice_index (numbers_of pages) place ≡ number
   pub present : IsSome (private_at pages number)
+
+-- the place that one look finds for a number: the one kept last for its remainder
+abbrev pub near_in : List ℕ → ℕ → ℕ
+near_in near number = slice_index near (number % 128)
 
 -- a private page was added to those that were there, and stands at a place
 pub record AddsPage (old new : List PrivatePage) (place number : ℕ) (page : PageValue) : Type 0 where
