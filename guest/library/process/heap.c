@@ -16,6 +16,8 @@ enum {
     LEAST_GROWTH = 16,
     /* Bytes that a thread takes or gives back at a time. */
     BATCH_BYTES = 4096,
+    /* The untouched blocks that a lone thread takes at a time: it needs no turn for others. */
+    FEW = 8,
     /* A freed block of so many pages goes back to the machine, as long as less than a quarter of the heap was given. */
     RELEASED_PAGES = 64,
     /* What a page belongs to, beside the small sizes 1 to SIZES. */
@@ -40,6 +42,12 @@ struct list {
     uint32_t count;
 };
 
+/* The lowest blocks of fresh pages, which nobody has touched. */
+struct fresh {
+    char *pages;
+    uint32_t count;
+};
+
 /* Free pages side by side; runs lie in the order of their addresses. */
 struct run {
     struct run *next;
@@ -48,6 +56,7 @@ struct run {
 
 static __thread struct list cache[SIZES];
 static struct list shared[SIZES];
+static struct fresh fresh[SIZES];
 static struct run *runs;
 /* Pages given so far. */
 static uint32_t given;
@@ -264,8 +273,8 @@ static uint32_t batch(uint32_t index)
     return count < 2 ? 2 : count;
 }
 
-/* Cuts fresh pages into blocks; false if out of memory. */
-static bool cut(uint32_t index)
+/* Takes pages for untouched blocks; false if out of memory. */
+static bool begin_pages(uint32_t index)
 {
     uint32_t pages = sizes[index] > 512 ? 2 : 1;
     char *address = pages_take(pages);
@@ -273,17 +282,28 @@ static bool cut(uint32_t index)
         return false;
     for (uint32_t i = 0; i < pages; i++)
         page_size[page_of(address) + i] = (uint8_t)(index + 1);
-    uint32_t count = pages * DTHREADS_PAGE / sizes[index];
-    for (uint32_t i = count; i > 0; i--)
-        push(&shared[index], (struct block *)(address + (size_t)(i - 1) * sizes[index]));
+    fresh[index] = (struct fresh){address, pages * DTHREADS_PAGE / sizes[index]};
     return true;
+}
+
+/* Links untouched blocks, the highest first. With a number they come before those of the list. */
+static void cut_some(uint32_t index, uint32_t count)
+{
+    for (; count > 0 && fresh[index].count > 0; count--) {
+        fresh[index].count--;
+        char *address = fresh[index].pages + (size_t)fresh[index].count * sizes[index];
+        (varies() ? push : append)(&cache[index], (struct block *)address);
+    }
 }
 
 static void refill(uint32_t index)
 {
+    uint32_t count = batch(index);
     monitor_enter();
-    if (shared[index].first || cut(index))
-        move_some(&shared[index], &cache[index], batch(index));
+    if (shared[index].first)
+        move_some(&shared[index], &cache[index], count);
+    else if (fresh[index].count > 0 || begin_pages(index))
+        cut_some(index, alone() && !varies() && count > FEW ? FEW : count);
     monitor_leave();
 }
 

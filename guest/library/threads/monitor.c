@@ -1,7 +1,9 @@
 /* The monitor's data, the list of those that wait to go on, and leaving it. */
+#include <sys/single_threaded.h>
 #include "monitor.h"
 
 struct monitor monitor;
+char __libc_single_threaded = 1;
 struct dthreads_thread threads[DTHREADS_THREADS];
 __thread struct own own;
 
@@ -230,8 +232,8 @@ void monitor_wake_all(struct dthreads_queue *queue)
         conditions |= UINT64_C(1) << queue->first->condition;
         mark(queue->first, WOKEN);
     }
-    for (uint32_t i = 0; i < OWN_CONDITIONS + CROWD_CONDITIONS; i++)
-        if (conditions >> i & 1)
+    for (uint32_t i = 0; conditions; i++, conditions >>= 1)
+        if (conditions & 1)
             ring(i);
 }
 

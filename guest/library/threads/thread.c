@@ -1,6 +1,7 @@
 /* Making, joining and ending threads. */
 #include <stdlib.h>
 #include <string.h>
+#include <sys/single_threaded.h>
 #include "monitor.h"
 
 /* The end of the first thread's stack. */
@@ -79,6 +80,7 @@ static int thread_make(pthread_t *name, const pthread_attr_t *attributes, void *
     thread->delay = vary_delay();
     dthreads_hint_release(&thread->start);
     monitor_hold();
+    __libc_single_threaded = 0;
     monitor.living++;
     if (is_new) {
         monitor.made++;
