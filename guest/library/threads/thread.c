@@ -354,3 +354,14 @@ void thread_begin(void)
     own.thread = thread;
     thread->own = &own;
 }
+
+/* A symbol whose value is a number. */
+#define NUMBER(symbol, number) __asm__(".globl " #symbol "\n.set " #symbol ", %0" ::"i"(number))
+
+/* By these symbols a debugger without types finds what it shows of a record. The linker drops the function, which nobody calls. */
+void dthreads_thread_numbers(void)
+{
+    NUMBER(dthreads_thread_size, sizeof(struct dthreads_thread));
+    NUMBER(dthreads_thread_created, offsetof(struct dthreads_thread, created));
+    NUMBER(dthreads_thread_name, offsetof(struct dthreads_thread, name));
+}
