@@ -170,6 +170,13 @@ class Starting(unittest.TestCase):
         self.assertEqual((ran.returncode, lines[:3], lines[-3:]), (0, ["gdb-multiarch", "-q", "it's a.elf"], ["-batch", "-ex", "info x"]))
         self.assertEqual(said, "<debug><it's a.elf><--input><a b><--bound><5><--quantum><200000>")
 
+    def test_words_behind_a_second_sign_are_the_programs(self):
+        for words in (["--", "-batch", "--", "one"], ["--", "one"], ["--env", "A=b"]):
+            ran, said = self.called(["it's a.elf", *words], ["gdb-multiarch"])
+            # (the program isn't one that dthreads-exec can prepare)
+            self.assertEqual((ran.returncode, said), (127, ""), words)
+        self.assertEqual(self.called(["it's a.elf", "--", "-batch", "--"], ["gdb-multiarch"])[0].stdout.splitlines()[-1], "-batch")
+
     def test_a_quantum_is_the_one_that_is_named(self):
         for words, wanted in ((["--quantum", "7"], "<--quantum><7>"), (["--quantum=8"], "<--quantum><8>"), (["--quantum", "none"], "")):
             self.assertEqual(self.called(["it's a.elf", *words], ["gdb-multiarch"])[1], f"<debug><it's a.elf>{wanted}")

@@ -4,7 +4,8 @@ A session is a transcript. Its head has lines `word: text`, and lines that begin
 
     program: race.c -O2 -g       what guest/dthreads-cc compiles, with its options
     folder: samples/c            the folder for both and for gdb, from the top of the repository (else guest/tests/gdb)
-    options: --quantum 100       options of `dthreads debug`, if any
+    options: --quantum 100       options of guest/dthreads-gdb, if any
+    arguments: one two           arguments of the program, if any
     status: 3                    the status that gdb ends with (else 0)
     seconds: 600                 how long a command may take (else 60)
 
@@ -48,7 +49,8 @@ class Debugger:
         write_file(f"{room}/dthreads", f"#!/bin/sh\necho $$ > {room}/pid\nexec {shlex.quote(guest_runs.program())} \"$@\"\n")
         os.chmod(f"{room}/dthreads", 0o755)
         settings = [word for it in SETTINGS for word in ("-iex", it)]
-        words = [f"{guest_runs.KIT}/dthreads-gdb", program, *session.words("options"), "--", "-nx", *settings]
+        arguments = ["--", *session.words("arguments")] if "arguments" in session.head else []
+        words = [f"{guest_runs.KIT}/dthreads-gdb", program, *session.words("options"), "--", "-nx", *settings, *arguments]
         how = {"stdin": subprocess.PIPE, "stdout": subprocess.PIPE, "stderr": subprocess.STDOUT, "cwd": session.folder}
         environment = {**os.environ, "DTHREADS": f"{room}/dthreads", "TERM": "dumb", "LC_ALL": "C"}
         self.gdb = subprocess.Popen(words, env=environment, start_new_session=True, **how)

@@ -10,7 +10,7 @@ from dt_commands.texts import read_text
 
 FOLDER = f"{guest_runs.KIT}/tests/gdb"
 PROMPT, INTERRUPT, KILL, ANY = "(gdb) ", "^C", "^KILL", "..."
-HEAD = ("program", "folder", "options", "status", "seconds")
+HEAD = ("program", "folder", "options", "arguments", "status", "seconds")
 PATTERNS = {"{hex}": "0x[0-9a-f]+", "{n}": "[0-9]+", "{*}": ".*"}
 # What is taken for the last line of a gdb that prints no prompt.
 SILENT = "(no prompt came)"
@@ -19,7 +19,7 @@ SHOWN_LINES = 30
 # What differs with another compiler, in a session that is written; and how the names of those begin that a page shows.
 GENERAL = [
     (r"0x[0-9a-f]{5,8}\b", "{hex}"), (r"\b[0-9]+(?= instructions into)", "{n}"), (r"(?<=; step )[0-9]+", "{n}"),
-    (r"(?<=pc=)[0-9a-f]{8}", "{*}"), (r"(?<=value=)(?!0{8})[0-9a-f]{8}", "{*}"),
+    (r"\b(turn [0-9]+)\+[0-9]+", r"\1+{n}"), (r"(?<=pc=)[0-9a-f]{8}", "{*}"), (r"(?<=value=)(?!0{8})[0-9a-f]{8}", "{*}"),
     (r'("guest [0-9]+" )\([^()]*\)', r"\1({*})"), (r"Target Id +Frame", "Target Id{*}Frame"),
     (r"^([* ] [0-9]+ .*\(\{\*\}\)) +", r"\1{*}"),
 ]

@@ -1,4 +1,5 @@
-"""The transcripts of docs/DEBUGGING.md: each is a session of gdb, from guest/tests/gdb. `tools/dt test gdb` runs the sessions."""
+"""The transcripts of docs/DEBUGGING.md: each is a session of gdb, from guest/tests/gdb. `tools/dt test gdb` runs the sessions. And the files that
+docs/EDITORS.md shows, which `tools/dt test editors` uses."""
 import os
 import re
 import shlex
@@ -7,7 +8,8 @@ from dt_commands import gdb_transcripts
 from dt_commands.repository import TOP
 from dt_commands.texts import read_text
 
-PAGE = "docs/DEBUGGING.md"
+PAGE, EDITORS = "docs/DEBUGGING.md", "docs/EDITORS.md"
+FILE = re.compile(r"(<!-- generated: file (\S+) -->\n).*?(<!-- end of generated: file \2 -->)", re.S)
 PART = re.compile(r"(<!-- generated: session (\S+) -->\n).*?(<!-- end of generated: session \2 -->)", re.S)
 
 
@@ -25,3 +27,9 @@ def shown(session):
 def page():
     """Returns the page with its transcripts as the sessions have them."""
     return PART.sub(lambda found: found[1] + shown(gdb_transcripts.read(found[2])) + found[3], read_text(f"{TOP}/{PAGE}"))
+
+
+def editors_page():
+    """Returns the page of editors with its files as they are."""
+    shown_file = lambda name: f"```{name.rpartition('.')[2]}\n{read_text(f'{TOP}/{name}')}```\n"
+    return FILE.sub(lambda found: found[1] + shown_file(found[2]) + found[3], read_text(f"{TOP}/{EDITORS}"))

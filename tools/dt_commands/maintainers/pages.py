@@ -4,7 +4,7 @@ Generated are docs/CONFORMANCE.md as a whole, from tools/changes and tools/pages
 each crate root; the limits in docs/GUEST.md, from the definitions; the list of the definitions that the headline
 needs in docs/LAW.md, from the contracts of run, run_into and run_recorded; how many public functions have no `ensures` in
 docs/PROVED.md; the transcripts in docs/DEBUGGING.md, from the
-sessions of guest/tests/gdb; the tables of options in docs/CLI.md and the completions, from the table in the sources; man/dthreads.1,
+sessions of guest/tests/gdb; the files that docs/EDITORS.md shows; the tables of options in docs/CLI.md and the completions, from the table in the sources; man/dthreads.1,
 from docs/CLI.md and tools/pages; and the manual pages and completions of the kit's commands, from what each prints for --help. Besides, each line of a block marked `antt` must be in the sources, so that no page quotes what isn't there, each link must lead to a file
 and a heading, the command lines in docs/CLI.md must have the options of their commands, the picture of the layers in docs/ARCHITECTURE.md must show what crates.txt has, what README.md says of speed must be in
 docs/BENCH.md, docs/PROVED.md must name the toolchain of the release, and the pages that are read as a whole have a size that they
@@ -21,8 +21,8 @@ from .texts import read_text, write_file
 
 
 # The pages that are read as a whole, and how many bytes each may have.
-LIMITS = {"README.md": 9_500, "docs/C.md": 7_168, "docs/CLEAN-RUNS.md": 4_096, "docs/DEBUGGING.md": 7_168, "docs/TIMELINE.md": 5_120,
-          "docs/RUST.md": 6_144, "docs/EXPLORING.md": 6_144}
+LIMITS = {"README.md": 9_500, "docs/C.md": 7_168, "docs/CLEAN-RUNS.md": 4_096, "docs/DEBUGGING.md": 8_192, "docs/TIMELINE.md": 5_120,
+          "docs/RUST.md": 6_144, "docs/EXPLORING.md": 6_144, "docs/EDITORS.md": 4_096}
 
 
 def read(page):
@@ -58,6 +58,7 @@ def pages():
         "docs/CONFORMANCE.md": conformance_page.page(),
         "docs/CRATES.md": crate_pages.page(),
         debugging_page.PAGE: debugging_page.page(),
+        debugging_page.EDITORS: debugging_page.editors_page(),
         "docs/GUEST.md": with_part("docs/GUEST.md", "limits", crate_pages.limits()),
         "docs/LAW.md": with_part("docs/LAW.md", "definitions", definitions.listed()),
         "docs/PROVED.md": with_part("docs/PROVED.md", "functions without ensures", uncontracted.listed()),
