@@ -2,7 +2,7 @@
 
 Guests are the samples, the programs of crates/test_guest_runs/data, random programs, the samples in C and, if the compiler is there, the
 programs of guest/tests, with no quantum and with others. That the text is the one of the definitions is proved. Here each timeline must be
-JSON with the turns of the run's trace and as many changed pages as the report has. Status, output, trace, report and timeline must be the same
+JSON that keeps the rules of trace_event_rules, with the turns of the run's trace and as many changed pages as the report has. Status, output, trace, report and timeline must be the same
 for 1, 2, 4 and 64 workers. The timeline and the races beside the sample race must be what the program writes. DTHREADS names the program that
 runs the guests, or else ./dthreads.
 """
@@ -14,11 +14,13 @@ import shutil
 import subprocess
 from collections import namedtuple
 
-from dt_commands import c_samples, guest_runs, guest_tests, random_guests, sample_pictures, written_guests
+from dt_commands import c_samples, guest_runs, guest_tests, random_guests, sample_pictures, trace_event_rules, written_guests
 from dt_commands.repository import TOP
 from dt_commands.texts import contents, write_file
 
 SECONDS = 120
+# The tracks have the numbers of their threads.
+FIRST_TRACK = 0
 # A quantum that would give a run more turns than these is left out.
 MOST_TURNS = 6000
 # Samples without an end get this bound.
@@ -60,10 +62,11 @@ def turns_traced(trace):
 def turns_shown(events):
     """Returns the same of a timeline's events. The turn of a woken thread, which has no segment, has its phase from no event."""
     segments = {it["args"]["turn"]: it for it in events if it.get("cat") == "segment"}
+    threads = {it["tid"]: int(it["args"]["name"].rpartition(" ")[2]) for it in events if it["ph"] == "M"}
     for it in (it for it in events if it.get("cat") == "turn"):
         number = it["args"]["turn"]
         segment = segments.get(number, {"args": {"phase": None, "changed": 0}, "dur": 0})
-        yield number, segment["args"]["phase"], it["tid"], it["args"]["text"], segment["args"]["changed"], segment["dur"]
+        yield number, segment["args"]["phase"], threads[it["tid"]], it["args"]["text"], segment["args"]["changed"], segment["dur"]
 
 
 def pages_reported(report):
@@ -81,6 +84,7 @@ def faults(trace, report, text):
     except (ValueError, KeyError, TypeError) as why:
         yield f"it is no timeline: {why!r}"
         return
+    yield from trace_event_rules.broken(whole, FIRST_TRACK)
     wanted = [it if not it[3].startswith("wake ") else (it[0], None, *it[2:]) for it in wanted]
     differing = [(one, other) for one, other in zip(shown, wanted) if one != other]
     if differing or len(shown) != len(wanted):
