@@ -2,6 +2,7 @@ pub mod Before
 pub mod Blocks
 pub mod Bytes
 pub mod Clocks
+pub mod Hints
 pub mod Linked
 pub mod Races
 pub mod Recording

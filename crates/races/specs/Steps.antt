@@ -71,6 +71,9 @@ steps_of depth (event.Release thread object) = passing thread (Object object) �
 steps_of depth (event.Enter thread) = []
 steps_of depth (event.Leave thread) = []
 steps_of depth (event.Fresh address length) = Renew address length ∷ []
+steps_of depth (event.Caller thread pc) = []
+steps_of depth (event.Length thread length) = []
+steps_of depth (event.Hint hint) = []
 
 -- what is looked at of some events, from the depths before them
 abbrev pub steps_from : (ℕ → ℕ) → List ObservedEvent → List Step

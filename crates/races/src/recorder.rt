@@ -188,6 +188,9 @@ impl RaceRecorder {
                 Ok(())
             }
             ObservedEvent::Fresh { address, length } => self.steps.renew(*address, *length),
+            ObservedEvent::Caller { .. } | ObservedEvent::Length { .. } | ObservedEvent::Hint(_) => {
+                Ok(())
+            }
         }
     }
 

@@ -3,9 +3,9 @@ use crate::byte_set::ByteSet;
 use crate::site::Site;
 
 /// Where the next access of a word is probably kept. The same instructions go over a word again and again in the same order, and
-/// others come for the first time. What a hint says is looked at before it is believed.
+/// others come for the first time. What a guess says is looked at before it is believed.
 #[derive(Clone, Copy)]
-pub(crate) struct Hint {
+pub(crate) struct Guess {
     /// The number of the entry after the one that was last made again, or 0.
     pub(crate) next: u32,
     /// The number of the last one made again that was not the next one, or 0.
@@ -16,10 +16,10 @@ pub(crate) struct Hint {
     seen: u64,
 }
 
-impl Hint {
+impl Guess {
     /// That of a word without accesses.
     pub(crate) fn new() -> Self {
-        Hint {
+        Guess {
             next: 0,
             begin: 0,
             last: 0,
@@ -32,12 +32,12 @@ impl Hint {
         self.seen & bit(site, bytes) != 0
     }
 
-    /// The hint once such an access is kept in the place of the entry of this number, which leads to another one.
-    pub(crate) fn replaced(self, site: Site, bytes: ByteSet, number: u32, next: u32) -> Hint {
+    /// The guess once such an access is kept in the place of the entry of this number, which leads to another one.
+    pub(crate) fn replaced(self, site: Site, bytes: ByteSet, number: u32, next: u32) -> Guess {
         if number == self.next {
-            return Hint { next, ..self };
+            return Guess { next, ..self };
         }
-        Hint {
+        Guess {
             next,
             begin: number,
             last: self.last,
@@ -45,9 +45,9 @@ impl Hint {
         }
     }
 
-    /// The hint once such an access is kept as the word's last one, with this number.
-    pub(crate) fn pushed(self, site: Site, bytes: ByteSet, number: u32) -> Hint {
-        Hint {
+    /// The guess once such an access is kept as the word's last one, with this number.
+    pub(crate) fn pushed(self, site: Site, bytes: ByteSet, number: u32) -> Guess {
+        Guess {
             next: self.next,
             begin: self.begin,
             last: number,
