@@ -120,11 +120,11 @@ const REPORT: Parameter = Parameter {
     help: "Write the sharing of pages to this file, or to standard output where it is -",
 };
 
-const RACES: Parameter = Parameter {
-    name: "races",
-    form: Form::Text(Text::Races),
+const FINDINGS: Parameter = Parameter {
+    name: "check",
+    form: Form::Text(Text::Findings),
     need: Requirement::Optional,
-    help: "Write the data races to this file, or to standard output where it is -",
+    help: "Write the data races and other faults to this file, or to standard output where it is -",
 };
 
 const CORE: Parameter = Parameter {
@@ -143,7 +143,7 @@ const DIGEST: Parameter = Parameter {
 
 /// The parameters of the command run. The texts are in the order in which a run begins them and puts them where they are to be.
 pub(crate) static RUN: [Parameter; 12] = [
-    FILE, INPUT, WORKERS, BOUND, QUANTUM, SHUFFLE, TRACE, TIMELINE, REPORT, RACES, CORE, DIGEST,
+    FILE, INPUT, WORKERS, BOUND, QUANTUM, SHUFFLE, TRACE, TIMELINE, REPORT, FINDINGS, CORE, DIGEST,
 ];
 
 /// The parameters of the command explore.

@@ -3,7 +3,7 @@ ghost use Rattle.std.specs.Prelude.{◌≡◌, ◌+◌, ◌-◌, ◌^◌, ◌<�
 ghost use Rattle.output_files.specs.Content.{Tells};
 ghost use Rattle.output_files.specs.Taken.{TakesAtMost};
 ghost use Rattle.abi.specs.Limits as limit;
-ghost use Rattle.command_requests.specs.Texts.{wants_races};
+ghost use Rattle.command_requests.specs.Texts.{wants_findings};
 ghost use Rattle.symbols.specs.Symbol.{SymbolLists};
 ghost use Rattle.token.specs.RunInTurn.{point_of};
 ghost use Rattle.command_run.specs.Serves.{Concludes, IsReady, RunsInto, host_of, run_of};
@@ -12,10 +12,10 @@ use crate::abandoning::abandon;
 use crate::beginning::begin;
 use crate::ended_run::EndedRun;
 use crate::finishing::finish;
-use crate::observing::race_text;
+use crate::observing::finding_text;
 use crate::opened_run::OpenedRun;
 use crate::running::{RunAttempt, open_file, run_start};
-use command_requests::{Failure, RequestedText, named_twice, wants_races};
+use command_requests::{Failure, RequestedText, named_twice, wants_findings};
 use output_files::Files;
 use runtime::{Config, RunOutcome, WriteSink};
 use std::alloc::Global;
@@ -47,7 +47,7 @@ pub fn run_file<'a, H: Threads + Wait + Sync, F: Files, R: Read, W: Write>(
     if let Some((one, other)) = named_twice(alloc, file, wanted, files)? {
         return Err(Failure::OneFile(one, other));
     }
-    let opened = open_file(alloc, file, config, wants_races(wanted), files, stdin)?;
+    let opened = open_file(alloc, file, config, wants_findings(wanted), files, stdin)?;
     run_opened_file(rt, alloc, opened, config.workers, wanted, files, stdout)
 }
 
@@ -61,7 +61,7 @@ fn run_opened_file<'a, H: Threads + Wait + Sync, F: Files, W: Write>(
     files: &mut F,
     stdout: &mut WriteSink<W>,
 ) -> Result<RunOutcome, Failure<'a>>
-    requires ready { IsReady (wants_races wanted.now) opened }
+    requires ready { IsReady (wants_findings wanted.now) opened }
     requires failures { stdout.old.failures < 2 ^ 64 - 1 }
     ensures answer { (symbols : SymbolLists) → IfSome opened.symbols (λ own. own ≡ symbols)
         → Concludes (Tells F.Output.contents) wanted.now symbols
@@ -78,9 +78,9 @@ fn run_opened_file<'a, H: Threads + Wait + Sync, F: Files, W: Write>(
         rt, alloc, start, workers, observes, items, stdout,
     );
     match result {
-        Ok((end, races)) => match race_text(alloc, symbols, races) {
-            Ok(races) => {
-                let ended = EndedRun { end, races };
+        Ok((end, findings)) => match finding_text(alloc, symbols, findings) {
+            Ok(findings) => {
+                let ended = EndedRun { end, findings };
                 match finish(alloc, items, &ended, files, &mut stdout.writer) {
                     Ok(()) => Ok(ended.end.outcome),
                     Err(failure) => Err(failure),

@@ -23,7 +23,7 @@ use command_requests::{Failure, Target};
 use elf32_reader::FILE_LIMIT;
 use observed_run::ObservedRun;
 use output_files::{Files, read_upto};
-use races::Race;
+use races::Finding;
 use runtime::{Config, MAX_INPUT, OpenFault, RecordedRun, RunEnd, Start, WriteSink, open_run};
 use std::alloc::Global;
 use std::io::{Read, Write};
@@ -33,13 +33,13 @@ use std::thread::Threads;
 
 /// A run that was attempted: how it ended, or why it didn't, and its texts.
 pub(crate) struct RunAttempt<'a, O> {
-    /// How it ended, what it left, and its races: none if they weren't wanted.
-    pub(crate) result: Result<(RunEnd, Vec<Race>), Failure<'a>>,
+    /// How it ended, what it left, and its findings: none if they weren't wanted.
+    pub(crate) result: Result<(RunEnd, Vec<Finding>), Failure<'a>>,
     /// The texts, which were told of each turn.
     pub(crate) items: Vec<Item<'a, O>>,
 }
 
-/// The run of the program of a file on the bytes of `stdin`, of which no turn is done, and the file's symbols if its races are
+/// The run of the program of a file on the bytes of `stdin`, of which no turn is done, and the file's symbols if its findings are
 /// wanted.
 pub(crate) fn open_file<'a, F: Files, R: Read>(
     alloc: Global,
@@ -66,7 +66,7 @@ pub(crate) fn open_file<'a, F: Files, R: Read>(
     open_all(alloc, elf.as_slice(), input.as_slice(), config, observes)
 }
 
-/// The run of the program that the bytes of a file are, and the file's symbols if its races are wanted.
+/// The run of the program that the bytes of a file are, and the file's symbols if its findings are wanted.
 fn open_all<'a>(
     alloc: Global,
     elf: &[u8],
@@ -102,7 +102,7 @@ pub fn open_bytes<'a>(
     }
 }
 
-/// Does all turns of a run, puts its output out, and tells the texts each turn. If its races are wanted, they are found, and the calling
+/// Does all turns of a run, puts its output out, and tells the texts each turn. If its findings are wanted, they are found, and the calling
 /// host thread does it all; else so many host threads at most do. A lost flush counts as a failure of `stdout`.
 pub(crate) fn run_start<'a, H: Threads + Wait + Sync, O: Write, W: Write>(
     rt: &H,
@@ -115,7 +115,7 @@ pub(crate) fn run_start<'a, H: Threads + Wait + Sync, O: Write, W: Write>(
 ) -> RunAttempt<'a, O>
     requires may { MayBegin (AreToldOf O.contents) (λ sink. sink.failures) start stdout.old items }
     ensures ended { IfOk result.result (λ ended. Ends (AreToldOf O.contents) (point_of start).setup ended.0 result.items) }
-    ensures races { IfOk result.result (λ ended. AreFound observes (point_of start).setup ended.1.items) }
+    ensures findings { IfOk result.result (λ ended. AreFound observes (point_of start).setup ended.1.items) }
     ensures same { wanted_by result.items.items ≡ wanted_by items.entry.items }
     ensures sent { IfOk result.result (λ ended.
         Appends (W.contents stdout.old.writer) (W.contents stdout.new.writer) ended.0.output.items) }
@@ -125,13 +125,13 @@ pub(crate) fn run_start<'a, H: Threads + Wait + Sync, O: Write, W: Write>(
         (record { files = files; output = W.contents stdout.old.writer; failures = stdout.old.failures })
         (record { files = files'; output = W.contents stdout.new.writer; failures = stdout.new.failures }) failure) }
 {
-    let ObservedRun { run, races } = run_wanted::<Brand, _, _, _>(
+    let ObservedRun { run, findings } = run_wanted::<Brand, _, _, _>(
         rt, alloc, start, workers, observes, items, stdout,
     );
     let RecordedRun { result, recorder } = run;
     let result = match result {
         Ok(end) => match stdout.finish() {
-            Ok(()) => Ok((end, races)),
+            Ok(()) => Ok((end, findings)),
             Err(_) => {
                 stdout.failures += 1;
                 Err(Failure::CannotWrite(Target::StandardOutput))
@@ -161,19 +161,19 @@ fn run_wanted<'a, B: AreWanted, H: Threads + Wait + Sync, O: Write, W: Write>(
     requires may { MayBegin (AreToldOf O.contents) (λ sink. sink.failures) start stdout.old items }
     requires wanted { wanted_by items.items ≡ B.wanted }
     ensures ended { IfOk result.run.result (λ end. Ends (AreToldOf O.contents) (point_of start).setup end result.run.recorder) }
-    ensures races { IfOk result.run.result (λ end. AreFound observes (point_of start).setup result.races.items) }
-    ensures none { OnErr result.run.result (result.races.items ≡ []) }
+    ensures findings { IfOk result.run.result (λ end. AreFound observes (point_of start).setup result.findings.items) }
+    ensures none { OnErr result.run.result (result.findings.items ≡ []) }
     ensures same { wanted_by result.run.recorder.items ≡ B.wanted }
     ensures sent { SendsSoFar (point_of start).setup result.run.result (W.contents stdout.old.writer) (W.contents stdout.new.writer) }
     ensures failures { CountsFailures stop.WriteFailed result.run.result stdout.old.failures stdout.new.failures }
     ensures writes { IfErr result.run.result (λ interruption. interruption ≡ stop.RecordFailed → HasWriting B.wanted) }
 {
     let all = Items::<'a, B, O>::new(items);
-    let ObservedRun { run, races } = run_by(rt, alloc, start, workers, observes, stdout, all);
+    let ObservedRun { run, findings } = run_by(rt, alloc, start, workers, observes, stdout, all);
     let RecordedRun { result, recorder } = run;
     let recorder = recorder.into_items();
     ObservedRun {
         run: RecordedRun { result, recorder },
-        races,
+        findings,
     }
 }

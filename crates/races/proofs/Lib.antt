@@ -1,7 +1,7 @@
 pub mod Blocked
 pub mod Clocked
 pub mod Follow
-pub mod Finding
+pub mod Found
 pub mod Gathered
 pub mod Kept
 pub mod Linked

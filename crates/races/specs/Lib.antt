@@ -2,11 +2,13 @@ pub mod Before
 pub mod Blocks
 pub mod Bytes
 pub mod Clocks
+pub mod Findings
 pub mod Hints
 pub mod Linked
 pub mod Races
-pub mod Recording
+pub mod Ranges
 pub mod Recent
+pub mod Recording
 pub mod Steps
 pub mod Texts
 pub mod Words

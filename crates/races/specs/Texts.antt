@@ -1,4 +1,4 @@
--- The text of races.
+-- The text of findings.
 use Rattle.std.specs.Prelude.{ℕ, ◌+◌, ◌-◌, ◌*◌, ◌%◌, ◌^◌, ◌==◌, if◌then◌else◌, nat_lt, Option, Some, None, List, [], ◌++◌, codes, decimal, length, map}
 use Rattle.std.specs.List.{flat_map}
 use Rattle.std.proofs.Common.{take}
@@ -6,6 +6,8 @@ use Rattle.symbols.specs.Covering.{NamedPlace, place_at}
 use Rattle.symbols.specs.Symbol.{SymbolLists}
 use Rattle.text_output.specs.Digits.{hexadecimal}
 use Rattle.races.specs.declared.byte_set.ByteSet.{ByteSet}
+use Rattle.races.specs.declared.finding.Finding.{Finding}
+use Rattle.races.specs.declared.finding.Finding.TheVariants as finding
 use Rattle.races.specs.declared.race.Race.{Race}
 use Rattle.races.specs.declared.site.Site.{Site}
 
@@ -24,7 +26,8 @@ address_of race = (race.word * 4 + lowest race.bytes) % 2 ^ 32
 -- an access
 unfoldable pub site_text : Site → List ℕ
 site_text site =
-    (if site.is_store then codes " store" else codes " load") ++ codes " thread=" ++ decimal site.thread ++ codes " turn=" ++ decimal site.turn ++ codes " pc=" ++ hexadecimal 8 site.pc
+    (if site.is_store then codes " store" else codes " load") ++ codes " thread=" ++ decimal site.thread ++ codes " turn=" ++ decimal site.turn ++ codes "+" ++ decimal site.instruction
+    ++ codes " pc=" ++ hexadecimal 8 site.pc
 
 -- which bytes race
 unfoldable pub bytes_text : Race → List ℕ
@@ -53,6 +56,10 @@ race_text symbols race = bytes_text race ++ site_text race.first ++ site_text ra
 unfoldable pub left_text : ℕ → List ℕ
 left_text count = if count == 0 then [] else codes "left out=" ++ decimal count ++ codes "\n"
 
--- the text of races: a line for each of the first 10,000
-unfoldable pub text_of : SymbolLists → List Race → List ℕ
-text_of symbols races = flat_map (race_text symbols) (take 10000 races) ++ left_text (length races - 10000)
+-- the line of a finding
+abbrev pub finding_text : SymbolLists → Finding → List ℕ
+finding_text symbols (finding.Race race) = race_text symbols race
+
+-- the text of findings: a line for each of the first 10,000
+unfoldable pub text_of : SymbolLists → List Finding → List ℕ
+text_of symbols findings = flat_map (finding_text symbols) (take 10000 findings) ++ left_text (length findings - 10000)

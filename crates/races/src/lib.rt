@@ -3,10 +3,13 @@
 
 mod block;
 mod byte_set;
+mod callers;
 mod clock;
 mod clock_owner;
 mod clocks;
 mod depths;
+mod finding;
+mod finding_recorder;
 mod found_race;
 mod fresh;
 mod guess;
@@ -14,6 +17,7 @@ mod hint_event;
 mod hint_kind;
 mod kept_access;
 mod latest;
+mod lengths;
 mod observed_event;
 mod ordered_race;
 mod page_history;
@@ -33,10 +37,12 @@ mod word_races;
 mod words;
 
 pub use byte_set::ByteSet;
+pub use finding::Finding;
+pub use finding_recorder::FindingRecorder;
 pub use hint_event::{HintEvent, HintSite};
 pub use hint_kind::HintKind;
 pub use observed_event::ObservedEvent;
 pub use race::Race;
 pub use recorder::RaceRecorder;
 pub use site::{Access, Site};
-pub use text::{MOST_LINES, races_text};
+pub use text::{MOST_LINES, findings_text};

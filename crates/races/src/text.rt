@@ -1,9 +1,10 @@
-//! The text of races: a line for each, with the names that a symbol table has for its places.
+//! The text of findings: a line for each, with the names that a symbol table has for its places.
 ghost use Rattle.std.specs.Prelude.{◌≡◌, ◌++◌, IfOk, OnOk, codes, decimal, if◌then◌else◌, option_map};
 ghost use Rattle.std.specs.String.{string_bytes};
 ghost use Rattle.symbols.specs.Covering.{told};
-ghost use Rattle.races.specs.Texts.{bytes_text, left_text, name_text, names_text, place_text, race_text, site_text, text_of};
+ghost use Rattle.races.specs.Texts.{bytes_text, finding_text, left_text, name_text, names_text, place_text, race_text, site_text, text_of};
 
+use crate::finding::Finding;
 use crate::race::Race;
 use crate::site::Site;
 use itoa::Buffer;
@@ -11,25 +12,38 @@ use std::alloc::{AllocError, Global};
 use symbols::{SymbolOffset, Symbols};
 use text_output::write_hexadecimal;
 
-/// As many races have a line.
+/// As many findings have a line.
 pub const MOST_LINES: usize = 10_000;
 
-/// The text of races: a line for each of the first [`MOST_LINES`], and one that says how many were left out, if any were. An object
+/// The text of findings: a line for each of the first [`MOST_LINES`], and one that says how many were left out, if any were. An object
 /// that covers a race's lowest byte and the functions that cover its instructions are named.
 ///
 /// # Errors
 ///
 /// Only out of memory.
-pub fn races_text(alloc: Global, races: &[Race], symbols: &Symbols) -> Result<String, AllocError>
-    ensures { IfOk result (λ text. string_bytes text ≡ text_of symbols.now races.now) }
+pub fn findings_text(
+    alloc: Global,
+    findings: &[Finding],
+    symbols: &Symbols,
+) -> Result<String, AllocError>
+    ensures { IfOk result (λ text. string_bytes text ≡ text_of symbols.now findings.now) }
 {
-    let (shown, left) = races.split_at(races.len().min(MOST_LINES));
+    let (shown, left) = findings.split_at(findings.len().min(MOST_LINES));
     let mut text = String::new(alloc);
-    for race in shown {
-        write_race(&mut text, race, symbols)?;
+    for finding in shown {
+        write_finding(&mut text, finding, symbols)?;
     }
     write_left(&mut text, left.len())?;
     Ok(text)
+}
+
+/// Appends the line of a finding.
+fn write_finding(text: &mut String, finding: &Finding, symbols: &Symbols) -> Result<(), AllocError>
+    ensures { OnOk result (string_bytes text.new ≡ string_bytes text.old ++ finding_text symbols.now finding.now) }
+{
+    match finding {
+        Finding::Race(race) => write_race(text, race, symbols),
+    }
 }
 
 /// Appends how many lines were left out, if any were.
@@ -44,7 +58,7 @@ fn write_left(text: &mut String, count: usize) -> Result<(), AllocError>
     text.push_str("\n")
 }
 
-/// Appends the line of a race, as `race address=00016038 bytes=4 store thread=1 turn=15 pc=00010188 store thread=2 turn=17
+/// Appends the line of a race, as `race address=00016038 bytes=4 store thread=1 turn=15+8 pc=00010188 store thread=2 turn=17+8
 /// pc=00010188 object=counter+0 in=add+20 in=add+20`.
 #[tactic(auto, unfolding(crate::specs::Texts::race_text))]
 fn write_race(text: &mut String, race: &Race, symbols: &Symbols) -> Result<(), AllocError>
@@ -112,7 +126,7 @@ fn write_bytes(text: &mut String, race: &Race) -> Result<(), AllocError>
     write_count(text, " bytes=", size)
 }
 
-/// Appends an access, as ` store thread=1 turn=15 pc=00010188`.
+/// Appends an access, as ` store thread=1 turn=15+8 pc=00010188`.
 #[tactic(auto, unfolding(crate::specs::Texts::site_text))]
 fn write_site(text: &mut String, site: Site) -> Result<(), AllocError>
     ensures { OnOk result (string_bytes text.new ≡ string_bytes text.old ++ site_text site) }
@@ -120,6 +134,7 @@ fn write_site(text: &mut String, site: Site) -> Result<(), AllocError>
     text.push_str(kind_of(site))?;
     write_count(text, " thread=", u64::from(site.thread))?;
     write_count(text, " turn=", site.turn)?;
+    write_count(text, "+", site.instruction)?;
     text.push_str(" pc=")?;
     write_hexadecimal(text, 8, site.pc)
 }

@@ -131,7 +131,7 @@ module _ (steps : List Step) (access : Access) (clocks : Clocks) where
             told.1,
             subst (λ (a : Access). IsToldBy (race_of access.word told.0) one.site a.site access.word place) (sym same) (record {
               word_is = refl;
-              pair = pair_trans told.0.first told.0.second hit.0.site access.site one.site access.site told.2.pair (inl (hit.3.1, (refl, refl)));
+              pair = pair_trans told.0.first told.0.second hit.0.site access.site one.site access.site told.2.pair (inl (hit.3.1, (refl, refl, refl)));
               has_it = told.2.has_it;
             }),
           )

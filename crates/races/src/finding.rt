@@ -1,0 +1,31 @@
+//! What is found in a run.
+ghost use Rattle.std.specs.Prelude.{◌≡◌};
+ghost use Rattle.races.specs.Findings.{moment, time_of};
+
+use crate::race::Race;
+
+/// What is found in a run.
+#[derive(Clone, Copy, Debug, PartialEq, Eq)]
+pub enum Finding {
+    /// Two accesses race.
+    Race(Race),
+}
+
+impl Finding {
+    /// When the last of its events came: the turn in the upper 64 bits, and in the lower ones how many instructions its thread executed in
+    /// the turn before.
+    pub fn time(&self) -> u128
+        ensures { result ≡ time_of self.now }
+    {
+        match self {
+            Finding::Race(race) => moment(race.second.turn, race.second.instruction),
+        }
+    }
+}
+
+/// The time of an instruction of a turn.
+fn moment(turn: u64, instruction: u64) -> u128
+    ensures { result ≡ moment turn instruction }
+{
+    u128::from(turn) * (1 << 64) + u128::from(instruction)
+}
