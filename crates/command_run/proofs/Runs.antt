@@ -41,7 +41,7 @@ use Rattle.command_requests.specs.Destination.{target_of}
 use Rattle.symbols.specs.Symbol.{SymbolLists}
 use Rattle.symbols.specs.Symbols.{symbols_of}
 use Rattle.command_run.specs.Observing.{AreFound}
-use Rattle.races.specs.Texts.{text_of}
+use Rattle.races.specs.FindingTexts.{text_of}
 use Rattle.races.specs.declared.finding.Finding.{Finding}
 use Rattle.command_run.specs.declared.opened_run.OpenedRun.{OpenedRun}
 use Rattle.command_run.specs.Serves.{left_after, AreOneFile, AreOpenedFrom, AreRun, AreWantedFindings, Concludes, Host, IsBegun, IsStopped, IsUnrun, LeavesTexts, RunRequest, RunsInto}

@@ -1,7 +1,7 @@
 -- The findings of a run as text.
 use Rattle.std.specs.Prelude.{◌≡◌, Bool, true, false, List, [], ℕ}
 use Rattle.observed_run.specs.Runs.{AreFindingsOf}
-use Rattle.races.specs.Texts.{text_of}
+use Rattle.races.specs.FindingTexts.{text_of}
 use Rattle.races.specs.declared.finding.Finding.{Finding}
 use Rattle.symbols.specs.Symbol.{SymbolLists}
 use Rattle.token.specs.Setup.{Setup}

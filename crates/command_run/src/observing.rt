@@ -2,7 +2,7 @@
 ghost use Rattle.std.specs.Prelude.{◌≡◌, [], IfErr, IfNone, IfOk, IfSome, OnErr, is_some};
 ghost use Rattle.std.specs.String.{string_bytes};
 ghost use Rattle.observed_run.specs.Runs.{MayBegin};
-ghost use Rattle.races.specs.Texts.{text_of};
+ghost use Rattle.races.specs.FindingTexts.{text_of};
 ghost use Rattle.runtime.specs.Recorded.{ComesTo};
 ghost use Rattle.symbols.specs.Symbols.{symbols_of};
 ghost use Rattle.token.specs.RunInTurn.{point_of};

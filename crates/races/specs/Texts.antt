@@ -1,13 +1,9 @@
--- The text of findings.
-use Rattle.std.specs.Prelude.{ℕ, ◌+◌, ◌-◌, ◌*◌, ◌%◌, ◌^◌, ◌==◌, if◌then◌else◌, nat_lt, Option, Some, None, List, [], ◌++◌, codes, decimal, length, map}
-use Rattle.std.specs.List.{flat_map}
-use Rattle.std.proofs.Common.{take}
+-- The text of a race.
+use Rattle.std.specs.Prelude.{ℕ, ◌+◌, ◌*◌, ◌%◌, ◌^◌, ◌==◌, if◌then◌else◌, nat_lt, Option, Some, None, List, [], ◌++◌, codes, decimal, map}
 use Rattle.symbols.specs.Covering.{NamedPlace, place_at}
 use Rattle.symbols.specs.Symbol.{SymbolLists}
 use Rattle.text_output.specs.Digits.{hexadecimal}
 use Rattle.races.specs.declared.byte_set.ByteSet.{ByteSet}
-use Rattle.races.specs.declared.finding.Finding.{Finding}
-use Rattle.races.specs.declared.finding.Finding.TheVariants as finding
 use Rattle.races.specs.declared.race.Race.{Race}
 use Rattle.races.specs.declared.site.Site.{Site}
 
@@ -55,11 +51,3 @@ race_text symbols race = bytes_text race ++ site_text race.first ++ site_text ra
 -- how many lines were left out, if any were
 unfoldable pub left_text : ℕ → List ℕ
 left_text count = if count == 0 then [] else codes "left out=" ++ decimal count ++ codes "\n"
-
--- the line of a finding
-abbrev pub finding_text : SymbolLists → Finding → List ℕ
-finding_text symbols (finding.Race race) = race_text symbols race
-
--- the text of findings: a line for each of the first 10,000
-unfoldable pub text_of : SymbolLists → List Finding → List ℕ
-text_of symbols findings = flat_map (finding_text symbols) (take 10000 findings) ++ left_text (length findings - 10000)

@@ -2,6 +2,8 @@
 ghost use Rattle.std.specs.Prelude.{◌≡◌};
 ghost use Rattle.races.specs.Findings.{moment, time_of};
 
+use crate::misuse::Misuse;
+use crate::order_fault::OrderFault;
 use crate::race::Race;
 
 /// What is found in a run.
@@ -9,6 +11,10 @@ use crate::race::Race;
 pub enum Finding {
     /// Two accesses race.
     Race(Race),
+    /// Two threads take two locks in both orders.
+    Order(OrderFault),
+    /// An object is misused.
+    Misuse(Misuse),
 }
 
 impl Finding {
@@ -19,6 +25,8 @@ impl Finding {
     {
         match self {
             Finding::Race(race) => moment(race.second.turn, race.second.instruction),
+            Finding::Order(fault) => moment(fault.second.turn, fault.second.instruction),
+            Finding::Misuse(misuse) => moment(misuse.call.turn, misuse.call.instruction),
         }
     }
 }

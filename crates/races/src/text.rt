@@ -2,12 +2,15 @@
 ghost use Rattle.std.specs.Prelude.{◌≡◌, ◌++◌, IfOk, OnOk, codes, decimal, if◌then◌else◌, option_map};
 ghost use Rattle.std.specs.String.{string_bytes};
 ghost use Rattle.symbols.specs.Covering.{told};
-ghost use Rattle.races.specs.Texts.{bytes_text, finding_text, left_text, name_text, names_text, place_text, race_text, site_text, text_of};
+ghost use Rattle.races.specs.FindingTexts.{finding_text, text_of};
+ghost use Rattle.races.specs.Texts.{bytes_text, left_text, names_text, place_text, race_text, site_text};
 
 use crate::finding::Finding;
+use crate::misuse_text::write_misuse;
+use crate::order_text::write_order;
+use crate::place_text::{write_number, write_symbol};
 use crate::race::Race;
 use crate::site::Site;
-use itoa::Buffer;
 use std::alloc::{AllocError, Global};
 use symbols::{SymbolOffset, Symbols};
 use text_output::write_hexadecimal;
@@ -43,6 +46,8 @@ fn write_finding(text: &mut String, finding: &Finding, symbols: &Symbols) -> Res
 {
     match finding {
         Finding::Race(race) => write_race(text, race, symbols),
+        Finding::Order(fault) => write_order(text, fault, symbols),
+        Finding::Misuse(misuse) => write_misuse(text, misuse, symbols),
     }
 }
 
@@ -54,7 +59,7 @@ fn write_left(text: &mut String, count: usize) -> Result<(), AllocError>
     if count == 0 {
         return Ok(());
     }
-    write_count(text, "left out=", count as u64)?;
+    write_number(text, "left out=", count as u64)?;
     text.push_str("\n")
 }
 
@@ -93,26 +98,11 @@ fn write_place(
     match place {
         Some(place) => {
             text.push_str(field)?;
-            write_name(text, place.name)?;
-            write_count(text, "+", u64::from(place.offset))
+            write_symbol(text, place.name)?;
+            write_number(text, "+", u64::from(place.offset))
         }
         None => Ok(()),
     }
-}
-
-/// Appends a symbol's name. A byte that is no ASCII becomes a question mark.
-#[tactic(auto, unfolding(crate::specs::Texts::name_text))]
-fn write_name(text: &mut String, name: &[u8]) -> Result<(), AllocError>
-    ensures { OnOk result (string_bytes text.new ≡ string_bytes text.old ++ name_text name.now) }
-{
-    for byte in name {
-        if *byte < 128 {
-            text.push(*byte as char)?;
-        } else {
-            text.push('?')?;
-        }
-    }
-    Ok(())
 }
 
 /// Appends which bytes race, as `race address=00016038 bytes=4`.
@@ -123,7 +113,7 @@ fn write_bytes(text: &mut String, race: &Race) -> Result<(), AllocError>
     let (address, size) = (race.address(), u64::from(race.size()));
     text.push_str("race address=")?;
     write_hexadecimal(text, 8, address)?;
-    write_count(text, " bytes=", size)
+    write_number(text, " bytes=", size)
 }
 
 /// Appends an access, as ` store thread=1 turn=15+8 pc=00010188`.
@@ -132,9 +122,9 @@ fn write_site(text: &mut String, site: Site) -> Result<(), AllocError>
     ensures { OnOk result (string_bytes text.new ≡ string_bytes text.old ++ site_text site) }
 {
     text.push_str(kind_of(site))?;
-    write_count(text, " thread=", u64::from(site.thread))?;
-    write_count(text, " turn=", site.turn)?;
-    write_count(text, "+", site.instruction)?;
+    write_number(text, " thread=", u64::from(site.thread))?;
+    write_number(text, " turn=", site.turn)?;
+    write_number(text, "+", site.instruction)?;
     text.push_str(" pc=")?;
     write_hexadecimal(text, 8, site.pc)
 }
@@ -144,12 +134,4 @@ fn kind_of(site: Site) -> &'static str
     ensures { result.now ≡ (if site.is_store then codes " store" else codes " load") }
 {
     if site.is_store { " store" } else { " load" }
-}
-
-/// Appends a count after its name.
-fn write_count(text: &mut String, name: &str, count: u64) -> Result<(), AllocError>
-    ensures { OnOk result (string_bytes text.new ≡ string_bytes text.old ++ name.now ++ decimal count) }
-{
-    text.push_str(name)?;
-    text.push_str(Buffer::new().format(count))
 }

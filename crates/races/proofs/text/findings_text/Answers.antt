@@ -2,7 +2,8 @@ use Rattle.std.proofs.Common.{◌≡◌, ◌∙◌, ◌++◌, ◌-◌, ℕ, ap, 
 use Rattle.std.specs.List.{flat_map}
 use Rattle.std.proofs.lemmas.Bool.{cases_lt}
 use Rattle.std.proofs.lemmas.List.{take_all}
-use Rattle.races.specs.Texts.{left_text, finding_text, text_of}
+use Rattle.races.specs.FindingTexts.{finding_text, text_of}
+use Rattle.races.specs.Texts.{left_text}
 use Rattle.races.specs.declared.finding.Finding.{Finding}
 use Rattle.races.proofs.text.findings_text.Goals as goal
 

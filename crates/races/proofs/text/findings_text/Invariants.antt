@@ -1,7 +1,7 @@
 use Rattle.std.proofs.Common.{◌≡◌, take}
 use Rattle.std.specs.List.{flat_map}
 use Rattle.std.specs.String.{string_bytes}
-use Rattle.races.specs.Texts.{finding_text}
+use Rattle.races.specs.FindingTexts.{finding_text}
 use Rattle.races.proofs.text.findings_text.Given as goal
 
 abbrev pub invariant-loop-finding : goal.invariant-loop-finding
