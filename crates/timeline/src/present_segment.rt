@@ -319,19 +319,6 @@ impl PresentSegment {
         matches!(self.next_instruction(), Some(Instr::Ecall))
     }
 
-    /// Whether the thread has changed a byte of an address's page.
-    pub(crate) fn has_changed_page_of(&self, address: u32) -> bool
-        ensures { result ≡ calls.has_changed_page_of (views.cells_of self.now.view) (snapshots.cells_of self.now.base) address }
-    {
-        let first = address / PAGE_SIZE * PAGE_SIZE;
-        for offset in 0..PAGE_SIZE {
-            if !self.agrees_with(&self.base, first + offset) {
-                return true;
-            }
-        }
-        false
-    }
-
     /// Whether the thread and a memory have the same byte at an address, or none.
     pub(crate) fn agrees_with(&self, memory: &Snapshot, address: u32) -> bool
         ensures { result ≡ calls.agree (views.cells_of self.now.view) (snapshots.cells_of memory.now) address }
