@@ -1,5 +1,5 @@
 -- Which locks are held.
-use Rattle.std.specs.Prelude.{ℕ, ◌==◌, ◌&&◌, if◌then◌else◌, nat_lt, Bool, true, false, Option, Some, None, List, [], ◌∷◌, fold, map, filter, position, remove}
+use Rattle.std.specs.Prelude.{ℕ, ◌==◌, ◌&&◌, if◌then◌else◌, nat_lt, not, Bool, true, false, Option, Some, None, List, [], ◌∷◌, fold, map, filter, position, remove}
 use Rattle.races.specs.declared.called_hint.CalledHint.{CalledHint}
 use Rattle.races.specs.declared.held_lock.HeldLock.{HeldLock}
 use Rattle.races.specs.declared.hint_kind.HintKind.{HintKind}
@@ -11,9 +11,16 @@ use Rattle.races.specs.declared.library_call.LibraryCall.{LibraryCall}
 abbrev pub has : (thread object : ℕ) → Holding → Bool
 has thread object holding = (holding.call.thread == thread) && (holding.lock.object == object)
 
--- a thread takes a lock
+-- two threads can't hold both at once
+abbrev pub excludes : HeldLock → HeldLock → Bool
+excludes lock other = (lock.object == other.object) && not (lock.is_shared && other.is_shared)
+
+-- a thread takes a lock: nobody holds one that it excludes any more
+abbrev pub with_taken : HeldLock → LibraryCall → List Holding → List Holding
+with_taken lock call held = record { lock = lock; call = call } ∷ filter (λ one. not (excludes lock one.lock)) held
+
 abbrev pub with_lock : Bool → List Holding → CalledHint → List Holding
-with_lock is_shared held hint = record { lock = record { object = hint.object; is_shared = is_shared }; call = hint.call } ∷ held
+with_lock is_shared held hint = with_taken (record { object = hint.object; is_shared = is_shared }) hint.call held
 
 -- a thread lets a lock go: of several holdings of one object, the latest
 abbrev pub without : List Holding → Option ℕ → List Holding

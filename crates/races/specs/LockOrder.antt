@@ -4,7 +4,7 @@ use Rattle.std.specs.Bool.{beq}
 use Rattle.std.specs.List.{list_any}
 use Rattle.std.specs.Cmp.Lexicographic.{pointwise}
 use Rattle.races.specs.Firsts.{firsts}
-use Rattle.races.specs.Holding.{held_after, locks_of}
+use Rattle.races.specs.Holding.{excludes, held_after, locks_of}
 use Rattle.races.specs.declared.acquisition.Acquisition.{Acquisition}
 use Rattle.races.specs.declared.called_hint.CalledHint.{CalledHint}
 use Rattle.races.specs.declared.crossings.Crossings.{Crossings}
@@ -53,10 +53,6 @@ acquired_from held (hint ∷ hints) = acquired_at held hint ++ acquired_from (he
 
 abbrev pub acquired_in : List CalledHint → List Acquired
 acquired_in hints = acquired_from [] hints
-
--- two threads can't hold both at once
-abbrev pub excludes : HeldLock → HeldLock → Bool
-excludes lock other = (lock.object == other.object) && not (lock.is_shared && other.is_shared)
 
 -- a gate: a lock because of which two threads can't be at these places at once
 abbrev pub have_gate : (held others : List HeldLock) → Bool

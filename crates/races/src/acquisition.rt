@@ -1,7 +1,8 @@
 //! A thread takes a lock while it holds others.
 ghost use Rattle.std.specs.Prelude.{◌≡◌};
 ghost use Rattle.std.specs.List.{list_any};
-ghost use Rattle.races.specs.LockOrder.{are_alike, are_crossed, excludes, fault_of, have_gate, holds, told};
+ghost use Rattle.races.specs.Holding.{excludes};
+ghost use Rattle.races.specs.LockOrder.{are_alike, are_crossed, fault_of, have_gate, holds, told};
 
 use crate::held_lock::HeldLock;
 use crate::library_call::LibraryCall;

@@ -1,6 +1,7 @@
 //! A lock that a thread holds.
 ghost use Rattle.std.specs.Prelude.{◌≡◌};
-ghost use Rattle.races.specs.LockOrder.{excludes, is_of};
+ghost use Rattle.races.specs.Holding.{excludes};
+ghost use Rattle.races.specs.LockOrder.{is_of};
 
 /// A lock that a thread holds.
 #[derive(Clone, Copy, PartialEq, Eq)]

@@ -1,6 +1,6 @@
 //! The locks that are held.
-ghost use Rattle.std.specs.Prelude.{◌≡◌, ◌<◌, [], IfOk, IfSome, OnOk, length, position};
-ghost use Rattle.races.specs.Holding.{has, held_after, holder_of, lower, locks_of, with_lock, without_lock};
+ghost use Rattle.std.specs.Prelude.{◌≡◌, ◌<◌, [], IfOk, IfSome, OnOk, filter, length, not, position};
+ghost use Rattle.races.specs.Holding.{excludes, has, held_after, holder_of, lower, locks_of, with_lock, without_lock};
 
 use crate::called_hint::CalledHint;
 use crate::held_lock::HeldLock;
@@ -42,7 +42,7 @@ impl Holdings {
         }
     }
 
-    /// A thread takes a lock.
+    /// A thread takes a lock. Whoever held one that it excludes holds it no longer: an owner that ended, for instance.
     fn take(&mut self, hint: &CalledHint, is_shared: bool) -> Result<(), AllocError>
         ensures { OnOk result (self.new.held.items ≡ with_lock is_shared self.old.held.items hint.now) }
     {
@@ -50,14 +50,20 @@ impl Holdings {
             object: hint.object,
             is_shared,
         };
-        self.held.insert(
-            0,
-            Holding {
-                lock,
-                call: hint.call,
-            },
-        )?;
+        self.drop_excluded(lock);
+        let own = Holding {
+            lock,
+            call: hint.call,
+        };
+        self.held.insert(0, own)?;
         Ok(())
+    }
+
+    /// Nobody holds a lock any more that this one excludes.
+    fn drop_excluded(&mut self, lock: HeldLock)
+        ensures { self.new.held.items ≡ filter (λ one. not (excludes lock one.lock)) self.old.held.items }
+    {
+        self.held.retain(|one| !lock.excludes(&one.lock));
     }
 
     /// A thread lets a lock go, the one that it took last if it took the object several times.

@@ -55,7 +55,7 @@ macro_rules! hint {
 }
 
 /// The rows.
-pub static ROWS: [Row; 20] = [
+pub static ROWS: [Row; 21] = [
     // Each thread takes the second lock while it holds the first.
     Row {
         name: "two locks in both orders",
@@ -375,6 +375,17 @@ pub static ROWS: [Row; 20] = [
             hint!(DestroyOfHeld, A, 4, 4, 1),
         ],
         text: "misuse destroy-of-held object=a+0 thread=4 turn=4+1 pc=00020000 held-by thread=2 since=2+1\n",
+    },
+    // A thread ends with it, and another one takes it.
+    Row {
+        name: "an owner that ended",
+        history: &[
+            hint!(Lock, A, 1, 1, 1),
+            hint!(EndWithLock, A, 1, 1, 5),
+            hint!(Lock, A, 2, 2, 1),
+            hint!(UnlockOfAnothers, A, 3, 3, 1),
+        ],
+        text: "misuse end-with-lock object=a+0 thread=1 turn=1+5 pc=00020000 held-by thread=1 since=1+1\nmisuse unlock-of-anothers object=a+0 thread=3 turn=3+1 pc=00020000 held-by thread=2 since=2+1\n",
     },
     // Nobody holds it any more.
     Row {
