@@ -45,7 +45,7 @@ alike_parts one other is =
 alike_crossed : (own one other : Acquired) → are_alike one other ≡ true → are_crossed one own ≡ are_crossed other own
 alike_crossed own one other is =
     let crossed : ℕ → ℕ → List HeldLock → Bool =
-    λ thread object held. not (thread == own.call.thread) && holds held own.object && holds own.held object && not (have_gate held own.held)
+    λ thread object held. holds own.held object && not (thread == own.call.thread) && holds held own.object && not (have_gate held own.held)
     in
     let same = alike_parts one other is in
     ap (λ (thread : ℕ). crossed thread one.object one.held) same.0

@@ -61,7 +61,7 @@ have_gate held others = list_any (λ lock. list_any (excludes lock) others) held
 -- Two acquisitions are crossed: two threads, each of which takes a lock that the other one holds, without a gate.
 abbrev pub are_crossed : Acquired → Acquired → Bool
 are_crossed first second =
-    not (first.call.thread == second.call.thread) && holds first.held second.object && holds second.held first.object && not (have_gate first.held second.held)
+    holds second.held first.object && not (first.call.thread == second.call.thread) && holds first.held second.object && not (have_gate first.held second.held)
 
 -- the same lock by the same thread with the same held locks
 abbrev pub are_same_locks : HeldLock → HeldLock → Bool

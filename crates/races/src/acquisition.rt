@@ -33,9 +33,9 @@ impl Acquisition {
     pub(crate) fn is_crossed(&self, other: &Acquisition) -> bool
         ensures { result ≡ are_crossed (told self.now) (told other.now) }
     {
-        self.call.thread != other.call.thread
+        holds(&other.held, self.object)
+            && self.call.thread != other.call.thread
             && holds(&self.held, other.object)
-            && holds(&other.held, self.object)
             && !have_gate(&self.held, &other.held)
     }
 

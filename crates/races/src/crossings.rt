@@ -31,7 +31,8 @@ impl Crossings {
 
     /// One more acquisition.
     pub(crate) fn add(&mut self, own: Acquisition) -> Result<(), AllocError>
-        ensures { OnOk result ((acquired : List Acquired) → KnowsCrossings self.old acquired → KnowsCrossings self.new (acquired ++ told own ∷ [])) }
+        ensures { OnOk result
+            ((acquired : List Acquired) → KnowsCrossings self.old acquired → KnowsCrossings self.new (acquired ++ told own ∷ [])) }
     {
         find_faults(&mut self.faults, &self.kept, &own)?;
         self.keep(own)
@@ -70,7 +71,8 @@ fn find_faults(
     kept: &[Acquisition],
     own: &Acquisition,
 ) -> Result<(), AllocError>
-    ensures { OnOk result (faults.new.items ≡ fold (with_new is_same_pair) faults.old.items (faults_at (map told kept.now) (told own.now))) }
+    ensures { OnOk result
+        (faults.new.items ≡ fold (with_new is_same_pair) faults.old.items (faults_at (map told kept.now) (told own.now))) }
 {
     for one in kept {
         if one.is_crossed(own) {

@@ -99,7 +99,8 @@ impl MisuseRecorder {
 
     /// Takes a hint.
     fn take(&mut self, hint: &CalledHint) -> Result<(), AllocError>
-        ensures misuses { OnOk result (self.new.misuses.items ≡ fold (with_new is_same_misuse) self.old.misuses.items (misuses_at self.old.holdings.held.items hint.now)) }
+        ensures misuses { OnOk result (self.new.misuses.items
+            ≡ fold (with_new is_same_misuse) self.old.misuses.items (misuses_at self.old.holdings.held.items hint.now)) }
         ensures held { OnOk result (self.new.holdings.held.items ≡ held_after self.old.holdings.held.items hint.now) }
         ensures users { self.new.users ≡ self.old.users }
     {
@@ -111,7 +112,8 @@ impl MisuseRecorder {
 
     /// Keeps a misuse, if none of its kind and object at its place is kept.
     fn keep(&mut self, hint: &CalledHint) -> Result<(), AllocError>
-        ensures misuses { OnOk result (self.new.misuses.items ≡ with_new is_same_misuse self.old.misuses.items (misuse_of self.old.holdings.held.items hint.now)) }
+        ensures misuses { OnOk result (self.new.misuses.items
+            ≡ with_new is_same_misuse self.old.misuses.items (misuse_of self.old.holdings.held.items hint.now)) }
         ensures holdings { self.new.holdings ≡ self.old.holdings }
         ensures users { self.new.users ≡ self.old.users }
     {

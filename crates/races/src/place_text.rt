@@ -19,7 +19,8 @@ pub(crate) fn write_place_or(
     bare: &str,
     address: u32,
 ) -> Result<(), AllocError>
-    ensures { OnOk result (string_bytes text.new ≡ string_bytes text.old ++ place_or_text field.now (option_map told place.entry) bare.now address) }
+    ensures { OnOk result
+        (string_bytes text.new ≡ string_bytes text.old ++ place_or_text field.now (option_map told place.entry) bare.now address) }
 {
     match place {
         Some(place) => {
