@@ -4,6 +4,9 @@ pub mod Crossed
 pub mod FirstOf
 pub mod Follow
 pub mod Found
+pub mod FreedListed
+pub mod FreedTold
+pub mod Freeing
 pub mod Gathered
 pub mod Kept
 pub mod Linked
@@ -12,6 +15,7 @@ pub mod Mapped
 pub mod Noting
 pub mod Order
 pub mod Paged
+pub mod Parted
 pub mod Plain
 pub mod Racing
 pub mod Repeated

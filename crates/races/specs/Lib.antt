@@ -5,10 +5,14 @@ pub mod Clocks
 pub mod FindingTexts
 pub mod Findings
 pub mod Firsts
+pub mod Freed
+pub mod FreedParts
+pub mod FreedRecording
 pub mod Hints
 pub mod Holding
 pub mod LibraryUsers
 pub mod Linked
+pub mod Lives
 pub mod LockOrder
 pub mod LockRecording
 pub mod LockTexts
