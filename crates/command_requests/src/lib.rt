@@ -20,6 +20,7 @@ mod requested_text;
 mod requirement;
 mod shuffling;
 mod target;
+mod telling;
 mod text;
 
 pub use arguments::arguments_of;

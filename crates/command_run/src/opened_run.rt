@@ -1,4 +1,5 @@
 //! A run that was opened, with the names that its findings are told by.
+use crate::explaining::Explaining;
 use runtime::Start;
 use symbols::Symbols;
 
@@ -9,4 +10,6 @@ pub(crate) struct OpenedRun {
     pub(crate) start: Start,
     /// The symbols of its file.
     pub(crate) symbols: Option<Symbols>,
+    /// What its end is explained by, if that is wanted.
+    pub(crate) explaining: Option<Explaining>,
 }

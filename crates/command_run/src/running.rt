@@ -1,5 +1,5 @@
 //! The command `run`: opens a file and its input, and runs them to their end.
-ghost use Rattle.std.specs.Prelude.{◌≡◌, ◌+◌, [], IfErr, IfOk, OnErr, OnOk, false};
+ghost use Rattle.std.specs.Prelude.{◌≡◌, ◌+◌, [], IfErr, IfOk, OnErr, OnOk, false, is_some};
 ghost use Rattle.std.specs.Io.KnownBytes.{Appends};
 ghost use Rattle.output_files.specs.Content.{Content};
 ghost use Rattle.output_files.specs.Taken.{TakesAtMost};
@@ -13,6 +13,7 @@ ghost use Rattle.observed_run.specs.Runs.{MayBegin};
 ghost use Rattle.command_run.specs.Observing.{AreFound};
 ghost use Rattle.command_run.specs.Serves.{AreRun, AreOpenedFrom, AreToldOf, IsOpenedFrom, IsReady, IsRefused, IsStopped, IsUnrun};
 
+use crate::explaining::wanted_explaining;
 use crate::item::Item;
 use crate::items::{AreWanted, Items};
 use crate::observing::{run_by, wanted_symbols};
@@ -40,17 +41,19 @@ pub(crate) struct RunAttempt<'a, O> {
 }
 
 /// The run of the program of a file on the bytes of `stdin`, of which no turn is done, and the file's symbols if its findings are
-/// wanted.
+/// wanted; and what its end is explained by, if that is wanted.
 pub(crate) fn open_file<'a, F: Files, R: Read>(
     alloc: Global,
     file: &'a str,
     config: &Config,
     observes: bool,
+    explains: bool,
     files: &F,
     stdin: &mut R,
 ) -> Result<OpenedRun, Failure<'a>>
     ensures input { TakesAtMost (limit.input + 1) (R.remaining stdin.old) (R.remaining stdin.new) }
     ensures ready { IfOk result (IsReady observes) }
+    ensures explained { IfOk result (λ opened. is_some opened.explaining ≡ explains) }
     ensures opened { IfOk result (λ opened. AreRun (F.content files.now file.now) (R.remaining stdin.old)
         (AreOpenedFrom config.now opened)) }
     ensures failed { IfErr result (IsUnrun file.now (F.content files.now file.now) (R.remaining stdin.old) config.now) }
@@ -63,24 +66,39 @@ pub(crate) fn open_file<'a, F: Files, R: Read>(
         Ok(input) => input,
         Err(fault) => return Err(Failure::of_read(Target::StandardInput, fault)),
     };
-    open_all(alloc, elf.as_slice(), input.as_slice(), config, observes)
+    open_all(
+        alloc,
+        elf.as_slice(),
+        input.as_slice(),
+        config,
+        observes,
+        explains,
+    )
 }
 
-/// The run of the program that the bytes of a file are, and the file's symbols if its findings are wanted.
+/// The run of the program that the bytes of a file are, the file's symbols if its findings are wanted, and what its end is explained by, if
+/// that is wanted.
 fn open_all<'a>(
     alloc: Global,
     elf: &[u8],
     input: &[u8],
     config: &Config,
     observes: bool,
+    explains: bool,
 ) -> Result<OpenedRun, Failure<'a>>
     ensures ready { IfOk result (IsReady observes) }
+    ensures explained { IfOk result (λ opened. is_some opened.explaining ≡ explains) }
     ensures opened { IfOk result (λ opened. AreOpenedFrom config.now opened elf.now input.now) }
     ensures failed { IfErr result (IsRefused elf.now input.now config.now) }
 {
     let start = open_bytes(alloc, elf, input, config)?;
     let symbols = wanted_symbols(alloc, elf, observes)?;
-    Ok(OpenedRun { start, symbols })
+    let explaining = wanted_explaining(alloc, elf, config, explains)?;
+    Ok(OpenedRun {
+        start,
+        symbols,
+        explaining,
+    })
 }
 
 /// The run of the program that the bytes of a file are, of which no turn is done.
