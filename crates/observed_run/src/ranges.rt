@@ -19,9 +19,7 @@ pub(crate) fn accesses(
     let first = address / 4;
     for step in 0..word_count(address, length) {
         let word = first.wrapping_add(step);
-        events.push(ObservedEvent::Access(Access::of_range(
-            site, word, address, length,
-        )))?;
+        events.push(ObservedEvent::Access(Access::of_range(site, word, address, length)))?;
     }
     Ok(events)
 }

@@ -3,7 +3,7 @@ ghost use Rattle.std.specs.Prelude.{OnOk};
 ghost use Rattle.observed_run.specs.Events.{listed};
 ghost use Rattle.observed_run.specs.Told.{IsTold};
 
-use races::{ObservedEvent, FindingRecorder};
+use races::{FindingRecorder, ObservedEvent};
 use std::alloc::AllocError;
 
 /// Tells an event, if there is one.

@@ -26,5 +26,5 @@ returns-clause-findings g c = λ none.
       events = led.0;
       ended = c.in_ok-outcome.ensures.ended;
       are_events = led.1;
-      are_findings = c.in_ok-findings.ensures led.0 led.2;
+      are_findings = c.in_ok-findings.ensures.found led.0 led.2;
     }
