@@ -7,12 +7,10 @@ import tempfile
 
 import gdb
 
+import elsewhere
 import engine
 
 HERE = os.path.dirname(os.path.realpath(__file__))
-# What another gdb is told first.
-SETTINGS = ("set confirm off", "set width 0", "set style enabled off", "set remotetimeout 30")
-PLACE = re.compile(r"^place: (\S+) (.*)$", re.M)
 
 
 def fail(text):
@@ -41,7 +39,7 @@ def without(words, name):
 
 
 class Session:
-    """The run that gdb debugs, by the command line to which it is connected; its engine elsewhere, and its list of findings."""
+    """The run that gdb debugs, by the command line to which it is connected; the engine beside it, and its list of findings."""
 
     def __init__(self, details):
         words = shlex.split(details.lstrip("| "))
@@ -49,13 +47,13 @@ class Session:
             fail("gdb is not connected to a command line with `dthreads debug`")
         at = words.index("debug")
         self.details, self.program, self.words = details, words[:at], without(words[at + 1 :], "--turn")
-        self.elsewhere, self.findings, self.others = None, None, []
+        self.second, self.findings, self.others = None, None, []
 
     def engine(self):
         """Returns a second `dthreads debug` of the same run."""
-        if self.elsewhere is None:
-            self.elsewhere = engine.Engine([*self.program, "debug", *self.words])
-        return self.elsewhere
+        if self.second is None:
+            self.second = engine.Engine([*self.program, "debug", *self.words])
+        return self.second
 
     def with_options(self, options):
         """Returns the words of a run with these options in place of its own; one with the value none is left out."""
@@ -65,8 +63,8 @@ class Session:
         return words
 
     def end(self):
-        if self.elsewhere is not None:
-            self.elsewhere.end()
+        if self.second is not None:
+            self.second.end()
 
 
 # The session, if there is one.
@@ -144,16 +142,9 @@ def of_run(it, words, option):
 
 
 def places(words, wanted):
-    """Returns where guest threads are at other positions of a run, by another gdb: `wanted` has texts `turn:instructions:thread`, or `end`
-    for all threads at the run's end. The texts come back, each with its place."""
-    it = session()
-    command = " ".join(map(shlex.quote, [*it.program, "debug", *words]))
-    target = ["-ex", f"target remote | {command}", "-x", f"{HERE}/places.py"]
-    settings = [word for it in SETTINGS for word in ("-iex", it)]
-    started = [os.readlink("/proc/self/exe"), "-q", "-nx", "-batch", *settings, gdb.current_progspace().filename, *target]
-    how = {"stdin": subprocess.DEVNULL, "stdout": subprocess.PIPE, "stderr": subprocess.STDOUT, "start_new_session": True}
-    ran = subprocess.run(started, env={**os.environ, "DTHREADS_PLACES": " ".join(wanted)}, **how)
-    return PLACE.findall(ran.stdout.decode(errors="replace"))
+    """Returns pairs of positions of a run with these words, and of where guest threads are there, by another gdb."""
+    command = [*session().program, "debug", *words]
+    return elsewhere.places(os.readlink("/proc/self/exe"), gdb.current_progspace().filename, command, wanted)
 
 
 # Texts.

@@ -1,12 +1,18 @@
 """Pictures of timelines: what is read of a run, and that each thing is drawn, once and within the picture."""
+import argparse
+import base64
 import contextlib
 import io
+import json
 import re
+import subprocess
 import unittest
+import zlib
 from unittest import mock
 from xml.etree import ElementTree
 
-from dt_commands import picture, picture_legend, picture_marks, picture_run, picture_svg, sample_pictures
+from dt_commands import picture, picture_chunks, picture_legend, picture_marks, picture_program, picture_run, picture_svg, picture_tables, sample_pictures
+from dt_commands.repository import TOP
 from rooms import WithRoom, data
 
 REPORT = "page=00020000 turns=2 bytes=3 threads=2 shared=1 clashes=1\npage=20000000 turns=1 bytes=1 threads=1 shared=0 clashes=0\n"
@@ -26,6 +32,10 @@ def drawn(timeline, **how):
     return ElementTree.fromstring(picture_svg.Picture(picture_run.Run(timeline), "name", **how).drawn())
 
 
+def numbers_of(critical):
+    return {it for it in range(100) if it in critical}
+
+
 def titles(tree):
     return [it.text.split("\n")[0] for it in tree.iter(f"{SVG}title")]
 
@@ -37,7 +47,7 @@ class Reading(unittest.TestCase):
             self.assertEqual((run.length, sum(it.ran for it in run.turns if it.number in run.critical)), (length, length))
 
     def test_the_critical_path_of_conditions(self):
-        self.assertEqual(picture_run.Run(CONDITIONS).critical, {1, 2, 5, 6, 7, 8, 9, 10, 12, 13, 14})
+        self.assertEqual(numbers_of(picture_run.Run(CONDITIONS).critical), {1, 2, 5, 6, 7, 8, 9, 10, 12, 13, 14})
 
     def test_segments_of_keepers_are_told_apart(self):
         self.assertEqual([it.turn for it in picture_run.Run(CONDITIONS).slices if it.kind == "keeper"], [9, 13])
@@ -56,6 +66,29 @@ class Reading(unittest.TestCase):
         races, others = picture_run.races_of(RACES)
         self.assertEqual([(it.turns, it.count) for it in races], [((3, 5), 2), ((4, 5), 1)])
         self.assertEqual(others, ["left out=7"])
+
+    def test_races_may_tell_instructions(self):
+        line = RACES.splitlines()[0].replace("turn=3", "turn=3+8").replace("turn=5", "turn=5+12")
+        self.assertEqual([it.turns for it in picture_run.races_of(line)[0]], [(3, 5)])
+
+    def test_a_file_may_have_other_lines(self):
+        whole = json.dumps(json.loads(CONDITIONS))
+        self.assertEqual(list(picture_run.Run(whole).slices), list(picture_run.Run(CONDITIONS).slices))
+        with mock.patch.object(picture_run, "TOGETHER", 100):
+            self.assertEqual(list(picture_run.Run(CONDITIONS).turns), list(picture_run.Run(whole).turns))
+
+    def test_tracks_have_the_threads_of_their_names(self):
+        later = re.sub(r'"tid":(\d+)', lambda it: f'"tid":{int(it[1]) + 1}', CONDITIONS)
+        self.assertEqual(list(picture_run.Run(later).slices), list(picture_run.Run(CONDITIONS).slices))
+
+    def test_the_outcome_in_a_sentence(self):
+        wanted = {
+            ONE_TURN: "exit 7: thread 0 ends the run in turn 1",
+            CONDITIONS: "trap: thread 0 at 00010014 in turn 14, cause 3, value 00000000",
+            BARRIERS: "deadlock: thread 0 waits in join since turn 5, thread 1 waits in join since turn 6, and no thread can run",
+            BARRIERS.replace('"name":"join"', '"name":"thread_exit"'): "finished: the last thread ends in turn 6",
+        }
+        self.assertEqual({it: picture_run.Run(it).outcome for it in wanted}, wanted)
 
     def test_races_in_words(self):
         races, _ = picture_run.races_of(RACES)
@@ -113,6 +146,60 @@ class Drawing(unittest.TestCase):
         self.assertIn("a &lt;b&gt; &amp; c", picture_svg.Picture(picture_run.Run(ONE_TURN), "a <b> & c").drawn())
 
 
+class Tables(unittest.TestCase):
+    def test_rows_are_those_that_were_put_in(self):
+        rows = [picture_run.Phase(it, it * 2, it * 3, it % 5, 1) for it in range(10_000)]
+        table = picture_tables.Table(picture_run.Phase, (picture_tables.SMALL, picture_tables.LARGE, picture_tables.LARGE, picture_tables.SMALL, picture_tables.SMALL))
+        for it in rows:
+            table.append(*it)
+        self.assertEqual((list(table), len(table), table[7], table[-1]), (rows, 10_000, rows[7], rows[-1]))
+        self.assertEqual(list(table.where(lambda it: it.threads == 2, lambda it: it._replace(pages=3))), [it._replace(pages=3) for it in rows if it.threads == 2])
+
+    def test_texts_are_kept_once(self):
+        texts = picture_tables.Texts()
+        texts.extend(("a", "b", "a"))
+        self.assertEqual((list(texts), texts[2], texts.every), (["a", "b", "a"], "a", ["a", "b"]))
+
+
+class Chunks(unittest.TestCase):
+    """The turns of a long run, for a page that is zoomed."""
+
+    def chunks(self):
+        with mock.patch.object(picture_chunks, "TURNS", 3):
+            picture_of = picture_svg.Picture(picture_run.Run(CONDITIONS), "name", zooms=True)
+            found = json.loads(re.search(r">(.*)</script>", picture_chunks.script(picture_of))[1])
+        return found, [json.loads(zlib.decompress(base64.b64decode(it))) for it in found["chunks"]]
+
+    def test_each_turn_is_in_one(self):
+        found, chunks = self.chunks()
+        turns = [it["turns"][at : at + 5] for it in chunks for at in range(0, len(it["turns"]), 5)]
+        self.assertEqual(sorted(it[0] for it in turns), list(range(1, 15)))
+        self.assertEqual((sum(found["counts"]), found["threads"], len(found["starts"])), (14, [0, 1, 2], len(chunks)))
+
+    def test_each_slice_is_where_it_has_a_part(self):
+        found, chunks = self.chunks()
+        bounds = list(zip(found["starts"], [*found["starts"][1:], 10**9]))
+        for it in picture_run.Run(CONDITIONS).slices:
+            for (start, end), chunk in zip(bounds, chunks):
+                rows = [chunk["slices"][at : at + picture_chunks.SLICE] for at in range(0, len(chunk["slices"]), picture_chunks.SLICE)]
+                is_there = any(row[2:5] == [it.start, it.end, it.turn] for row in rows)
+                if it.start < end and it.end > start:
+                    self.assertTrue(is_there, it)
+
+
+class ByTheProgram(unittest.TestCase):
+    def test_a_segment_is_looked_at_within(self):
+        turn = picture_run.Run(CONDITIONS).turns[0]
+        self.assertEqual(picture_program.looks(turn._replace(ran=0)), [])
+        self.assertEqual(picture_program.looks(turn._replace(ran=3)), [0, 1, 2])
+        self.assertEqual(picture_program.looks(turn._replace(ran=800)), [50, 150, 250, 350, 450, 550, 650, 750])
+
+    def test_the_function_that_is_seen_most_is_told(self):
+        lines = {1: ("main", " at a.c:1"), 2: ("add", " at a.c:5"), 3: ("add", " at a.c:6"), 4: ("strcpy", "")}
+        self.assertEqual(picture_program.most_of([1, 2, 3, 3], lines), "mostly in add at a.c:6: 3 of 4 looks")
+        self.assertEqual(picture_program.most_of([4, 4, 1], lines), "mostly in strcpy: 2 of 3 looks")
+
+
 class Marks(unittest.TestCase):
     def test_marks_keep_their_distance_at_each_zoom(self):
         places, marks = picture_marks.Places(), [it * it / 50 for it in range(200)]
@@ -137,6 +224,7 @@ class Command(WithRoom):
 
     def ran(self, *words):
         options = {"timeline": f"{self.room}/run.timeline", "report": None, "races": None, "phases": None, "name": None, "svg": False}
+        options.update(program=None, options=None)
         options.update(dict(zip(words[::2], words[1::2])))
         with contextlib.redirect_stdout(io.StringIO()) as out:
             picture.run(type("Options", (), options))
@@ -151,6 +239,18 @@ class Command(WithRoom):
         self.assertIn("left out=7", page)
         self.assertFalse(re.search(r"(?:src|href)=|@import|url\((?!#)", page))
 
+    def test_a_page_has_the_command_of_a_turn_and_the_outcome(self):
+        page = self.ran("options", "--shuffle 4 --input 'a b'")
+        self.assertIn("data-words=\"guest/dthreads-gdb run.elf --shuffle 4 --input 'a b'\"", page)
+        self.assertIn('data-turn="14"', page)
+        self.assertIn("<b>trap: thread 0 at 00010014 in turn 14, cause 3, value 00000000</b>", page)
+        self.assertNotIn('data-turn="', self.ran("svg", True))
+
+    def test_a_long_run_has_its_turns_for_the_script(self):
+        self.assertNotIn('id="turns"', self.ran())
+        with mock.patch.object(picture_svg, "TURNS", 5):
+            self.assertIn('id="turns"', self.ran())
+
     def test_the_picture_has_the_name_of_its_file(self):
         self.assertIn(">run</text>", self.ran("svg", True))
         self.assertIn(">other</text>", self.ran("svg", True, "name", "other"))
@@ -162,6 +262,15 @@ class Command(WithRoom):
             with self.subTest(words), self.assertRaises(SystemExit) as told:
                 self.ran(*words)
             self.assertTrue(str(told.exception).startswith("tools/dt picture: "))
+
+
+class Installed(unittest.TestCase):
+    def test_its_help_has_each_option(self):
+        ran = subprocess.run([f"{TOP}/guest/dthreads-picture", "--help"], stdout=subprocess.PIPE, universal_newlines=True)
+        parser = argparse.ArgumentParser(add_help=False)
+        picture.arguments(parser)
+        for it in parser._actions:
+            self.assertIn(f"    {it.option_strings[0]}" if it.option_strings else it.metavar, ran.stdout)
 
 
 class OfTheSample(unittest.TestCase):

@@ -13,7 +13,7 @@ from dt_commands import man_page, options
 from dt_commands.repository import TOP
 from dt_commands.texts import read_text
 
-COMMANDS = ("dthreads-cc", "dthreads-exec", "dthreads-gdb", "dthreads-lines", "dthreads-cargo")
+COMMANDS = ("dthreads-cc", "dthreads-exec", "dthreads-gdb", "dthreads-lines", "dthreads-picture", "dthreads-cargo")
 FORM = "tools/pages/dthreads-tool.1"
 BASH, ZSH = "completions/dthreads-tools", "completions/_dthreads-tools"
 # Commands that take the options of a command of `dthreads`, too.

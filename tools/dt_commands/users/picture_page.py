@@ -1,8 +1,9 @@
 """The page of a picture: one HTML file with nothing from elsewhere, which is complete without its script; the script zooms."""
 import os
-from xml.sax.saxutils import escape
+from collections import Counter
+from xml.sax.saxutils import escape, quoteattr
 
-from dt_commands import picture_svg
+from dt_commands import picture_chunks, picture_svg
 from dt_commands.picture_legend import of_page, said
 from dt_commands.picture_marks import FONT, count
 
@@ -50,15 +51,25 @@ def in_words(run):
     )
 
 
+def end_of(run):
+    """Returns how the run ended, and where its threads are then."""
+    places = run.told.at_end if run.told else []
+    rows = "".join(f"<li>{escape(it)}</li>\n" for it in places)
+    return f"<p><b>{escape(run.outcome)}</b></p>\n" + (f"<ul>{rows}</ul>\n" if rows else "")
+
+
 def threads(run):
     """Returns the table of the threads."""
+    spent, turns, on_path = Counter(), Counter(), Counter()
+    for kind, thread, start, end, turn, _ in run.slices:
+        spent[thread, kind] += end - start
+        if kind in ("segment", "keeper") and turn in run.critical:
+            on_path[thread] += end - start
+    turns.update(run.turns.column("thread"))
     rows = []
     for it in run.threads:
-        own = [one for one in run.slices if one.thread == it.number]
-        spent = {kind: sum(one.end - one.start for one in own if one.kind == kind) for kind in ("phase", "wait")}
-        on_path = sum(one.ran for one in run.turns if one.thread == it.number and one.number in run.critical)
-        turns = sum(one.thread == it.number for one in run.turns)
-        numbers_of = (turns, it.instructions, on_path, it.token, spent["phase"], spent["wait"])
+        waits = (spent[it.number, kind] for kind in ("phase", "wait"))
+        numbers_of = (turns[it.number], it.instructions, on_path[it.number], it.token, *waits)
         rows.append([f"thread {it.number}", *(f"{one:,}" for one in numbers_of)])
     heads = ["", "turns", "instructions", "on the critical path", "waits for the token", "waits for the phase", "waits in calls"]
     return "<h2>Threads</h2>\n" + table(heads, rows)
@@ -81,15 +92,17 @@ def pages(found):
     return f"<h2>Pages, {head}</h2>\n<ul>{rows}</ul>\n"
 
 
-def page(run, name, report, list_of_races, others):
-    """Returns the page of a run: with its report and its races, if they are not None."""
+def page(run, name, report, list_of_races, others, words):
+    """Returns the page of a run: with its report and its races, if they are not None, and the words of the command that debugs it."""
     picture = picture_svg.Picture(run, name, report, list_of_races or (), zooms=True, has_head=False)
     data = f'data-start="{run.start}" data-end="{run.end}" data-left="{picture_svg.LEFT}"'
     buttons = "".join(f'<button data-key="{key}" title="{told}">{text}</button>' for key, text, told in BUTTONS)
+    command = f'<p class="command" data-words={quoteattr(words)} hidden>This turn in gdb: <code></code><button>copy</button></p>\n'
     parts = [
-        f'<h1>{escape(name)}</h1>\n<p class="quiet">{run.said()}</p>\n', numbers(run), f'<div class="zoom">{buttons}</div>\n',
-        "<figure style=\"margin:0;clear:both\">" + picture.drawn().replace("<svg ", f"<svg {data} ", 1) + "</figure>\n", READING, threads(run),
+        f'<h1>{escape(name)}</h1>\n<p class="quiet">{run.said()}</p>\n', end_of(run), numbers(run), f'<div class="zoom">{buttons}</div>\n',
+        "<figure style=\"margin:0;clear:both\">" + picture.drawn().replace("<svg ", f"<svg {data} ", 1) + "</figure>\n", command, READING, threads(run),
         races(list_of_races, others) if list_of_races is not None else "", pages(report) if report else "",
+        "" if picture.is_detailed else picture_chunks.script(picture),
     ]
     head = f'<meta charset="utf-8"><meta name="viewport" content="width=device-width"><title>{escape(name)}: timeline</title>'
     style, script = beside("picture_page.css").replace("FONT", FONT), beside("picture_page.js")

@@ -45,7 +45,6 @@ class Picture:
         self.rows_end = self.top + self.pitch * len(run.threads)
         self.axis = self.rows_end + 2 * STRIP + 12
         self.scale = self.across / max(1, run.end - run.start)
-        self.turns = {it.number: it for it in run.turns}
 
     def x(self, time):
         """Returns where a time is in the plot."""
@@ -147,28 +146,33 @@ class Picture:
         is_run = it.kind in ("segment", "keeper")
         fill = COLOURS[it.kind] if is_run else f"url(#{it.kind})"
         edge = {"stroke": "#fff", "stroke_width": 0.8} if is_run and width > 3 else {}
-        drawn = element("rect", title(*self.told(it)), x=x, y=y, width=width, height=self.bar, fill=fill, **edge)
+        drawn = element("rect", title(*self.told(it)), x=x, y=y, width=width, height=self.bar, fill=fill, **self.turn_of(it.turn), **edge)
         if is_run and it.turn in self.run.critical:
             drawn += element("rect", x=x, y=y + self.bar - 1, width=width, height=3, fill=COLOURS["critical"])
-        text = self.turns[it.turn].name if is_run else it.name
+        text = self.run.turn(it.turn).name if is_run else it.name
         needed = width_of(text, 11) + 10
         if self.bar >= 13:
             kind = "w" if it.kind == "keeper" else None if is_run else "h"
             drawn += self.upright(x, words(text, 5, y + self.bar / 2 + 4, kind, pointer_events="none"), zoom_for(needed, width))
         return drawn
 
+    def turn_of(self, number):
+        """Returns the attribute by which a page knows a turn."""
+        return {"data_turn": number} if self.zooms else {}
+
     def told(self, it):
         """Returns what is said of a slice, in lines."""
-        turn, length = self.turns.get(it.turn), count(it.end - it.start, "instruction")
+        turn, length = self.run.turn(it.turn), count(it.end - it.start, "instruction")
         if it.kind in ("segment", "keeper"):
             keeps = ", keeping the token" if it.kind == "keeper" else ""
             changed = f"changed {count(turn.changed, 'byte')} in {count(turn.pages, 'page')}" if turn.changed else "changed nothing"
             on_path = ["on the critical path"] if it.turn in self.run.critical else []
             head = [f"turn {it.turn}: thread {it.thread}, phase {turn.phase}", f"{length} from {it.start:,} on{keeps}"]
-            return [*head, turn.text, changed, *on_path]
+            return [*head, turn.text, changed, *on_path, *(self.run.told.of_turn(it.turn) if self.run.told else [])]
         why = {"token": "waits for the token", "phase": "waits for the phase's other turns"}.get(it.kind, f"waits: {it.name}")
         where = f"before turn {it.turn}" if it.kind == "token" else f"after turn {it.turn}"
-        return [f"thread {it.thread} {why}, {where}", f"{length} from {it.start:,} on"]
+        place = self.run.told.of_wait(it.turn) if self.run.told and it.kind == "wait" else ""
+        return [f"thread {it.thread} {why}, {where}", f"{length} from {it.start:,} on", *([place] if place else [])]
 
     def marks(self):
         """Returns a mark at each turn, and its number."""
@@ -176,7 +180,7 @@ class Picture:
         for it in self.run.turns:
             x, y = self.x(it.time), self.y(it.thread)
             told = title(f"turn {it.number}: thread {it.thread} at {it.time:,}", it.text)
-            line = element("line", told, y1=y - 3, y2=y + self.bar + 2, stroke="#111827", stroke_width=1.4)
+            line = element("line", told, y1=y - 3, y2=y + self.bar + 2, stroke="#111827", stroke_width=1.4, **self.turn_of(it.number))
             drawn += self.upright(x, line, lines.zoom(it.thread, x, 12 if len(self.run.turns) > 100 else 3))
             if self.pitch >= 34:
                 number = words(it.number, -3, y - 5, "k r", pointer_events="none")
@@ -228,10 +232,11 @@ class Picture:
         """Returns two diamonds for each race, at its turns, with a dotted line between them."""
         places, drawn = Places(), ""
         for race in sorted(self.races, key=lambda it: it.turns):
-            if not all(it in self.turns and self.turns[it].thread in self.row for it in race.turns):
+            both = [self.run.turn(it) for it in race.turns]
+            if not all(it and it.thread in self.row for it in both):
                 continue
             ends = []
-            for it in (self.turns[number] for number in race.turns):
+            for it in both:
                 ends.append((self.x(it.begin) + it.ran * self.scale * 0.72, self.y(it.thread) + self.bar / 2))
             zoom = places.zoom(0, ends[0][0], 3)
             if zoom is None or zoom > 1 and not self.zooms:
