@@ -61,7 +61,8 @@ def run_of(options):
 
 def command_of(options, name):
     """Returns the command that debugs the run, but for the turn."""
-    return shlex.join(["guest/dthreads-gdb" if CALLED != INSTALLED else "dthreads-gdb", options.program or f"{name}.elf", *shlex.split(options.options or "")])
+    gdb = "dthreads-gdb" if CALLED == INSTALLED else "guest/dthreads-gdb"
+    return shlex.join([gdb, options.program or f"{name}.elf", *shlex.split(options.options or "")])
 
 
 def drawn(options):

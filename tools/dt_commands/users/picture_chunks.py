@@ -10,7 +10,7 @@ import zlib
 from array import array
 
 from dt_commands.picture_marks import COLOURS
-from dt_commands.picture_run import KINDS
+from dt_commands.picture_run import KINDS, Slice
 
 # How many turns a chunk has, and how many are drawn at most.
 TURNS, DRAWN = 1000, 2000
@@ -29,7 +29,7 @@ class Chunk:
 
     def packed(self):
         told = json.dumps({"slices": self.slices.tolist(), "turns": self.turns.tolist(), "texts": list(self.texts)}, separators=(",", ":"))
-        return base64.b64encode(zlib.compress(told.encode(), 6)).decode()
+        return base64.b64encode(zlib.compress(told.encode(), 3)).decode()
 
 
 def chunks(picture):
@@ -38,16 +38,17 @@ def chunks(picture):
     times = run.turns.column("time")
     starts = [run.start] + sorted({times[at] for at in range(TURNS, len(times), TURNS)} - {run.start})
     found = [Chunk() for _ in starts]
-    for kind, thread, start, end, turn, name in run.slices:
+    numbers = {it: at for at, it in enumerate(KINDS)}
+    for kind, thread, start, end, turn, name in run.slices.values(*Slice._fields):
         at = max(0, bisect.bisect_right(starts, start) - 1)
         # (a long slice is in each chunk whose time it has a part of)
         while at < len(starts) and (starts[at] < end or starts[at] == start):
             it = found[at]
-            it.slices.extend((KINDS.index(kind), picture.row[thread], start, end, turn, it.number(name)))
+            it.slices.extend((numbers[kind], picture.row[thread], start, end, turn, it.number(name)))
             at += 1
-    for it in run.turns:
-        chunk = found[max(0, bisect.bisect_right(starts, it.time) - 1)]
-        chunk.turns.extend((it.number, picture.row[it.thread], it.time, chunk.number(it.name), chunk.number(it.text)))
+    for number, thread, time, name, text in run.turns.values("number", "thread", "time", "name", "text"):
+        chunk = found[max(0, bisect.bisect_right(starts, time) - 1)]
+        chunk.turns.extend((number, picture.row[thread], time, chunk.number(name), chunk.number(text)))
     return starts, found
 
 
@@ -56,7 +57,8 @@ def script(picture):
     starts, found = chunks(picture)
     counts = [len(it.turns) // 5 for it in found]
     told = {
-        "starts": starts, "counts": counts, "most": DRAWN, "kinds": KINDS, "threads": [it.number for it in picture.run.threads], "bar": picture.bar,
-        "rows": [picture.y(it.number) for it in picture.run.threads], "colours": COLOURS, "chunks": [it.packed() for it in found],
+        "starts": starts, "counts": counts, "most": DRAWN, "kinds": KINDS, "colours": COLOURS, "bar": picture.bar,
+        "threads": [it.number for it in picture.run.threads], "rows": [picture.y(it.number) for it in picture.run.threads],
+        "chunks": [it.packed() for it in found],
     }
     return f'<script type="application/json" id="turns">{json.dumps(told, separators=(",", ":"))}</script>\n'

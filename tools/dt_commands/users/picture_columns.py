@@ -27,14 +27,15 @@ def columns(picture):
 def use(picture, every):
     """Returns for each thread and column how many instructions of its time go into each kind of slice, and into the critical path."""
     starts, found = [it.start for it in every], defaultdict(lambda: defaultdict(int))
-    for it in picture.run.slices:
-        on_path = it.kind in ("segment", "keeper") and it.turn in picture.run.critical
-        at = max(0, bisect.bisect(starts, it.start) - 1)
-        while at < len(every) and every[at].start < it.end:
-            part = min(it.end, every[at].end) - max(it.start, every[at].start)
+    for kind, thread, start, end, turn in picture.run.slices.values("kind", "thread", "start", "end", "turn"):
+        on_path = kind in ("segment", "keeper") and turn in picture.run.critical
+        at = max(0, bisect.bisect(starts, start) - 1)
+        while at < len(every) and every[at].start < end:
+            part = min(end, every[at].end) - max(start, every[at].start)
             if part > 0:
-                found[it.thread, at][it.kind] += part
-                found[it.thread, at]["critical"] += part if on_path else 0
+                cell_of = found[thread, at]
+                cell_of[kind] += part
+                cell_of["critical"] += part if on_path else 0
             at += 1
     return found
 

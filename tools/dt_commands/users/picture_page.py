@@ -61,7 +61,7 @@ def end_of(run):
 def threads(run):
     """Returns the table of the threads."""
     spent, turns, on_path = Counter(), Counter(), Counter()
-    for kind, thread, start, end, turn, _ in run.slices:
+    for kind, thread, start, end, turn in run.slices.values("kind", "thread", "start", "end", "turn"):
         spent[thread, kind] += end - start
         if kind in ("segment", "keeper") and turn in run.critical:
             on_path[thread] += end - start
@@ -99,8 +99,10 @@ def page(run, name, report, list_of_races, others, words):
     buttons = "".join(f'<button data-key="{key}" title="{told}">{text}</button>' for key, text, told in BUTTONS)
     command = f'<p class="command" data-words={quoteattr(words)} hidden>This turn in gdb: <code></code><button>copy</button></p>\n'
     parts = [
-        f'<h1>{escape(name)}</h1>\n<p class="quiet">{run.said()}</p>\n', end_of(run), numbers(run), f'<div class="zoom">{buttons}</div>\n',
-        "<figure style=\"margin:0;clear:both\">" + picture.drawn().replace("<svg ", f"<svg {data} ", 1) + "</figure>\n", command, READING, threads(run),
+        f'<h1>{escape(name)}</h1>\n<p class="quiet">{run.said()}</p>\n', end_of(run), numbers(run),
+        f'<div class="zoom">{buttons}</div>\n',
+        "<figure style=\"margin:0;clear:both\">" + picture.drawn().replace("<svg ", f"<svg {data} ", 1) + "</figure>\n",
+        command, READING, threads(run),
         races(list_of_races, others) if list_of_races is not None else "", pages(report) if report else "",
         "" if picture.is_detailed else picture_chunks.script(picture),
     ]

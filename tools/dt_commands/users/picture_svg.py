@@ -112,13 +112,14 @@ class Picture:
 
     def lanes(self):
         """Returns the ground of each row, from the thread's first moment to its last."""
-        ends = {}
-        for it in self.run.slices:
-            start, end = ends.get(it.thread, (it.start, it.end))
-            ends[it.thread] = (min(start, it.start), max(end, it.end))
+        starts, ends = {}, {}
+        for thread, start, end in self.run.slices.values("thread", "start", "end"):
+            # (the slices of a thread come in the order of time)
+            starts.setdefault(thread, start)
+            ends[thread] = end
         return "".join(
-            element("rect", x=self.x(start), y=self.y(it), width=(end - start) * self.scale, height=self.bar, fill="#f4f5f7")
-            for it, (start, end) in ends.items()
+            element("rect", x=self.x(start), y=self.y(it), width=(ends[it] - start) * self.scale, height=self.bar, fill="#f4f5f7")
+            for it, start in starts.items()
         ) + "\n"
 
     def phases(self):

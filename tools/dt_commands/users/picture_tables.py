@@ -62,6 +62,10 @@ class Table:
         self.put()
         return self.columns[self.row._fields.index(name)]
 
+    def values(self, *names):
+        """Returns the values of some columns, row by row."""
+        return zip(*map(self.column, names))
+
     def where(self, is_kept, change=lambda it: it):
         """Returns a table of the rows that are kept, as they are changed."""
         found = Table(self.row, self.kinds)
