@@ -27,6 +27,7 @@ CASES = "guest/tests/."
 # (the sessions of gdb come first, since they wait more than they compute)
 PARTS = [
     Part("sessions of gdb", ["test", "gdb"], 4, ["guest/tests/gdb"]),
+    Part("sessions of editors", ["test", "editors"], 1, ["guest/tests/gdb"]),
     Part("hints", ["test", "hints"], 4, [CASES]),
     Part("guest programs", ["test", "guest"], 4, [CASES, "guest/tests/refused"]),
     Part("timelines", ["test", "timeline", "--brief"], 4, [CASES, "crates/test_guest_runs/data", "docs/pictures"]),
