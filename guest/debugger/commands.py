@@ -18,10 +18,11 @@ from diff import Diff
 from origin import Origin
 from races import Race, Races
 from session import end_session
-from threads import Ends, Tls, name_threads
+from threads import Ends, Tls, name_threads, note_stop
 
 gdb.execute(f"source {os.path.dirname(HERE)}/dthreads.gdb")
 for command in (Dthreads, Races, Race, Origin, Diff, Ends, Tls):
     command(command.__name__.lower())
 gdb.events.exited.connect(end_session)
-gdb.events.stop.connect(name_threads)
+gdb.events.stop.connect(note_stop)
+gdb.events.before_prompt.connect(name_threads)

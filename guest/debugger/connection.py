@@ -31,4 +31,4 @@ one."""
         elif "none" in words:
             words = without(words, "--quantum")
         command = " ".join(map(shlex.quote, [program(), "debug", file, *words]))
-        gdb.execute(f"target remote | {command}")
+        gdb.execute(f"target extended-remote | {command}")

@@ -6,8 +6,8 @@ import gdb
 
 from session import Words, fail, of_run, of_symbol, place_and_type, places, session, symbol_at, typed
 
-# How many rows it prints.
-MOST_ROWS, PAGE = 40, 4096
+# How many rows it prints, and how many bytes of one.
+MOST_ROWS, SHOWN, PAGE = 40, 16, 4096
 # Types whose values are shown whole.
 PLAIN = (gdb.TYPE_CODE_INT, gdb.TYPE_CODE_PTR, gdb.TYPE_CODE_ENUM, gdb.TYPE_CODE_BOOL, gdb.TYPE_CODE_FLT, gdb.TYPE_CODE_CHAR)
 # How names of the C library's own data begin.
@@ -61,7 +61,8 @@ def element_at(name, kind, offset):
             at = (offset - start) // max(1, kind.sizeof)
             name, start = f"{name}[{at}]", start + at * kind.sizeof
         elif plain.code == gdb.TYPE_CODE_STRUCT:
-            inside = [it for it in plain.fields() if hasattr(it, "bitpos") and not it.bitsize and 0 <= offset - start - it.bitpos // 8 < it.type.sizeof]
+            members = [it for it in plain.fields() if hasattr(it, "bitpos") and not it.bitsize]
+            inside = [it for it in members if 0 <= offset - start - it.bitpos // 8 < it.type.sizeof]
             if not inside:
                 return None
             name, start, kind = f"{name}.{inside[0].name}", start + inside[0].bitpos // 8, inside[0].type
@@ -94,8 +95,8 @@ def rows_of(before, behind, address):
                 yield 0, f"{part[0]}: {one} -> {two}"
                 shown.add(part[1])
             elif not part:
-                name = of_symbol(at)
-                yield 2 if name.startswith(OF_LIBRARY) else 1, f"{name}, {end - at} bytes: {old[at - place:][:16].hex()} -> {new[at - place:][:16].hex()}"
+                name, one, two = of_symbol(at), old[at - place :][:SHOWN].hex(), new[at - place :][:SHOWN].hex()
+                yield 2 if name.startswith(OF_LIBRARY) else 1, f"{name}, {end - at} bytes: {one} -> {two}"
             at = last
 
 

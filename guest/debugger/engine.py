@@ -12,7 +12,8 @@ Position = namedtuple("Position", "turn instructions step phase thread is_end")
 # shared memory behind it, and as they were there before.
 Turn = namedtuple("Turn", "number phase thread text")
 Write = namedtuple("Write", "turn thread base stored before")
-WHERE = re.compile(r"turn (\d+) phase (\d+) thread (\d+) \(gdb thread id \d+\), (?:(\d+) instructions? into the turn|(the run's end)); step (\d+)")
+WHERE = re.compile(
+    r"turn (\d+) phase (\d+) thread (\d+) \(gdb thread id \d+\), (?:(\d+) instructions? into the turn|(the run's end)); step (\d+)")
 LINE = re.compile(r"(\d+): (\d+) (\d+) (.*)")
 WRITER = re.compile(r"turn (\d+) thread (\d+): ([0-9a-f]*) -> ([0-9a-f]*)(?: \(shared before: ([0-9a-f]*)\))?")
 SHOWS = re.compile(r"guest (\d+) \(gdb thread id \d+\): (.*); shows (.*)")
@@ -45,7 +46,8 @@ class Engine:
     def __init__(self, command):
         try:
             # (a session of its own: what interrupts gdb doesn't reach it)
-            self.process = subprocess.Popen(command, stdin=subprocess.PIPE, stdout=subprocess.PIPE, stderr=subprocess.DEVNULL, start_new_session=True)
+            how = {"stdin": subprocess.PIPE, "stdout": subprocess.PIPE, "stderr": subprocess.DEVNULL, "start_new_session": True}
+            self.process = subprocess.Popen(command, **how)
         except OSError as why:
             raise Failure(f"{command[0]}: {why.strerror}") from None
         self.console, self.said_at_end, self.last = "", "", None

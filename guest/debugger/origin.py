@@ -14,7 +14,8 @@ AS_BEGUN = "nobody so far: as the program began"
 def of_store(store):
     """Returns a store in words; that of a function without lines with its caller."""
     what, at = "read of the input" if store.call else "store", store.position
-    return f"{time_of(at.turn, at.instructions)}, guest {at.thread}: {what} in {place_of(store.pc)}{caller_of(store) if not line_of(store.pc) else ''}"
+    caller = "" if line_of(store.pc) else caller_of(store)
+    return f"{time_of(at.turn, at.instructions)}, guest {at.thread}: {what} in {place_of(store.pc)}{caller}"
 
 
 def caller_of(store):

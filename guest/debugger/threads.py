@@ -1,13 +1,15 @@
 """The commands tls and ends, and the names of threads."""
+import functools
 import re
 import struct
 
 import gdb
 
-from session import Words, asked, fail, places, session
+from session import Words, fail, places, read, session
 
 # The record of a thread in the C library: where its number and its name are.
-RECORDS, OF_CREATED, OF_NAME, OF_SIZE = "dthreads_own_threads", "dthreads_thread_created", "dthreads_thread_name", "dthreads_thread_size"
+RECORDS, OF_SIZE = "dthreads_own_threads", "dthreads_thread_size"
+OF_CREATED, OF_NAME = "dthreads_thread_created", "dthreads_thread_name"
 NAME_BYTES, UNNAMED = 16, "program"
 # Of ELF: the kinds of a table of symbols and of a thread-local symbol, and the sizes of their entries.
 SYMBOLS, THREAD_LOCAL, SECTION_BYTES, SYMBOL_BYTES = 2, 6, 40, 16
@@ -81,6 +83,12 @@ def value_of(symbol):
         return None
 
 
+@functools.lru_cache(maxsize=1)
+def places_of(file):
+    """Returns where the program in a file has the records of threads, and where a record has what is shown."""
+    return [value_of(it) for it in (RECORDS, OF_CREATED, OF_NAME, OF_SIZE)]
+
+
 def name_of(guest, record, created, name):
     """Returns the name of a thread of the C library: its place among those that pthread_create made, and what pthread_setname_np gave it."""
     number = int.from_bytes(record[created : created + 4], "little")
@@ -89,9 +97,25 @@ def name_of(guest, record, created, name):
     return f"guest {guest}{made}{f' {given}' if given not in ('', UNNAMED) else ''}"
 
 
-def name_threads(*_):
-    """Gives the threads of the C library their names."""
-    records, created, name, size = (value_of(it) for it in (RECORDS, OF_CREATED, OF_NAME, OF_SIZE))
+# Whether gdb speaks to a program, which has no prompt.
+IS_MACHINE = re.search(r"\0--?i(nterpreter)?[=\0]mi", read("/proc/self/cmdline")) is not None
+# The stops whose threads have no names yet.
+UNNAMED_STOPS = []
+
+
+def note_stop(stop):
+    """Names the threads of a stop at the next prompt: a script that steps pays nothing for it."""
+    UNNAMED_STOPS[:] = [stop]
+    if IS_MACHINE:
+        name_threads()
+
+
+def name_threads():
+    """Gives the threads of the C library their names if the program has stopped."""
+    if not UNNAMED_STOPS:
+        return
+    UNNAMED_STOPS.clear()
+    records, created, name, size = places_of(gdb.current_progspace().filename)
     if None in (records, created, name, size) or gdb.selected_thread() is None:
         return
     threads = gdb.selected_inferior().threads()
@@ -101,4 +125,6 @@ def name_threads(*_):
         return
     for thread in threads:
         guest = thread.ptid[1] - 1
-        thread.name = name_of(guest, data[guest * size :], created, name)
+        told = name_of(guest, data[guest * size :], created, name)
+        if thread.name != told:
+            thread.name = told

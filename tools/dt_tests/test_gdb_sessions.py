@@ -154,9 +154,9 @@ class Starting(unittest.TestCase):
             environment = {"PATH": room, "DTHREADS": f"{room}/dthreads"}
             how = {"stdout": subprocess.PIPE, "stderr": subprocess.PIPE, "env": environment, "cwd": room, "text": True}
             ran = subprocess.run([f"{guest_runs.KIT}/dthreads-gdb", *words], **how)
-            target = [it for it in ran.stdout.splitlines() if it.startswith("target remote | ")]
+            target = [it for it in ran.stdout.splitlines() if it.startswith("target extended-remote | ")]
             how["stderr"] = None
-            said = subprocess.run(["sh", "-c", target[0][len("target remote | ") :]], **how).stdout if target else ""
+            said = subprocess.run(["sh", "-c", target[0][len("target extended-remote | ") :]], **how).stdout if target else ""
             return ran, said
 
     def test_the_missing_package_is_named(self):
