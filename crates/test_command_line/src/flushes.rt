@@ -34,7 +34,7 @@ static RECORDED: [&str; 15] = [
     "timeline",
     "--report",
     "report",
-    "--races",
+    "--check",
     "races",
     "--core",
     "core",

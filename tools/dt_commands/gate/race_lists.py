@@ -64,7 +64,7 @@ def list_of(elf, words=(), given=None):
     """Returns the list of a run, or what went wrong in its place."""
     with tempfile.TemporaryDirectory() as room, open(given or os.devnull, "rb") as it:
         races = f"{room}/races"
-        command = [guest_runs.program(), "run", elf, "--races", races, *words]
+        command = [guest_runs.program(), "run", elf, "--check", races, *words]
         ran = subprocess.run(command, stdin=it, stdout=subprocess.DEVNULL, stderr=subprocess.PIPE, timeout=SECONDS, check=False)
         if not os.path.exists(races):
             return f"no list: status {ran.returncode}, {ran.stderr[:200].decode(errors='replace')}"
@@ -110,7 +110,7 @@ def arguments(parser):
 
 
 def test(options):
-    """Runs programs in C with --races: the cases have the expected races, correct programs and samples none."""
+    """Runs programs in C with --check: the cases have the expected races, correct programs and samples none."""
     tasks = [(it, lambda tally, room, it=it: test_case(tally, room, it, CASES[it])) for it in CASES]
     tasks += [(it.name, lambda tally, room, it=it: test_right(tally, room, it)) for it in programs()]
     does = lambda tally, room, task: task[1](tally, room)

@@ -86,7 +86,7 @@ def compiled(words, out, where):
 def races_of(elf, words, given, room):
     """Returns the races of a run, each as RACY writes it."""
     races = f"{room}/races"
-    command = [f"{guest_runs.KIT}/dthreads-exec", elf, "--races", races, *words]
+    command = [f"{guest_runs.KIT}/dthreads-exec", elf, "--check", races, *words]
     with open(given or os.devnull, "rb") as it:
         subprocess.run(command, stdin=it, stdout=subprocess.DEVNULL, stderr=subprocess.DEVNULL, env=environment())
     with open(races, "rb") as it:
@@ -213,7 +213,7 @@ def test_project(tally, room):
     where, said = f"{room}/project", ""
     shutil.copytree(f"{FOLDER}/project", where)
     before = sums_of(where)
-    for words in (["run", "--", "one", "two"], ["run", "--release", "--workers", "4", "--races", "-"], ["test", "--workers=2"], ["bench"]):
+    for words in (["run", "--", "one", "two"], ["run", "--release", "--workers", "4", "--check", "-"], ["test", "--workers=2"], ["bench"]):
         ran = called(where, words[0], "--offline", *words[1:])
         said += f"$ {' '.join(words)}\n{without_times(ran.stdout)}status {ran.returncode}\n"
         if "race " in ran.stderr or "error" in ran.stderr:
