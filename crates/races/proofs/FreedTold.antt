@@ -1,11 +1,11 @@
 -- What a recorder of accesses of dead bytes has recorded with one event more.
-use Rattle.std.proofs.Common.{◌≡◌, ℕ, zero, suc, ◌+◌, ◌/◌, ◌<◌, Bool, true, false, cond, List, [], ◌∷◌, ◌++◌, refl, sym, ◌∙◌, ap, subst, arith, append_assoc}
-use Rattle.std.specs.Prelude.{◌↔◌, ◌==◌, Contains, Result, Ok, Err, OnOk}
+use Rattle.std.proofs.Common.{◌≡◌, ℕ, zero, suc, ◌+◌, ◌/◌, ◌≤◌, ◌<◌, Bool, true, false, cond, List, [], ◌∷◌, ◌++◌, refl, sym, ◌∙◌, ap, subst, arith, append_assoc, ⊎_elim}
+use Rattle.std.specs.Prelude.{◌⊎◌, ◌↔◌, ◌==◌, Contains, Result, Ok, Err, OnOk}
 use Rattle.std.proofs.lemmas.List.{append-nil}
 use Rattle.races.specs.Bytes.{has}
 use Rattle.races.specs.Freed.{AreFreed, Tells}
-use Rattle.races.specs.FreedParts.{Holds, IsCut, IsKilled}
-use Rattle.races.specs.FreedRecording.{AddsLives, AreListed, KnowsLives, RecordsFreed, said_by}
+use Rattle.races.specs.FreedParts.{Holds, IsCut, IsKilled, Parts}
+use Rattle.races.specs.FreedRecording.{AddsLives, AreListed, AreLive, IsLiveIn, KnowsLives, RecordsFreed, said_by}
 use Rattle.races.specs.Recording.{IsSaid, said_from, said_in}
 use Rattle.races.specs.Lives.{IsDead, Life, byte_at, lives_by, lives_from, lives_in, lives_of, use_of, uses, uses_in}
 use Rattle.races.specs.Ranges as ranges
@@ -15,6 +15,7 @@ use Rattle.races.specs.declared.byte_set.ByteSet.{ByteSet}
 use Rattle.races.specs.declared.freed_access.FreedAccess.{FreedAccess}
 use Rattle.races.specs.declared.freed_block.FreedBlock.{FreedBlock}
 use Rattle.races.specs.declared.freed_list.FreedList.{FreedList}
+use Rattle.races.specs.declared.freed_live_words.FreedLiveWords.{FreedLiveWords}
 use Rattle.races.specs.declared.freed_lives.FreedLives.{FreedLives}
 use Rattle.races.specs.declared.freed_parts.FreedParts.{FreedParts}
 use Rattle.races.specs.declared.freed_recorder.FreedRecorder.{FreedRecorder}
@@ -53,14 +54,15 @@ adds_covered kept access place is covered = subst (λ (more : List Life). AddsLi
       dead = knows_used lives kept.parts.parts access place knows.dead;
       told = freed_covered lives access place kept.list.told.items (λ block dead. covered block ((knows.dead (byte_at access.word place) block).0 dead)) knows.told;
       listed = knows.listed;
+      live = knows.live;
     })
 
 -- the byte is dead, and nothing tells of it yet
-pub adds_told : (kept new : FreedLives) (access : Access) (place : ℕ) (one : FreedAccess) → has access.bytes place ≡ true → new.parts ≡ kept.parts → new.list.told.items ≡ kept.list.told.items ++ one ∷ []
+pub adds_told : (kept new : FreedLives) (access : Access) (place : ℕ) (one : FreedAccess) → has access.bytes place ≡ true → new.parts ≡ kept.parts → (AreLive kept.live.slots.items kept.parts.parts → AreLive new.live.slots.items new.parts.parts) → new.list.told.items ≡ kept.list.told.items ++ one ∷ []
     → (AreListed kept.list.told.items kept.list.words → AreListed new.list.told.items new.list.words) → Holds kept.parts.parts (byte_at access.word place) one.block → one.site ≡ access.site → one.word ≡ access.word
     → ((other : ℕ) → (has one.bytes other ≡ true) ↔ ((has access.bytes other ≡ true) × Holds kept.parts.parts (byte_at access.word other) one.block))
     → (AreListed kept.list.told.items kept.list.words → (told : FreedAccess) → Contains kept.list.told.items told → Tells told access one.block → ⊥) → AddsLives kept (use_of access place) new
-adds_told kept new access place one is same more listed held site word bytes none = subst (λ (lives : List Life). AddsLives kept lives new) (sym (use_some access place is))
+adds_told kept new access place one is same live more listed held site word bytes none = subst (λ (lives : List Life). AddsLives kept lives new) (sym (use_some access place is))
     (λ lives knows. record {
       dead = λ byte block. subst (λ (parts : FreedParts). IsDead (lives ++ Use access place ∷ []) byte block ↔ Holds parts.parts byte block) (sym same) (knows_used lives kept.parts.parts access place knows.dead byte block);
       told = subst (AreFreed (lives ++ Use access place ∷ [])) (sym more)
@@ -71,6 +73,7 @@ adds_told kept new access place one is same more listed held site word bytes non
           ))
           (none knows.listed) knows.told);
       listed = listed knows.listed;
+      live = live knows.live;
     })
 
 pub adds_more : (old mid new : FreedLives) (first second : List Life) → AddsLives old first mid → AddsLives mid second new → AddsLives old (first ++ second) new
@@ -109,6 +112,24 @@ adds_live kept access none = adds_uses kept kept kept kept kept access
 not_both : false ≡ true → ⊥
 not_both is = cc
 
+-- and it is noted to live
+pub adds_noted : (kept : FreedLives) (live : FreedLiveWords) (access : Access) → ((other : ℕ) → IsLiveIn live.slots.items other → (other ≡ access.word) ⊎ IsLiveIn kept.live.slots.items other)
+    → ((place : ℕ) (block : FreedBlock) → place < 4 → Holds kept.parts.parts (byte_at access.word place) block → ⊥) → AddsLives kept (uses access) (record kept { live = live })
+adds_noted kept live access noted none lives knows = adds_live (record kept { live = live }) access none lives
+    (record {
+      dead = knows.dead;
+      told = knows.told;
+      listed = knows.listed;
+      live = λ word place block there small held. ⊎_elim
+          (λ same. none place block small (subst (λ (n : ℕ). Holds kept.parts.parts (byte_at n place) block) same held))
+          (λ was. knows.live word place block was small held)
+          (noted word there);
+    })
+
+-- it is known to live
+pub adds_known : (kept : FreedLives) (access : Access) → ((lives : List Life) → KnowsLives kept lives → (place : ℕ) (block : FreedBlock) → place < 4 → Holds kept.parts.parts (byte_at access.word place) block → ⊥) → AddsLives kept (uses access) kept
+adds_known kept access none lives knows = adds_live kept access (none lives knows) lives knows
+
 -- which bytes there are, by each place
 pub bytes_by : (result bytes : ByteSet) (P : ℕ → Type 0) → ((result.first ≡ true) ↔ ((has bytes 0 ≡ true) × P 0)) → ((result.second ≡ true) ↔ ((has bytes 1 ≡ true) × P 1)) → ((result.third ≡ true) ↔ ((has bytes 2 ≡ true) × P 2))
     → ((result.fourth ≡ true) ↔ ((has bytes 3 ≡ true) × P 3)) → (place : ℕ) → (has result place ≡ true) ↔ ((has bytes place ≡ true) × P place)
@@ -126,18 +147,30 @@ no_access_dies block access place is = cc
 no_access_lives : (address long : ℕ) (access : Access) (place : ℕ) → Live address long ≡ Use access place → ⊥
 no_access_lives address long access place is = cc
 
-pub adds_killed : (kept new : FreedLives) (block : FreedBlock) → IsKilled kept.parts.parts block new.parts.parts → new.list ≡ kept.list → AddsLives kept (Die block ∷ []) new
-adds_killed kept new block kills same lives knows = record {
+-- the words that are known to live, once those of a block are forgotten
+pub live_killed : (slots less : List ℕ) (old new : Parts) (killed : FreedBlock) → IsKilled old killed new → ((other : ℕ) → IsLiveIn less other → IsLiveIn slots other)
+    → ((other : ℕ) → killed.address / 4 ≤ other → other < (killed.address + killed.length + 3) / 4 → IsLiveIn less other → ⊥) → AreLive slots old → AreLive less new
+live_killed slots less old new killed kills rest gone live word place block there small held = ⊎_elim
+    (λ dies. let from = dies.0.0 in let upto = dies.0.1 in gone word (omega arith) (omega arith) there)
+    (λ stays. live word place block (rest word there) small stays.0)
+    ((kills (byte_at word place) block).0 held)
+
+pub adds_killed : (kept new : FreedLives) (block : FreedBlock) → IsKilled kept.parts.parts block new.parts.parts → new.list ≡ kept.list → (AreLive kept.live.slots.items kept.parts.parts → AreLive new.live.slots.items new.parts.parts)
+    → AddsLives kept (Die block ∷ []) new
+adds_killed kept new block kills same live lives knows = record {
   dead = knows_killed lives kept.parts.parts new.parts.parts block kills knows.dead;
   told = subst (λ (list : FreedList). AreFreed (lives ++ Die block ∷ []) list.told.items) (sym same) (freed_other lives (Die block) kept.list.told.items (no_access_dies block) knows.told);
   listed = subst (λ (list : FreedList). AreListed list.told.items list.words) (sym same) knows.listed;
+  live = live knows.live;
 }
 
-pub adds_revived : (kept new : FreedLives) (address long : ℕ) → IsCut kept.parts.parts address (address + long) new.parts.parts → new.list ≡ kept.list → AddsLives kept (Live address long ∷ []) new
-adds_revived kept new address long cuts same lives knows = record {
+pub adds_revived : (kept new : FreedLives) (address long : ℕ) → IsCut kept.parts.parts address (address + long) new.parts.parts → new.list ≡ kept.list → new.live ≡ kept.live → AddsLives kept (Live address long ∷ []) new
+adds_revived kept new address long cuts same stays lives knows = record {
   dead = knows_revived lives kept.parts.parts new.parts.parts address long cuts knows.dead;
   told = subst (λ (list : FreedList). AreFreed (lives ++ Live address long ∷ []) list.told.items) (sym same) (freed_other lives (Live address long) kept.list.told.items (no_access_lives address long) knows.told);
   listed = subst (λ (list : FreedList). AreListed list.told.items list.words) (sym same) knows.listed;
+  live = subst (λ (words : FreedLiveWords). AreLive words.slots.items new.parts.parts) (sym stays)
+      (λ word place block there small held. knows.live word place block there small ((cuts (byte_at word place) block).0 held).0);
 }
 
 -- ---- one event more
@@ -168,6 +201,15 @@ uses_outside said access is = ap (λ (b : Bool). cond b (uses access) []) is
 
 pub uses_inside : (said : Said) (access : Access) → (said.depth access.site.thread == 0) ≡ false → lives_of said (event.Access access) ≡ []
 uses_inside said access is = ap (λ (b : Bool). cond b (uses access) []) is
+
+adds_seen : (kept : FreedLives) (said : Said) (access : Access) → AddsLives kept (uses access) kept → (is_outside : Bool) → (said.depth access.site.thread == 0) ≡ is_outside → AddsLives kept (lives_of said (event.Access access)) kept
+adds_seen kept said access adds true is = subst (λ (more : List Life). AddsLives kept more kept) (sym (uses_outside said access is)) adds
+adds_seen kept said access adds false is = subst (λ (more : List Life). AddsLives kept more kept) (sym (uses_inside said access is)) (adds_nothing kept)
+
+-- an access that changes nothing, in a library region or not
+pub records_seen : (recorder : FreedRecorder) (access : Access) → AddsLives recorder.lives (uses access) recorder.lives → (history : List ObservedEvent) → RecordsFreed recorder history → RecordsFreed recorder (history ++ event.Access access ∷ [])
+records_seen recorder access adds history = records_more recorder recorder history (event.Access access) (λ said is. record { depth = is.depth; caller = is.caller; length = is.length })
+    (λ said is. adds_seen recorder.lives said access adds (said.depth access.site.thread == 0) refl)
 
 pub lives_none : (said : Said) (next : ObservedEvent) → ((access : Access) → next ≡ event.Access access → ⊥) → ((address long : ℕ) → next ≡ event.Fresh address long → ⊥) → ((hint : HintEvent) → next ≡ event.Hint hint → ⊥) → lives_of said next ≡ []
 lives_none said (event.Access access) no_access no_fresh no_hint = absurd (no_access access refl)

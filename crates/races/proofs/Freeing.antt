@@ -113,9 +113,9 @@ pub dead_same : (lives : List Life) (byte : ℕ) (one other : FreedBlock) → Is
 dead_same lives byte one other dead also = ⊎_elim
     (λ before. absurd (dead.stays also.index before (subst (λ (life : Life). Changes life byte) (sym also.is) also.has_it)))
     (λ late. ⊎_elim
-      (λ same. same_death (life_at lives dead.index) one other dead.is (ap (life_at lives) same ∙ also.is))
-      (λ apart. absurd (also.stays dead.index (omega arith) (subst (λ (life : Life). Changes life byte) (sym dead.is) dead.has_it)))
-      (cases_eq dead.index also.index))
+    (λ same. same_death (life_at lives dead.index) one other dead.is (ap (life_at lives) same ∙ also.is))
+    (λ apart. absurd (also.stays dead.index (omega arith) (subst (λ (life : Life). Changes life byte) (sym dead.is) dead.has_it)))
+    (cases_eq dead.index also.index))
     (cases_lt dead.index also.index)
 
 -- ---- the dead bytes that are kept
@@ -148,24 +148,24 @@ cases_among address long byte = ⊎_elim
 pub knows_killed : (lives : List Life) (old new : Parts) (killed : FreedBlock) → IsKilled old killed new → KnowsDead lives old → KnowsDead (lives ++ Die killed ∷ []) new
 knows_killed lives old new killed kills knows byte block = (
   (λ dead. ⊎_elim
-    (λ among. (kills byte block).1 (inl (among, died_block killed block (dead_changed lives (Die killed) byte block among dead))))
-    (λ out. (kills byte block).1 (inr ((knows byte block).0 (dead_less lives (Die killed) byte block out dead), out)))
-    (cases_among killed.address killed.length byte)),
+      (λ among. (kills byte block).1 (inl (among, died_block killed block (dead_changed lives (Die killed) byte block among dead))))
+      (λ out. (kills byte block).1 (inr ((knows byte block).0 (dead_less lives (Die killed) byte block out dead), out)))
+      (cases_among killed.address killed.length byte)),
   (λ held. ⊎_elim
-    (λ dies. subst (IsDead (lives ++ Die killed ∷ []) byte) dies.1 (dead_new lives byte killed dies.0))
-    (λ stays. dead_more lives (Die killed) byte block stays.1 ((knows byte block).1 stays.0))
-    ((kills byte block).0 held)),
+      (λ dies. subst (IsDead (lives ++ Die killed ∷ []) byte) dies.1 (dead_new lives byte killed dies.0))
+      (λ stays. dead_more lives (Die killed) byte block stays.1 ((knows byte block).1 stays.0))
+      ((kills byte block).0 held)),
 )
 
 pub knows_revived : (lives : List Life) (old new : Parts) (address long : ℕ) → IsCut old address (address + long) new → KnowsDead lives old → KnowsDead (lives ++ Live address long ∷ []) new
 knows_revived lives old new address long cuts knows byte block = (
   (λ dead. ⊎_elim
-    (λ among. absurd (no_life_dies address long block (dead_changed lives (Live address long) byte block among dead)))
-    (λ out. (cuts byte block).1 ((knows byte block).0 (dead_less lives (Live address long) byte block out dead), out))
-    (cases_among address long byte)),
+      (λ among. absurd (no_life_dies address long block (dead_changed lives (Live address long) byte block among dead)))
+      (λ out. (cuts byte block).1 ((knows byte block).0 (dead_less lives (Live address long) byte block out dead), out))
+      (cases_among address long byte)),
   (λ held.
-    let was = (cuts byte block).0 held in
-    dead_more lives (Live address long) byte block was.1 ((knows byte block).1 was.0)),
+      let was = (cuts byte block).0 held in
+      dead_more lives (Live address long) byte block was.1 ((knows byte block).1 was.0)),
 )
 
 -- ---- faults
@@ -275,7 +275,7 @@ freed_push lives life told new is covers freed =
           (λ before.
           subst (λ (n : ℕ). IsTold all n (get_or (told ++ new ∷ []) number none)) (sym (indexed_before told freed.index (length lives) number before))
           (subst (IsTold all (freed.index number)) (sym (get_or_append_left told (new ∷ []) none number before))
-            (told_more lives life (freed.index number) (get_or told number none) (freed.sound number none before))))
+          (told_more lives life (freed.index number) (get_or told number none) (freed.sound number none before))))
           (λ late.
           let last : number ≡ length told = omega arith in
           subst (λ (n : ℕ). IsTold all n (get_or (told ++ new ∷ []) number none)) (sym (indexed_last told freed.index (length lives) number last))

@@ -126,9 +126,9 @@ module _ (old mid new : Parts) (start at : ℕ) (part : FreedPart) (apart : AreA
   placed first one entry = ⊎_elim
       (λ here. inl (here.0, ap (λ (p : FreedPart). p.end) here.1))
       (λ other. inr (⊎_elim
-        (λ there. inl (there.0, ap (λ (p : FreedPart). p.end) there.1))
-        (λ kept. inr (kept.1, apart.some first one kept.1, beside old apart start first part one is kept.1 kept.0))
-        other))
+      (λ there. inl (there.0, ap (λ (p : FreedPart). p.end) there.1))
+      (λ kept. inr (kept.1, apart.some first one kept.1, beside old apart start first part one is kept.1 kept.0))
+      other))
       (cases_split first one entry)
 
   some_split : (first : ℕ) (end : ℕ) (one : FreedPart) → one.end ≡ end → IsPlaced first one → first < end
@@ -141,19 +141,19 @@ module _ (old mid new : Parts) (start at : ℕ) (part : FreedPart) (apart : AreA
   next_split : (first second : ℕ) (one other : FreedPart) → first < second → IsPlaced first one → IsPlaced second other → one.end ≤ second
   next_split first second one other less was now = ⊎_elim
       (λ a. let a0 = a.0 in let a1 = a.1 in ⊎_elim
-        (λ b. let b0 = b.0 in omega arith)
-        (λ r. ⊎_elim (λ b. let b0 = b.0 in omega arith) (λ b. let b1 = b.1 in ⊎_elim (λ low. omega arith) (λ high. omega arith) b.2) r)
-        now)
+      (λ b. let b0 = b.0 in omega arith)
+      (λ r. ⊎_elim (λ b. let b0 = b.0 in omega arith) (λ b. let b1 = b.1 in ⊎_elim (λ low. omega arith) (λ high. omega arith) b.2) r)
+      now)
       (λ q. ⊎_elim
-        (λ a. let a0 = a.0 in let a1 = a.1 in ⊎_elim
-          (λ b. let b0 = b.0 in omega arith)
-          (λ r. ⊎_elim (λ b. let b0 = b.0 in omega arith) (λ b. let b1 = b.1 in ⊎_elim (λ low. omega arith) (λ high. omega arith) b.2) r)
-          now)
-        (λ a. let a1 = a.1 in ⊎_elim
-          (λ b. let b0 = b.0 in ⊎_elim (λ low. omega arith) (λ high. omega arith) a.2)
-          (λ r. ⊎_elim (λ b. let b0 = b.0 in ⊎_elim (λ low. omega arith) (λ high. omega arith) a.2) (λ b. apart.apart first second one other a.0 b.0 less) r)
-          now)
-        q)
+      (λ a. let a0 = a.0 in let a1 = a.1 in ⊎_elim
+      (λ b. let b0 = b.0 in omega arith)
+      (λ r. ⊎_elim (λ b. let b0 = b.0 in omega arith) (λ b. let b1 = b.1 in ⊎_elim (λ low. omega arith) (λ high. omega arith) b.2) r)
+      now)
+      (λ a. let a1 = a.1 in ⊎_elim
+      (λ b. let b0 = b.0 in ⊎_elim (λ low. omega arith) (λ high. omega arith) a.2)
+      (λ r. ⊎_elim (λ b. let b0 = b.0 in ⊎_elim (λ low. omega arith) (λ high. omega arith) a.2) (λ b. apart.apart first second one other a.0 b.0 less) r)
+      now)
+      q)
       was
 
   pub split_apart : AreApart new
@@ -172,9 +172,9 @@ module _ (old mid new : Parts) (start at : ℕ) (part : FreedPart) (apart : AreA
   split_edges point edge first one entry early = ⊎_elim
       (λ here. let a = here.0 in let b = here.1 in let c = edge start part is (omega arith) in omega arith)
       (λ other. ⊎_elim
-        (λ there. let a = there.0 in let b = there.1 in let c = edge start part is (omega arith) in omega arith)
-        (λ kept. edge first one kept.0 early)
-        other)
+      (λ there. let a = there.0 in let b = there.1 in let c = edge start part is (omega arith) in omega arith)
+      (λ kept. edge first one kept.0 early)
+      other)
       (placed first one entry)
 
   held_before : (byte : ℕ) (block : FreedBlock) → Holds new byte block → Holds old byte block
@@ -187,12 +187,12 @@ module _ (old mid new : Parts) (start at : ℕ) (part : FreedPart) (apart : AreA
       let ended : part.end ≡ held.part.end = ap (λ (p : FreedPart). p.end) here.1 in
       record { start = start; part = part; entry = is; late = omega arith; early = omega arith; block_is = ap (λ (p : FreedPart). p.block) here.1 ∙ held.block_is })
       (λ other. ⊎_elim
-        (λ there.
-        let first = there.0 in
-        let ended : at ≡ held.part.end = ap (λ (p : FreedPart). p.end) there.1 in
-        record { start = start; part = part; entry = is; late = omega arith; early = omega arith; block_is = ap (λ (p : FreedPart). p.block) there.1 ∙ held.block_is })
-        (λ kept. record { start = held.start; part = held.part; entry = kept.1; late = late; early = early; block_is = held.block_is })
-        other)
+      (λ there.
+      let first = there.0 in
+      let ended : at ≡ held.part.end = ap (λ (p : FreedPart). p.end) there.1 in
+      record { start = start; part = part; entry = is; late = omega arith; early = omega arith; block_is = ap (λ (p : FreedPart). p.block) there.1 ∙ held.block_is })
+      (λ kept. record { start = held.start; part = held.part; entry = kept.1; late = late; early = early; block_is = held.block_is })
+      other)
       (cases_split held.start held.part held.entry)
 
   held_after : (byte : ℕ) (block : FreedBlock) → Holds old byte block → Holds new byte block
@@ -236,12 +236,12 @@ shrunk_apart old mid start at part apart is before after puts = record {
       (λ b. let some = apart.some second other b.1 in ⊎_elim (λ low. omega arith) (λ high. omega arith) (beside old apart start second part other is b.1 b.0))
       (put_cases old start (shortened part at) mid puts second other also))
       (λ a. ⊎_elim
-        (λ b.
-        let b0 = b.0 in
-        let some = apart.some first one a.1 in
-        ⊎_elim (λ low. omega arith) (λ high. omega arith) (beside old apart start first part one is a.1 a.0))
-        (λ b. apart.apart first second one other a.1 b.1 less)
-        (put_cases old start (shortened part at) mid puts second other also))
+      (λ b.
+      let b0 = b.0 in
+      let some = apart.some first one a.1 in
+      ⊎_elim (λ low. omega arith) (λ high. omega arith) (beside old apart start first part one is a.1 a.0))
+      (λ b. apart.apart first second one other a.1 b.1 less)
+      (put_cases old start (shortened part at) mid puts second other also))
       (put_cases old start (shortened part at) mid puts first one entry);
 }
 
@@ -297,26 +297,26 @@ trimming_all old new start end none trimming at part = (
 pub cut : (old one two new : Parts) (start end : ℕ) → KeepsHeld old one → IsEdge one start → KeepsHeld one two → KeepsEdges one two → IsEdge two end → IsTrimmed two start end new → IsCut old start end new
 cut old one two new start end held edge held_again edges end_edge trimmed byte block = (
   (λ held_now.
-    let late = held_now.late in
-    let early = held_now.early in
-    let was = (trimmed held_now.start held_now.part).0 held_now.entry in
-    let then : Holds two byte block = record { start = held_now.start; part = held_now.part; entry = was.0; late = late; early = early; block_is = held_now.block_is } in (
-      (held byte block).0 ((held_again byte block).0 then),
-      (λ within.
-        let from = within.0 in
-        let upto = within.1 in
-        ⊎_elim
-        (λ before. let ended = edges start edge held_now.start held_now.part was.0 before in omega arith)
-        (λ inside. was.1 (inside, omega arith))
-        (cases_lt held_now.start start)),
-    )),
+      let late = held_now.late in
+      let early = held_now.early in
+      let was = (trimmed held_now.start held_now.part).0 held_now.entry in
+      let then : Holds two byte block = record { start = held_now.start; part = held_now.part; entry = was.0; late = late; early = early; block_is = held_now.block_is } in (
+        (held byte block).0 ((held_again byte block).0 then),
+        (λ within.
+            let from = within.0 in
+            let upto = within.1 in
+            ⊎_elim
+            (λ before. let ended = edges start edge held_now.start held_now.part was.0 before in omega arith)
+            (λ inside. was.1 (inside, omega arith))
+            (cases_lt held_now.start start)),
+      )),
   (λ kept.
-    let then : Holds two byte block = (held_again byte block).1 ((held byte block).1 kept.0) in
-    let late = then.late in
-    let early = then.early in
-    let out : (start ≤ then.start) × (then.start < end) → ⊥ =
-    (λ within. let from = within.0 in let ended = end_edge then.start then.part then.entry within.1 in kept.1 (omega arith, omega arith)) in
-    record { start = then.start; part = then.part; entry = (trimmed then.start then.part).1 (then.entry, out); late = late; early = early; block_is = then.block_is }),
+      let then : Holds two byte block = (held_again byte block).1 ((held byte block).1 kept.0) in
+      let late = then.late in
+      let early = then.early in
+      let out : (start ≤ then.start) × (then.start < end) → ⊥ =
+      (λ within. let from = within.0 in let ended = end_edge then.start then.part then.entry within.1 in kept.1 (omega arith, omega arith)) in
+      record { start = then.start; part = then.part; entry = (trimmed then.start then.part).1 (then.entry, out); late = late; early = early; block_is = then.block_is }),
 )
 
 pub cut_at : {T E : Type 0} (result : Result T E) (old new : Parts) (start end from upto : ℕ) → start ≡ from → end ≡ upto → OnOk result (IsCut old start end new) → OnOk result (IsCut old from upto new)
@@ -332,18 +332,18 @@ module _ (old free new : Parts) (killed : FreedBlock) (start end : ℕ) (kept : 
       let long = apart.some at part entry in
       ⊎_elim
       (λ before. ⊎_elim
-        (λ over.
-        let held : Holds free start part.block = record { start = at; part = part; entry = entry; late = omega arith; early = over; block_is = refl } in
-        let same : start ≤ start = omega arith in
-        absurd (((gone start part.block).0 held).1 (same, some)))
-        (λ ends_there. inl ends_there)
-        (cases_lt start part.end))
+      (λ over.
+      let held : Holds free start part.block = record { start = at; part = part; entry = entry; late = omega arith; early = over; block_is = refl } in
+      let same : start ≤ start = omega arith in
+      absurd (((gone start part.block).0 held).1 (same, some)))
+      (λ ends_there. inl ends_there)
+      (cases_lt start part.end))
       (λ late. ⊎_elim
-        (λ inside.
-        let held : Holds free at part.block = record { start = at; part = part; entry = entry; late = omega arith; early = long; block_is = refl } in
-        absurd (((gone at part.block).0 held).1 (late, inside)))
-        (λ after. inr (after, (λ same. omega arith)))
-        (cases_lt at end))
+      (λ inside.
+      let held : Holds free at part.block = record { start = at; part = part; entry = entry; late = omega arith; early = long; block_is = refl } in
+      absurd (((gone at part.block).0 held).1 (late, inside)))
+      (λ after. inr (after, (λ same. omega arith)))
+      (cases_lt at end))
       (cases_lt at start)
 
   pub killed_apart : AreApart new
@@ -361,40 +361,40 @@ module _ (old free new : Parts) (killed : FreedBlock) (start end : ℕ) (kept : 
         (λ b. let long = apart.some second other b.1 in ⊎_elim (λ low. omega arith) (λ high. let c = high.0 in omega arith) (outside second other b.1))
         (put_cases free start kept new puts second other also))
         (λ a. ⊎_elim
-          (λ b.
-          let b0 = b.0 in
-          let long = apart.some first one a.1 in
-          ⊎_elim (λ low. omega arith) (λ high. let c = high.0 in omega arith) (outside first one a.1))
-          (λ b. apart.apart first second one other a.1 b.1 less)
-          (put_cases free start kept new puts second other also))
+        (λ b.
+        let b0 = b.0 in
+        let long = apart.some first one a.1 in
+        ⊎_elim (λ low. omega arith) (λ high. let c = high.0 in omega arith) (outside first one a.1))
+        (λ b. apart.apart first second one other a.1 b.1 less)
+        (put_cases free start kept new puts second other also))
         (put_cases free start kept new puts first one entry);
   }
 
   pub killed_held : IsKilled old killed new
   killed_held byte block = (
     (λ held.
-      let late = held.late in
-      let early = held.early in
-      ⊎_elim
-      (λ here.
-      let first = here.0 in
-      let ended : kept.end ≡ held.part.end = ap (λ (p : FreedPart). p.end) here.1 in
-      inl ((omega arith, omega arith), sym kept_block ∙ ap (λ (p : FreedPart). p.block) here.1 ∙ held.block_is))
-      (λ was.
-      let then : Holds free byte block = record { start = held.start; part = held.part; entry = was.1; late = late; early = early; block_is = held.block_is } in
-      let kept_then = (gone byte block).0 then in
-      inr (kept_then.0, (λ within. let from = within.0 in let upto = within.1 in kept_then.1 (omega arith, omega arith))))
-      (put_cases free start kept new puts held.start held.part held.entry)),
+        let late = held.late in
+        let early = held.early in
+        ⊎_elim
+        (λ here.
+        let first = here.0 in
+        let ended : kept.end ≡ held.part.end = ap (λ (p : FreedPart). p.end) here.1 in
+        inl ((omega arith, omega arith), sym kept_block ∙ ap (λ (p : FreedPart). p.block) here.1 ∙ held.block_is))
+        (λ was.
+        let then : Holds free byte block = record { start = held.start; part = held.part; entry = was.1; late = late; early = early; block_is = held.block_is } in
+        let kept_then = (gone byte block).0 then in
+        inr (kept_then.0, (λ within. let from = within.0 in let upto = within.1 in kept_then.1 (omega arith, omega arith))))
+        (put_cases free start kept new puts held.start held.part held.entry)),
     (λ known. ⊎_elim
-      (λ dies.
-      let from = dies.0.0 in
-      let upto = dies.0.1 in
-      record { start = start; part = kept; entry = puts.here; late = omega arith; early = omega arith; block_is = kept_block ∙ dies.1 })
-      (λ stays.
-      let then : Holds free byte block = (gone byte block).1 (stays.0, (λ within. let from = within.0 in let upto = within.1 in stays.1 (omega arith, omega arith))) in
-      let apart_from : start ≡ then.start → ⊥ = (λ same. let long = apart.some then.start then.part then.entry in ⊎_elim (λ low. omega arith) (λ high. high.1 same) (outside then.start then.part then.entry)) in
-      record { start = then.start; part = then.part; entry = puts.others then.start apart_from ∙ then.entry; late = then.late; early = then.early; block_is = then.block_is })
-      known),
+        (λ dies.
+        let from = dies.0.0 in
+        let upto = dies.0.1 in
+        record { start = start; part = kept; entry = puts.here; late = omega arith; early = omega arith; block_is = kept_block ∙ dies.1 })
+        (λ stays.
+        let then : Holds free byte block = (gone byte block).1 (stays.0, (λ within. let from = within.0 in let upto = within.1 in stays.1 (omega arith, omega arith))) in
+        let apart_from : start ≡ then.start → ⊥ = (λ same. let long = apart.some then.start then.part then.entry in ⊎_elim (λ low. omega arith) (λ high. high.1 same) (outside then.start then.part then.entry)) in
+        record { start = then.start; part = then.part; entry = puts.others then.start apart_from ∙ then.entry; late = then.late; early = then.early; block_is = then.block_is })
+        known),
   )
 
 -- no byte is in a block of none

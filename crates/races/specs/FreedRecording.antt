@@ -1,11 +1,11 @@
 -- What a recorder of accesses of dead bytes has recorded.
-use Rattle.std.specs.Prelude.{◌≡◌, ℕ, ◌<◌, ◌↔◌, Option, Some, None, List, [], ◌∷◌, ◌++◌, Contains, length, slice_index_or, Vec}
+use Rattle.std.specs.Prelude.{◌≡◌, ℕ, ◌+◌, ◌%◌, ◌<◌, ◌↔◌, Option, Some, None, List, [], ◌∷◌, ◌++◌, Contains, length, slice_index_or, Vec}
 use Rattle.std.specs.Ordering.{nat_cmp}
 use Rattle.std.specs.BTreeMap.{BTreeMap, get}
 use Rattle.std.specs.declared.alloc.Global.{Global}
 use Rattle.races.specs.Freed.{AreFreed}
-use Rattle.races.specs.FreedParts.{Holds}
-use Rattle.races.specs.Lives.{IsDead, Life, lives_in}
+use Rattle.races.specs.FreedParts.{Holds, Parts}
+use Rattle.races.specs.Lives.{IsDead, Life, byte_at, lives_in}
 use Rattle.races.specs.Recording.{IsSaid, caller_of, depth_of, length_of, said_in}
 use Rattle.races.specs.Steps.{Said}
 use Rattle.races.specs.declared.freed_access.FreedAccess.{FreedAccess}
@@ -36,11 +36,20 @@ pub record IsNumbered (old : BTreeMap ℕ (Vec ℕ Global)) (word number : ℕ) 
   pub there : Contains (numbers_at new word) number
   pub rest : (other one : ℕ) → Contains (numbers_at old other) one → Contains (numbers_at new other) one
 
+-- a word is in its slot, by its number and one more, so that 0 stands for none
+abbrev pub IsLiveIn : List ℕ → (word : ℕ) → Type 0
+IsLiveIn slots word = slice_index_or slots (word % 4096) 0 ≡ word + 1
+
+-- a word that is in its slot has no dead byte
+abbrev pub AreLive : List ℕ → Parts → Type 0
+AreLive slots parts = (word place : ℕ) (block : FreedBlock) → IsLiveIn slots word → place < 4 → ¬ Holds parts (byte_at word place) block
+
 -- the dead bytes are those that are kept, and what is told is what is to be told
 pub record KnowsLives (kept : FreedLives) (lives : List Life) : Type 0 where
   pub dead : (byte : ℕ) (block : FreedBlock) → IsDead lives byte block ↔ Holds kept.parts.parts byte block
   pub told : AreFreed lives kept.list.told.items
   pub listed : AreListed kept.list.told.items kept.list.words
+  pub live : AreLive kept.live.slots.items kept.parts.parts
 
 -- some more is known than before
 abbrev pub AddsLives : FreedLives → List Life → FreedLives → Type 0

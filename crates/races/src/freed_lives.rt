@@ -1,24 +1,28 @@
 //! What is kept of which bytes are dead, and of the accesses of dead ones.
-ghost use Rattle.std.specs.Prelude.{◌≡◌, ℕ, ◌<◌, ◌↔◌, [], ◌∷◌, true, IfOk, IsTrue, OnOk};
+ghost use Rattle.std.specs.Prelude.{◌≡◌, ℕ, ◌<◌, ◌↔◌, List, [], ◌∷◌, true, IfOk, IsTrue, OnOk};
 ghost use Rattle.races.specs.Bytes.{has};
 ghost use Rattle.races.specs.FreedParts.{Holds};
 ghost use Rattle.races.specs.FreedRecording.{AddsLives, KnowsLives};
-ghost use Rattle.races.specs.Lives.{byte_at, use_of, uses, uses_in};
+ghost use Rattle.races.specs.Lives.{Life, byte_at, use_of, uses, uses_in};
 ghost use Rattle.races.specs.Lives.Life.{Die, Live};
+ghost use Rattle.races.specs.declared.freed_block.FreedBlock.{FreedBlock as Block};
 
 use crate::byte_set::ByteSet;
 use crate::freed_access::FreedAccess;
 use crate::freed_block::FreedBlock;
 use crate::freed_list::FreedList;
+use crate::freed_live_words::FreedLiveWords;
 use crate::freed_parts::FreedParts;
+use crate::fresh::Fresh;
 use crate::site::{Access, Site};
 use std::alloc::{AllocError, Global};
 
-/// The dead bytes, and what is told of accesses of them.
+/// The dead bytes, what is told of accesses of them, and some of the words that have none.
 #[derive(Drop)]
 pub(crate) struct FreedLives {
     parts: FreedParts,
     list: FreedList,
+    live: FreedLiveWords,
 }
 
 impl FreedLives {
@@ -29,7 +33,17 @@ impl FreedLives {
         FreedLives {
             parts: FreedParts::new(alloc),
             list: FreedList::new(alloc),
+            live: FreedLiveWords::new(alloc),
         }
+    }
+
+    /// Whether a word is known at one look to have no dead byte.
+    #[inline(always)]
+    pub(crate) fn is_live(&self, word: u32) -> bool
+        ensures { IsTrue result → (lives : List Life) → KnowsLives self.now lives
+            → (place : ℕ) (block : Block) → place < 4 → ¬ Holds self.now.parts.parts (byte_at word place) block }
+    {
+        self.parts.is_empty() || self.live.has(word)
     }
 
     /// An access.
@@ -37,6 +51,7 @@ impl FreedLives {
         ensures { OnOk result (AddsLives self.old (uses access.now) self.new) }
     {
         if !self.parts.has_word(access.word) {
+            self.live.note(access.word);
             return Ok(());
         }
         self.touch_byte(access, 0)?;
@@ -119,6 +134,11 @@ impl FreedLives {
     pub(crate) fn kill(&mut self, block: FreedBlock) -> Result<(), AllocError>
         ensures { OnOk result (AddsLives self.old (Die block ∷ []) self.new) }
     {
+        let fresh = Fresh {
+            address: block.address,
+            length: block.length,
+        };
+        self.live.forget(fresh.first_word(), fresh.end_word());
         self.parts.kill(block)
     }
 

@@ -72,6 +72,7 @@ impl FreedRecorder {
     /// # Errors
     ///
     /// As `record`.
+    #[inline(always)]
     pub fn record_access(&mut self, access: &Access) -> Result<(), AllocError>
         ensures recorded { OnOk result
             ((history : List RunEvent) → RecordsFreed self.old history → RecordsFreed self.new (history ++ Accessed access.now ∷ [])) }
@@ -81,9 +82,10 @@ impl FreedRecorder {
         if self.is_broken {
             return Err(AllocError);
         }
-        let recorded = self.access(access);
-        self.is_broken = recorded.is_err();
-        recorded
+        if self.lives.is_live(access.word) {
+            return Ok(());
+        }
+        self.record_other(access)
     }
 
     /// The accesses of dead bytes in the events that were told, in the order of the run: one for each instruction of a thread, each word, and each
@@ -101,6 +103,17 @@ impl FreedRecorder {
             return Err(AllocError);
         }
         self.lives.told()
+    }
+
+    /// Records an access of a word that is not known to have no dead byte.
+    #[inline(never)]
+    fn record_other(&mut self, access: &Access) -> Result<(), AllocError>
+        ensures recorded { OnOk result (RecordsFreedMore self.old (Accessed access.now) self.new) }
+        ensures broken { OnErr result (self.new.is_broken ≡ true) }
+    {
+        let recorded = self.access(access);
+        self.is_broken = recorded.is_err();
+        recorded
     }
 
     /// Tells an event.

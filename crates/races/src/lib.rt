@@ -18,6 +18,7 @@ mod found_race;
 mod freed_access;
 mod freed_block;
 mod freed_list;
+mod freed_live_words;
 mod freed_lives;
 mod freed_part;
 mod freed_parts;

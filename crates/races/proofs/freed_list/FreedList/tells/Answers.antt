@@ -11,4 +11,3 @@ returns-in-Some-clause-none c unfound listed one among tells =
     let found : Some c.in-Some.numbers.now ≡ get nat_cmp list.words c.args.access.now.word = rw c.in-Some.is at c.get.ensures.value in
     c.tells.ensures.none unfound one
     (listed_one list.told.items c.deref.result.now list.words c.args.access.now.word c.deref-in-Some.result.now one c.deref.ensures.value (c.deref-in-Some.ensures.value ∙ ap numbers_by found) listed among tells.word_is) tells
-

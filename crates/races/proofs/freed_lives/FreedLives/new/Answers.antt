@@ -9,4 +9,5 @@ returns c = record {
   dead = λ byte block. (λ dead. absurd (dead_none byte block dead), λ held. absurd (c.new.ensures byte block held));
   told = subst (AreFreed []) (sym c.new-2.ensures) freed_none;
   listed = listed_none c.new-2.result.told.items c.new-2.result.words c.new-2.ensures;
+  live = λ word place block there. absurd (c.new-3.ensures word there);
 }

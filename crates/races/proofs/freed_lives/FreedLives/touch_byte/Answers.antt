@@ -34,6 +34,6 @@ returns c =
     let is : has access.bytes c.args.place ≡ true = sym c.has_byte.ensures ∙ c.if-not-has_byte.false in
     let one : FreedAccess = record { site = access.site; word = access.word; bytes = c.dead_bytes-bytes.result; block = c.in-Some.block } in
     on_ok_weaker c.push.result
-    (λ told. adds_told lives (record lives { list = c.push.new.self }) access c.args.place one is refl told.0 told.1 ((c.block_at.ensures c.in-Some.block).0 c.in-Some.is) refl refl c.dead_bytes-bytes.ensures
-      (c.tells.ensures.none c.if-tells.false))
+    (λ told. adds_told lives (record lives { list = c.push.new.self }) access c.args.place one is refl (λ live. live) told.0 told.1 ((c.block_at.ensures c.in-Some.block).0 c.in-Some.is) refl refl c.dead_bytes-bytes.ensures
+    (c.tells.ensures.none c.if-tells.false))
     (both_ok _ _ c.push.result c.push.ensures.told c.push.ensures.listed)

@@ -14,7 +14,7 @@ returns c =
     let e = c.touch-3.new.self in
     on_ok_weaker c.touch-3.result
     (λ last. adds_range a b d e c.args.site c.args.address c.args.length
-      (subst (λ (access : Access). AddsLives a (uses access) b) c.of_range.ensures c.in_ok-touch.ensures)
-      (subst (λ (access : Access). AddsLives b (uses access) d) c.of_range-2.ensures c.in_ok-touch-2.ensures)
-      (subst (λ (access : Access). AddsLives d (uses access) e) c.of_range-3.ensures last))
+    (subst (λ (access : Access). AddsLives a (uses access) b) c.of_range.ensures c.in_ok-touch.ensures)
+    (subst (λ (access : Access). AddsLives b (uses access) d) c.of_range-2.ensures c.in_ok-touch-2.ensures)
+    (subst (λ (access : Access). AddsLives d (uses access) e) c.of_range-3.ensures last))
     c.touch-3.ensures

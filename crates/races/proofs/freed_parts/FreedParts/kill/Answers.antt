@@ -16,7 +16,7 @@ invariant_of-self c =
       apart = apart_either c.insert.result free c.insert.new.self
           (on_ok_weaker c.insert.result
           (λ updates. killed_apart c.args.self.now.parts free c.insert.new.self block start end kept c.from-start.ensures (omega arith) (omega arith) refl refl c.cut.new.self.apart c.in_ok-cut.ensures
-            (put free start kept c.insert.new.self updates.0))
+          (put free start kept c.insert.new.self updates.0))
           c.insert.ensures.updates)
           c.insert.ensures.err c.cut.new.self.apart;
     }

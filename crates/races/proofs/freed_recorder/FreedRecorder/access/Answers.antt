@@ -12,7 +12,7 @@ returns-then-is_outside c =
     let access = c.args.access.now in
     on_ok_weaker c.touch.result
     (λ adds history. records_more old (record old { lives = c.touch.new.self }) history (Access access) (λ said is. record { depth = is.depth; caller = is.caller; length = is.length })
-      (λ said is. subst (λ (more : List Life). AddsLives old.lives more c.touch.new.self) (sym (uses_outside said access (sym (c.is_outside.ensures said is) ∙ c.if-is_outside.true))) adds))
+    (λ said is. subst (λ (more : List Life). AddsLives old.lives more c.touch.new.self) (sym (uses_outside said access (sym (c.is_outside.ensures said is) ∙ c.if-is_outside.true))) adds))
     c.touch.ensures
 
 pub returns-else-is_outside : goal.returns-else-is_outside

@@ -19,8 +19,8 @@ returns-in-Dead c =
     let hint = c.args.hint.now in
     on_ok_weaker c.kill.result
     (λ adds history. records_more old (record old { lives = c.kill.new.self }) history (Hint hint) (λ said is. record { depth = is.depth; caller = is.caller; length = is.length })
-      (λ said is. subst (λ (more : List Life). AddsLives old.lives more c.kill.new.self)
-        (ap (λ (block : FreedBlock). Die block ∷ []) (c.block_of.ensures said is) ∙ sym (ap (lives_by said hint) c.in-Dead.is)) adds))
+    (λ said is. subst (λ (more : List Life). AddsLives old.lives more c.kill.new.self)
+    (ap (λ (block : FreedBlock). Die block ∷ []) (c.block_of.ensures said is) ∙ sym (ap (lives_by said hint) c.in-Dead.is)) adds))
     c.kill.ensures
 
 -- an atomic access, of a hint of its kind

@@ -14,7 +14,7 @@ returns-in-Fresh c =
     let new : FreedRecorder = record old { lives = c.revive.new.self } in
     on_ok_weaker c.revive.result
     (λ adds history records. subst (λ (one : ObservedEvent). RecordsFreed new (history ++ one ∷ [])) (sym c.in-Fresh.is)
-      (records_more old new history (Fresh c.in-Fresh.address c.in-Fresh.length) (λ said is. record { depth = is.depth; caller = is.caller; length = is.length }) (λ said is. adds) records))
+    (records_more old new history (Fresh c.in-Fresh.address c.in-Fresh.length) (λ said is. record { depth = is.depth; caller = is.caller; length = is.length }) (λ said is. adds) records))
     c.revive.ensures
 
 pub returns-in_default : goal.returns-in_default
@@ -23,5 +23,5 @@ returns-in_default c =
     let event = c.args.event.now in
     on_ok_weaker c.hear.result
     (λ hears history. records_more old (record old { said = c.hear.new.self }) history event hears
-      (λ said is. subst (λ (more : List Life). AddsLives old.lives more old.lives) (sym (lives_none said event c.in_default.not-Access c.in_default.not-Fresh c.in_default.not-Hint)) (adds_nothing old.lives)))
+    (λ said is. subst (λ (more : List Life). AddsLives old.lives more old.lives) (sym (lives_none said event c.in_default.not-Access c.in_default.not-Fresh c.in_default.not-Hint)) (adds_nothing old.lives)))
     c.hear.ensures
