@@ -8,6 +8,7 @@ pub mod Firsts
 pub mod Freed
 pub mod FreedParts
 pub mod FreedRecording
+pub mod FreedTexts
 pub mod Hints
 pub mod Holding
 pub mod LibraryUsers

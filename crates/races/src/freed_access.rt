@@ -20,6 +20,28 @@ pub struct FreedAccess {
 }
 
 impl FreedAccess {
+    ghost use Rattle.std.specs.Prelude.{◌≡◌};
+    ghost use Rattle.races.specs.FreedTexts.{address_of};
+    ghost use Rattle.races.specs.Texts.{size_of};
+
+    /// The address of the lowest of its bytes.
+    pub fn address(&self) -> u32
+        ensures { result ≡ address_of self.now }
+    {
+        ((u64::from(self.word) * 4 + u64::from(self.bytes.lowest())) % (1 << 32)) as u32
+    }
+
+    /// How many bytes it has.
+    pub fn size(&self) -> u8
+        ensures { result ≡ size_of self.now.bytes }
+    {
+        let bytes = self.bytes;
+        u8::from(bytes.first)
+            + u8::from(bytes.second)
+            + u8::from(bytes.third)
+            + u8::from(bytes.fourth)
+    }
+
     /// Whether it tells of an access of a block's bytes: by the same instruction of the thread, at the same word, of a block that died by
     /// the same place.
     pub(crate) fn tells(&self, access: &Access, block: &FreedBlock) -> bool

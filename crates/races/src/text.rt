@@ -88,7 +88,7 @@ fn write_names(text: &mut String, race: &Race, symbols: &Symbols) -> Result<(), 
 
 /// Appends a place after the name of its field, if there is one.
 #[tactic(auto, unfolding(crate::specs::Texts::place_text))]
-fn write_place(
+pub(crate) fn write_place(
     text: &mut String,
     field: &str,
     place: Option<SymbolOffset<'_>>,
@@ -118,7 +118,7 @@ fn write_bytes(text: &mut String, race: &Race) -> Result<(), AllocError>
 
 /// Appends an access, as ` store thread=1 turn=15+8 pc=00010188`.
 #[tactic(auto, unfolding(crate::specs::Texts::site_text))]
-fn write_site(text: &mut String, site: Site) -> Result<(), AllocError>
+pub(crate) fn write_site(text: &mut String, site: Site) -> Result<(), AllocError>
     ensures { OnOk result (string_bytes text.new ≡ string_bytes text.old ++ site_text site) }
 {
     text.push_str(kind_of(site))?;
