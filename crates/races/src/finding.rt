@@ -2,6 +2,7 @@
 ghost use Rattle.std.specs.Prelude.{◌≡◌};
 ghost use Rattle.races.specs.Findings.{moment, time_of};
 
+use crate::freed_access::FreedAccess;
 use crate::misuse::Misuse;
 use crate::order_fault::OrderFault;
 use crate::race::Race;
@@ -11,6 +12,8 @@ use crate::race::Race;
 pub enum Finding {
     /// Two accesses race.
     Race(Race),
+    /// Dead bytes are accessed.
+    Freed(FreedAccess),
     /// Two threads take two locks in both orders.
     Order(OrderFault),
     /// An object is misused.
@@ -25,6 +28,7 @@ impl Finding {
     {
         match self {
             Finding::Race(race) => moment(race.second.turn, race.second.instruction),
+            Finding::Freed(freed) => moment(freed.site.turn, freed.site.instruction),
             Finding::Order(fault) => moment(fault.second.turn, fault.second.instruction),
             Finding::Misuse(misuse) => moment(misuse.call.turn, misuse.call.instruction),
         }

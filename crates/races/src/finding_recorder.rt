@@ -6,6 +6,8 @@ ghost use Rattle.races.specs.declared.observed_event.ObservedEvent.{ObservedEven
 ghost use Rattle.races.specs.declared.observed_event.ObservedEvent.TheVariants.{Access as Accessed};
 
 use crate::finding::Finding;
+use crate::freed_access::FreedAccess;
+use crate::freed_recorder::FreedRecorder;
 use crate::lock_order::LockOrder;
 use crate::misuse::Misuse;
 use crate::misuse_recorder::MisuseRecorder;
@@ -21,6 +23,7 @@ use std::alloc::{AllocError, Global};
 pub struct FindingRecorder {
     alloc: Global,
     races: RaceRecorder,
+    freed: FreedRecorder,
     order: LockOrder,
     misuse: MisuseRecorder,
     /// Whether an event could not be recorded.
@@ -39,6 +42,7 @@ impl FindingRecorder {
         Ok(FindingRecorder {
             alloc,
             races: RaceRecorder::new(alloc)?,
+            freed: FreedRecorder::new(alloc)?,
             order: LockOrder::new(alloc)?,
             misuse: MisuseRecorder::new(alloc)?,
             is_broken: false,
@@ -75,7 +79,7 @@ impl FindingRecorder {
         ensures broken { OnErr result (self.new.is_broken ≡ true) }
         ensures stays { self.old.is_broken ≡ true → self.new.is_broken ≡ true }
     {
-        let recorded = self.races.record_access(access);
+        let recorded = self.tell_access(access);
         if recorded.is_err() {
             self.is_broken = true;
         }
@@ -96,9 +100,10 @@ impl FindingRecorder {
             return Err(AllocError);
         }
         let races = self.races.races()?;
+        let freed = self.freed.found()?;
         let faults = self.order.found()?;
         let misuses = self.misuse.found()?;
-        let mut findings = all_of(self.alloc, &races, &faults, &misuses)?;
+        let mut findings = all_of(self.alloc, &races, &freed, &faults, &misuses)?;
         findings.sort_by_key(|finding| finding.time())?;
         Ok(findings)
     }
@@ -109,8 +114,19 @@ impl FindingRecorder {
         ensures broken { self.new.is_broken ≡ self.old.is_broken }
     {
         self.races.record(event)?;
+        self.freed.record(event)?;
         self.order.record(event)?;
         self.misuse.record(event)
+    }
+
+    /// Tells an access to each part that looks at accesses.
+    #[inline(always)]
+    fn tell_access(&mut self, access: &Access) -> Result<(), AllocError>
+        ensures recorded { OnOk result (FindingRecordsMore self.old (Accessed access.now) self.new) }
+        ensures broken { self.new.is_broken ≡ self.old.is_broken }
+    {
+        self.races.record_access(access)?;
+        self.freed.record_access(access)
     }
 }
 
@@ -118,13 +134,15 @@ impl FindingRecorder {
 fn all_of(
     alloc: Global,
     races: &[Race],
+    freed: &[FreedAccess],
     faults: &[OrderFault],
     misuses: &[Misuse],
 ) -> Result<Vec<Finding>, AllocError>
-    ensures { IfOk result (λ findings. findings.items ≡ found_in races.now faults.now misuses.now) }
+    ensures { IfOk result (λ findings. findings.items ≡ found_in races.now freed.now faults.now misuses.now) }
 {
     let mut findings = Vec::new(alloc);
     add_races(&mut findings, races)?;
+    add_freed(&mut findings, freed)?;
     add_faults(&mut findings, faults)?;
     add_misuses(&mut findings, misuses)?;
     Ok(findings)
@@ -136,6 +154,16 @@ fn add_races(findings: &mut Vec<Finding>, races: &[Race]) -> Result<(), AllocErr
 {
     for race in races {
         findings.push(Finding::Race(*race))?;
+    }
+    Ok(())
+}
+
+/// Appends accesses of dead bytes.
+fn add_freed(findings: &mut Vec<Finding>, freed: &[FreedAccess]) -> Result<(), AllocError>
+    ensures { OnOk result (findings.new.items ≡ findings.old.items ++ map found.Freed freed.now) }
+{
+    for access in freed {
+        findings.push(Finding::Freed(*access))?;
     }
     Ok(())
 }

@@ -6,6 +6,7 @@ ghost use Rattle.races.specs.FindingTexts.{finding_text, text_of};
 ghost use Rattle.races.specs.Texts.{bytes_text, left_text, names_text, place_text, race_text, site_text};
 
 use crate::finding::Finding;
+use crate::freed_text::write_freed;
 use crate::misuse_text::write_misuse;
 use crate::order_text::write_order;
 use crate::place_text::{write_number, write_symbol};
@@ -46,6 +47,7 @@ fn write_finding(text: &mut String, finding: &Finding, symbols: &Symbols) -> Res
 {
     match finding {
         Finding::Race(race) => write_race(text, race, symbols),
+        Finding::Freed(freed) => write_freed(text, freed, symbols),
         Finding::Order(fault) => write_order(text, fault, symbols),
         Finding::Misuse(misuse) => write_misuse(text, misuse, symbols),
     }
