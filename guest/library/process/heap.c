@@ -251,6 +251,7 @@ bool heap_unmap(void *address, uint32_t pages)
     bool is_range = is_mapped(first, pages);
     if (is_range) {
         memset(&page_size[first], 0, pages);
+        hint_dead(address, pages * DTHREADS_PAGE);
         pages_give(address, pages);
     }
     monitor_leave();
@@ -323,7 +324,7 @@ static void *small(size_t size)
     return block;
 }
 
-/* The store to the block before, which another thread may have freed, is the library's own. */
+/* The store to the block before, which another thread may have freed, is the library's own. The block is dead once its link is stored. */
 static void small_free(void *address, uint32_t index)
 {
     struct list *list = &cache[index];
@@ -335,6 +336,7 @@ static void small_free(void *address, uint32_t index)
     } else {
         push(list, address);
     }
+    hint_dead(address, sizes[index]);
     if (list->count < 2 * batch(index))
         return;
     monitor_enter();
@@ -392,6 +394,7 @@ static void large_free(char *address)
     page_size[page] = 0;
     if (varies())
         memset(address, FREED, (size_t)large_pages[page] * DTHREADS_PAGE);
+    hint_dead(address, (uint32_t)large_pages[page] * DTHREADS_PAGE);
     pages_give(address, large_pages[page]);
     monitor_leave();
 }
@@ -417,15 +420,21 @@ static uint32_t kind_of(const void *address)
     abort();
 }
 
-void free(void *address)
+static inline void block_free(void *address)
 {
-    if (!address)
-        return;
     uint32_t kind = kind_of(address);
     if (kind == LARGE)
         large_free(address);
     else
         small_free(address, kind - 1);
+}
+
+void free(void *address)
+{
+    if (!address)
+        return;
+    hint_called();
+    block_free(address);
 }
 
 size_t malloc_usable_size(void *address)
@@ -449,7 +458,7 @@ void *calloc(size_t count, size_t size)
     return address;
 }
 
-void *realloc(void *address, size_t size)
+void *heap_resize(void *address, size_t size)
 {
     size_t old = malloc_usable_size(address);
     if (address && size <= old && size >= old / 2)
@@ -459,9 +468,15 @@ void *realloc(void *address, size_t size)
         return NULL;
     if (address) {
         memcpy(fresh, address, old < size ? old : size);
-        free(address);
+        block_free(address);
     }
     return fresh;
+}
+
+void *realloc(void *address, size_t size)
+{
+    hint_called();
+    return heap_resize(address, size);
 }
 
 void *reallocarray(void *address, size_t count, size_t size)
@@ -471,7 +486,8 @@ void *reallocarray(void *address, size_t count, size_t size)
         errno = ENOMEM;
         return NULL;
     }
-    return realloc(address, all);
+    hint_called();
+    return heap_resize(address, all);
 }
 
 /* A small block of a power of two lies at a multiple of its size, and a large one at a multiple of a page. */

@@ -23,6 +23,8 @@ CASES = {
     "neighbouring_bytes": [],
     "plain_flag": ["flag: store one, load two", "flag: store one, load two", "counter: store one, load two"],
     "atomic_flag": [],
+    "relaxed_flag": ["counter: store one, load two"],
+    "accessed_flag": [],
     "phases_apart": ["counter: store one, store two"],
     "barrier_ends": [],
     "freed_block": [],
