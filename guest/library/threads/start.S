@@ -190,3 +190,9 @@ __dthreads_sync:
     .asciz "dthreads"
     .balign 4
     .word 1, dthreads_start_packed
+
+# The linker takes the locks that the C library asks for from this library, and not from picolibc, where they do nothing: this word asks for
+# them first. Nothing needs the word itself, so it is in no program, and the locks are in those alone that use them.
+    .section .rodata.locks, "a"
+    .balign 4
+    .word __lock___libc_recursive_mutex
