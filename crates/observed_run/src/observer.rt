@@ -123,7 +123,8 @@ impl Observer {
         ensures longer { OnOk result (IsLonger (point_of serial.old) (point_of serial.new)) }
         ensures may { OnErr result (MayMove (point_of serial.old) (point_of serial.new)) }
         ensures failed { IfErr result (λ fault. fault ≡ WriteFailed → K.writes × (point_of serial.new ≡ point_of serial.old)) }
-        ensures told { OnOk result (TellsLast serial.old self.old.findings self.new.findings thread (option_map (λ end. end.now) end.entry)) }
+        ensures told { OnOk result
+            (TellsLast serial.old self.old.findings self.new.findings thread (option_map (λ end. end.now) end.entry)) }
     {
         let alloc = self.alloc;
         let actor = actor_in(serial, thread);
