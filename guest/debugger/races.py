@@ -127,6 +127,18 @@ def show(finding):
         value = f"{finding.address:#010x}: {of_memory(finding.address, finding.length)}"
     if value is not None:
         print(f"guest {selected_guest()} sees {value}{stored_next()}")
+    print(caller(), end="")
+
+
+def caller():
+    """Returns who called the selected thread's function, if that has no lines, as those of the C library."""
+    frame, calls = gdb.newest_frame(), None
+    while frame is not None and not (frame.find_sal().symtab and frame.find_sal().line):
+        frame, calls = frame.older(), frame.name()
+    if frame is None or calls is None:
+        return ""
+    place = frame.find_sal()
+    return f"in {frame.name()} at {place.symtab.filename}:{place.line}, which calls {calls}\n"
 
 
 def of_variable(name):

@@ -31,5 +31,5 @@ def page():
 
 def editors_page():
     """Returns the page of editors with its files as they are."""
-    shown_file = lambda name: f"```{name.rpartition('.')[2]}\n{read_text(f'{TOP}/{name}')}```\n"
+    shown_file = lambda name: f"```{os.path.splitext(name)[1][1:]}\n{read_text(f'{TOP}/{name}')}```\n"
     return FILE.sub(lambda found: found[1] + shown_file(found[2]) + found[3], read_text(f"{TOP}/{EDITORS}"))
