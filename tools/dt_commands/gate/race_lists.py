@@ -49,7 +49,7 @@ RACY = {
     "sleepers": ["slept: store sleeps, load deadlines", "stop: load computes, store main"],
 }
 LINE = re.compile(
-    r"race address=[0-9a-f]{8} bytes=\d (load|store) thread=\d+ turn=\d+ pc=[0-9a-f]{8} (load|store) thread=\d+ turn=\d+ pc=[0-9a-f]{8}"
+    r"race address=[0-9a-f]{8} bytes=\d (load|store) thread=\d+ turn=\d+\+\d+ pc=[0-9a-f]{8} (load|store) thread=\d+ turn=\d+\+\d+ pc=[0-9a-f]{8}"
     r" object=(\w+)\+\d+ in=([\w.]+)\+\d+ in=([\w.]+)\+\d+")
 
 
