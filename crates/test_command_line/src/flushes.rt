@@ -35,7 +35,7 @@ static RECORDED: [&str; 15] = [
     "--report",
     "report",
     "--check",
-    "races",
+    "findings",
     "--core",
     "core",
     "--digest",
