@@ -171,7 +171,8 @@ bool dthreads_atomic_compare_exchange(size_t size, volatile void *object, void *
     return compare_exchange(size, object, expected, desired, (struct attempt){success, failure, false});
 }
 
-bool dthreads_atomic_compare_exchange_weak(size_t size, volatile void *object, void *expected, const void *desired, int success, int failure)
+bool dthreads_atomic_compare_exchange_weak(size_t size, volatile void *object, void *expected, const void *desired,
+                                           int success, int failure)
 {
     hint_called();
     return compare_exchange(size, object, expected, desired, (struct attempt){success, failure, true});

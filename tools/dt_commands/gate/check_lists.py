@@ -1,9 +1,9 @@
 """Findings of programs in C that have one fault each, and of their right twins, which have none.
 
-Each program of guest/tests/checks is run with --check and 1, 2, 4 and 64 workers, which must write the same list. NAME.wanted has its lines,
-with file and line of each place by guest/dthreads-lines. It leaves out what a change of the library or the compiler moves: addresses, turns,
-and places within functions. The twin of a program is the same file with -DRIGHT; its list must be empty. DTHREADS names the program that
-runs the guests, or else ./dthreads.
+Each program of guest/tests/checks is run with --check and 1, 2, 4 and 64 workers, which must write the same list. NAME.wanted has its
+lines, with file and line of each place by guest/dthreads-lines. It leaves out what a change of the library or the compiler moves:
+addresses, turns, and places within functions. The twin of a program is the same file with -DRIGHT; its list must be empty. DTHREADS names
+the program that runs the guests, or else ./dthreads.
 """
 import glob
 import os
