@@ -169,6 +169,19 @@ class Library(OfACopy):
         with open(self.share(install.LIBRARY), "rb") as it:
             self.assertEqual(it.read(8), b"!<arch>\n")
 
+    @unittest.skipUnless(HAS_COMPILER, NO_COMPILER)
+    def test_of_several_calls_one_builds_it(self):
+        # (the tool that makes the archive tells of each call, and takes its time)
+        tool, told = "riscv64-unknown-elf-ar", f"{self.room}/told"
+        os.makedirs(f"{self.room}/tools")
+        write_file(f"{self.room}/tools/{tool}", f'#!/bin/sh\necho >> {told}\nsleep 0.2\nexec {shutil.which(tool)} "$@"\n')
+        os.chmod(f"{self.room}/tools/{tool}", 0o755)
+        environment = {**os.environ, "PATH": f"{self.room}/tools:{os.environ['PATH']}"}
+        words = [f"{self.copy}/guest/dthreads-cc", "--library"]
+        calls = [subprocess.Popen(words, stdout=subprocess.PIPE, env=environment, text=True) for _ in range(3)]
+        self.assertEqual([it.communicate()[0] for it in calls], [f"{self.copy}/guest/out\n"] * 3)
+        self.assertEqual(read_text(told), "\n")
+
 
 @unittest.skipUnless(shutil.which("dpkg-deb"), "dpkg-deb is missing")
 class Packaged(OfACopy):
