@@ -175,17 +175,12 @@ impl Session {
         };
         let command = command_of(self.alloc, text.as_slice())?;
         let listed = self.listed();
-        let chosen = perform_command(
-            self.alloc,
-            &mut self.wire,
-            &mut self.timeline,
-            listed,
-            command,
-        )?;
+        let mut said = Vec::new(self.alloc);
+        let chosen = perform_command(self.alloc, &mut said, &mut self.timeline, listed, command)?;
         if chosen.is_some() {
             self.chosen = chosen;
         }
-        self.wire.answer(b"OK")
+        self.wire.answer_command(said.as_slice())
     }
 
     /// Begins the run again, at its start or at the step that the arguments name.
