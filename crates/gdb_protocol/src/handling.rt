@@ -189,6 +189,8 @@ impl Session {
         self.life = Life::Alive;
         self.pursuit = None;
         self.chosen = None;
+        self.heading = None;
+        self.is_interrupted = false;
         self.told_end = None;
         self.stuck = None;
         self.watching.forget();
