@@ -1,14 +1,24 @@
-"""For gdb: continues to the end of the run, and counts the stops on the way."""
+"""For gdb: continues to the end of the run, and counts the stops at breakpoints and watchpoints on the way."""
 import gdb
 
+STOPS = []
 
-def count():
-    """Returns how often it stops before the end."""
-    stops = 0
-    while "reverse-execution history" not in gdb.execute("continue", to_string=True):
-        stops += 1
-    return stops
+
+def note(event):
+    if isinstance(event, gdb.BreakpointEvent):
+        STOPS.append(event)
+
+
+def walk():
+    """Continues until it stops for something else."""
+    while True:
+        count = len(STOPS)
+        gdb.execute("continue", to_string=True)
+        if len(STOPS) == count:
+            return
 
 
 gdb.execute("set suppress-cli-notifications on")
-print(f"{count()} stops")
+gdb.events.stop.connect(note)
+walk()
+print(f"{len(STOPS)} stops")
