@@ -11,7 +11,9 @@ const FEATURES: &[u8] =
     b"PacketSize=4000;QStartNoAckMode+;ReverseStep+;ReverseContinue+;vContSupported+;swbreak+;hwbreak+;qXfer:features:read+;qXfer:threads:read+";
 
 impl Session {
-    ghost use Rattle.std.specs.Prelude.{◌≡◌, OnOk, option_map};
+    ghost use Rattle.std.specs.Prelude.{◌≡◌, ◌≢◌, OnOk, option_map};
+    ghost use Rattle.gdb_packets.specs.declared.action.Motion.{Motion};
+    ghost use Rattle.gdb_packets.specs.declared.packet_request.PacketRequest.TheVariants.{ContinueBack, ResumeSelected};
     ghost use Rattle.std.specs.String.{string_bytes};
     ghost use Rattle.gdb_monitor.specs.Searching.{Stays};
     ghost use Rattle.gdb_shown.specs.Memory.{memory_shown};
@@ -68,8 +70,10 @@ impl Session {
         }
     }
 
-    /// Answers what a packet asks of threads, registers and memory.
+    /// Answers what a packet asks of threads, registers and memory. Packets by which the run goes on are none of them.
     fn handle_state(&mut self, request: PacketRequest<'_>) -> Result<(), AllocError>
+        requires back { request ≢ ContinueBack }
+        requires selected { (motion : Motion) → request ≢ ResumeSelected motion }
         ensures { OnOk result (Replies self.old self.new request.entry) }
     {
         match request {
