@@ -7,6 +7,8 @@
 #define cancel_here dthreads_own_cancel_here
 #define cancel_is_due dthreads_own_cancel_is_due
 #define cancel_point dthreads_own_cancel_point
+#define condition_wait dthreads_own_condition_wait
+#define condition_wait_by_clock dthreads_own_condition_wait_by_clock
 #define console_is_framed dthreads_own_console_is_framed
 #define console_read dthreads_own_console_read
 #define console_read_some dthreads_own_console_read_some
@@ -47,6 +49,7 @@
 #define heap_left dthreads_own_heap_left
 #define heap_map dthreads_own_heap_map
 #define heap_pages dthreads_own_heap_pages
+#define heap_resize dthreads_own_heap_resize
 #define heap_unmap dthreads_own_heap_unmap
 #define is_dots dthreads_own_is_dots
 #define is_signal dthreads_own_is_signal
@@ -68,9 +71,14 @@
 #define monitor_sleep_on dthreads_own_monitor_sleep_on
 #define monitor_wake dthreads_own_monitor_wake
 #define monitor_wake_all dthreads_own_monitor_wake_all
+#define locks_mend dthreads_own_locks_mend
 #define mutex_acquire dthreads_own_mutex_acquire
 #define mutex_code dthreads_own_mutex_code
+#define mutex_lock dthreads_own_mutex_lock
+#define mutex_lock_by_clock dthreads_own_mutex_lock_by_clock
 #define mutex_release dthreads_own_mutex_release
+#define mutex_try dthreads_own_mutex_try
+#define mutex_unlock dthreads_own_mutex_unlock
 #define node_make dthreads_own_node_make
 #define node_open dthreads_own_node_open
 #define node_read dthreads_own_node_read
@@ -93,6 +101,7 @@
 #define pipe_write dthreads_own_pipe_write
 #define place_follow dthreads_own_place_follow
 #define place_node dthreads_own_place_node
+#define plain_access_find dthreads_own_plain_access_find
 #define pollers dthreads_own_pollers
 #define power_scale dthreads_own_power_scale
 #define random_fill dthreads_own_random_fill
@@ -125,6 +134,7 @@
 #define streams_flush dthreads_own_streams_flush
 #define streams_give dthreads_own_streams_give
 #define thread_begin dthreads_own_thread_begin
+#define thread_leave dthreads_own_thread_leave
 #define thread_of dthreads_own_thread_of
 #define threads dthreads_own_threads
 #define tls_fill dthreads_own_tls_fill

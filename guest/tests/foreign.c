@@ -98,7 +98,8 @@ static void test_process_state(void)
     free(malloc(100000));
     assert(getrusage(RUSAGE_SELF, &usage) == 0 && usage.ru_maxrss > 0);
     assert(sysinfo(&information) == 0 && information.procs == 1 && information.totalram >= information.freeram);
-    assert(secure_getenv("NOT_THERE") == NULL && getauxval(1000) == 0);
+    assert(secure_getenv("NOT_THERE") == NULL && getauxval(1000) == 0 && errno == ENOENT);
+    assert(getauxval(AT_PAGESZ) == 4096 && (long)getauxval(AT_CLKTCK) == sysconf(_SC_CLK_TCK) && getauxval(AT_SECURE) == 0);
     assert(major(makedev(8, 3)) == 8 && minor(makedev(8, 3)) == 3);
     fclose(fopen("/tmp/before", "w"));
     assert(renameat(AT_FDCWD, "/tmp/before", AT_FDCWD, "/tmp/behind") == 0 && access("/tmp/behind", F_OK) == 0);

@@ -12,7 +12,7 @@
 #include <threads.h>
 #include <time.h>
 #include <unistd.h>
-#include "../library/threads/monitor.h"
+#include <dthreads.h>
 
 #define ROW(name, ...) \
     do { \
@@ -27,11 +27,6 @@
         if (!(condition)) \
             abort(); \
     } while (0)
-
-/* Places in a thread's record, by which its hints are named. */
-const volatile unsigned field_start = offsetof(struct dthreads_thread, start);
-const volatile unsigned field_result = offsetof(struct dthreads_thread, result);
-const volatile unsigned field_wake = offsetof(struct dthreads_thread, wake);
 
 /* What the compiler and the C library call, which no header declares. */
 struct __lock;
@@ -54,9 +49,16 @@ mtx_t mtx;
 sem_t semaphore;
 atomic_int number;
 _Atomic int plain;
+_Atomic char plain_byte;
+_Atomic long long plain_long;
+struct {
+    int other;
+    _Atomic short half;
+} plain_parts[2];
+pthread_mutex_t checked;
 atomic_flag flag = ATOMIC_FLAG_INIT;
 int loaded, cleaned, ready;
-struct timespec past = {.tv_sec = 0};
+struct timespec past = {.tv_sec = 0}, soon = {.tv_sec = 946684801};
 char buffer[64], many[20000], plain_stack[4096] __attribute__((aligned(16)));
 uint64_t guard;
 void *volatile block, *volatile large;
@@ -213,6 +215,30 @@ static void atomics(void)
     ROW(plain_store, plain = 7);
     ROW(plain_load, loaded = plain);
     ROW(plain_change, plain += 7);
+    ROW(plain_store_of_a_byte, plain_byte = 7);
+    ROW(plain_load_of_a_short, loaded = plain_parts[loaded & 1].half);
+    ROW(plain_load_of_a_long, loaded = (int)plain_long);
+}
+
+static void orders(void)
+{
+    int expected = 5;
+    ROW(load_relaxed, loaded = atomic_load_explicit(&number, memory_order_relaxed));
+    ROW(load_acquire, loaded = atomic_load_explicit(&number, memory_order_acquire));
+    ROW(store_relaxed, atomic_store_explicit(&number, 4, memory_order_relaxed));
+    ROW(store_release, atomic_store_explicit(&number, 4, memory_order_release));
+    ROW(change_relaxed, atomic_fetch_add_explicit(&number, 1, memory_order_relaxed));
+    ROW(change_acquire, atomic_fetch_add_explicit(&number, 1, memory_order_acquire));
+    ROW(change_release, atomic_fetch_add_explicit(&number, 1, memory_order_release));
+    ROW(change_of_both, atomic_fetch_sub_explicit(&number, 3, memory_order_acq_rel));
+    ROW(attempt_that_fails, atomic_compare_exchange_strong_explicit(&number, &expected, 6, memory_order_acq_rel, memory_order_relaxed));
+    ROW(attempt_that_succeeds, atomic_compare_exchange_strong_explicit(&number, &expected, 6, memory_order_acquire, memory_order_relaxed));
+    ROW(fence_acquire, atomic_thread_fence(memory_order_acquire));
+    ROW(fence_release, atomic_thread_fence(memory_order_release));
+    ROW(fence_of_both, atomic_thread_fence(memory_order_acq_rel));
+    ROW(fence_relaxed, atomic_thread_fence(memory_order_relaxed));
+    ROW(sync_lock, __sync_lock_test_and_set(&loaded, 1));
+    ROW(sync_unlock, __sync_lock_release(&loaded));
 }
 
 static void memory(void)
@@ -348,6 +374,79 @@ static void lives(void)
     ROW(pthread_mutex_unlock_by_another_thread, CHECK(pthread_mutex_unlock(&other_mutex) == 0));
 }
 
+/* What a program may not do, as far as it comes back. */
+static void faults(void)
+{
+    pthread_mutexattr_t attributes;
+    ROW(pthread_mutex_unlock_of_a_free_one, CHECK(pthread_mutex_unlock(&mutex) == 0));
+    pthread_mutex_lock(&mutex);
+    ROW(pthread_mutex_destroy_of_a_held_one, CHECK(pthread_mutex_destroy(&mutex) == EBUSY));
+    pthread_mutex_unlock(&mutex);
+    ROW(pthread_mutex_destroy, CHECK(pthread_mutex_destroy(&mutex) == 0));
+    ROW(pthread_cond_wait_without_the_mutex, CHECK(pthread_cond_wait(&condition, &mutex) == EPERM));
+    pthread_mutexattr_init(&attributes);
+    pthread_mutexattr_settype(&attributes, PTHREAD_MUTEX_ERRORCHECK);
+    pthread_mutex_init(&checked, &attributes);
+    pthread_mutex_lock(&checked);
+    ROW(pthread_mutex_lock_twice, CHECK(pthread_mutex_lock(&checked) == EDEADLK));
+    pthread_mutex_unlock(&checked);
+    ROW(pthread_spin_unlock_of_a_free_one, CHECK(pthread_spin_unlock(&spin) == EPERM));
+    pthread_spin_lock(&spin);
+    ROW(pthread_spin_destroy_of_a_held_one, CHECK(pthread_spin_destroy(&spin) == EBUSY));
+    pthread_spin_unlock(&spin);
+    pthread_rwlock_wrlock(&rwlock);
+    ROW(pthread_rwlock_destroy_of_a_held_one, CHECK(pthread_rwlock_destroy(&rwlock) == 0));
+    ROW(mtx_unlock_of_a_free_one, mtx_unlock(&mtx));
+}
+
+/* Three locks that aren't freed in the order that they were taken in, and one more. */
+static void *ends_with_some(void *argument)
+{
+    pthread_mutex_lock(&mutex);
+    pthread_mutex_lock(&other_mutex);
+    pthread_mutex_lock(&checked);
+    pthread_rwlock_rdlock(&rwlock);
+    pthread_mutex_unlock(&mutex);
+    return argument;
+}
+
+static void *waits_for_all(void *argument)
+{
+    pthread_mutex_lock(&mutex);
+    while (!ready)
+        pthread_cond_wait(&condition, &mutex);
+    pthread_mutex_unlock(&mutex);
+    sem_wait(&semaphore);
+    pthread_barrier_wait(&barrier);
+    return argument;
+}
+
+/* Destroys what another thread waits for, or waits there with another mutex. */
+static void faults_beside_waiters(void)
+{
+    pthread_t thread;
+    ready = 0;
+    pthread_barrier_init(&barrier, NULL, 2);
+    pthread_create(&thread, NULL, waits_for_all, NULL);
+    usleep(1000);
+    ROW(pthread_cond_destroy_of_a_waited_one, CHECK(pthread_cond_destroy(&condition) == EBUSY));
+    pthread_mutex_lock(&other_mutex);
+    ROW(pthread_cond_wait_with_another, CHECK(pthread_cond_timedwait(&condition, &other_mutex, &soon) == ETIMEDOUT));
+    pthread_mutex_unlock(&other_mutex);
+    pthread_mutex_lock(&mutex);
+    ready = 1;
+    pthread_cond_signal(&condition);
+    pthread_mutex_unlock(&mutex);
+    usleep(1000);
+    ROW(sem_destroy_of_a_waited_one, CHECK(sem_destroy(&semaphore) == -1));
+    sem_post(&semaphore);
+    usleep(1000);
+    ROW(pthread_barrier_destroy_of_a_waited_one, CHECK(pthread_barrier_destroy(&barrier) == EBUSY));
+    pthread_barrier_wait(&barrier);
+    pthread_join(thread, NULL);
+    made_and_joined(ends_with_some);
+}
+
 static void plain_entry(void *argument)
 {
     ROW(plain_entry, (void)argument);
@@ -366,11 +465,13 @@ int main(void)
     rwlocks();
     semaphores();
     atomics();
+    orders();
     memory();
     others();
     waiters();
     lives();
+    faults();
+    faults_beside_waiters();
     plain_threads();
-    CHECK(field_start != field_result && field_result != field_wake);
     ROW(pthread_exit_of_the_last, pthread_exit(NULL));
 }

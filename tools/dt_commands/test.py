@@ -31,7 +31,7 @@ from dt_mutants.progress import processor_seconds
 # What is tested besides the crates, each by its own part of this command.
 PARTS = {
     "c-samples": "c_samples", "guest": "guest_tests", "manual": "manual_examples", "c-page": "c_page", "course": "course", "real": "real_programs",
-    "gdb": "gdb_sessions", "editors": "editor_sessions", "origins": "origin_model", "hints": "hints", "core": "core_files", "races": "race_lists", "timeline": "timeline_files",
+    "gdb": "gdb_sessions", "editors": "editor_sessions", "origins": "origin_model", "hints": "hints", "core": "core_files", "races": "race_lists", "checks": "check_lists", "timeline": "timeline_files",
     "rows": "rows", "threads": "host_threads", "streams": "closed_streams", "bench": "bench", "kit": "kit_tests", "builds": "kit_words",
     "openmp": "openmp_tests", "nptl": "nptl_tests", "rust": "rust_tests", "variations": "variation_tests", "explore": "explore_tests", "numbers": "number_tests",
     "package": "package_tests", "build-tools": "build_tool_tests",

@@ -2,5 +2,5 @@
 
 PARTS = {
     "pages": "pages", "samples": "samples", "pictures": "sample_pictures", "c-samples": "c_samples", "c-functions": "c_functions",
-    "hints": "hints", "gdb": "gdb_sessions", "editors": "editor_sessions", "shuffles": "shuffles", "course": "course",
+    "hints": "hints", "checks": "check_lists", "gdb": "gdb_sessions", "editors": "editor_sessions", "shuffles": "shuffles", "course": "course",
 }

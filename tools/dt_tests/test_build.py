@@ -116,6 +116,8 @@ esac
 class Whole(WithRoom):
     """Whole builds by ./dthreads in a checkout of four crates, with that command rt."""
 
+    stdin = subprocess.DEVNULL
+
     def setUp(self):
         super().setUp()
         self.top, self.notes = f"{self.room}/top", f"{self.room}/notes"
@@ -131,7 +133,7 @@ class Whole(WithRoom):
         """Runs ./dthreads, and returns what it wrote and what it asked rt for."""
         open(self.notes, "w").close()
         environment = {"PATH": f"{self.top}/bin:{os.environ['PATH']}", "NOTES": self.notes, **environment}
-        how = {"stdout": subprocess.PIPE, "stderr": subprocess.PIPE, "universal_newlines": True}
+        how = {"stdin": self.stdin, "stdout": subprocess.PIPE, "stderr": subprocess.PIPE, "universal_newlines": True}
         ran = subprocess.run([f"{self.top}/dthreads", *words], env=environment, **how)
         self.status, self.said = ran.returncode, ran.stderr
         return ran.stdout, read_text(self.notes).splitlines()
@@ -144,6 +146,22 @@ class Whole(WithRoom):
         self.assertIn("4 of 4: command", self.said)
         self.assertEqual(self.ran("run"), ("built, run\n", []))
         self.assertEqual(self.said, "")
+
+    def test_it_is_told_what_is_read_from_a_terminal(self):
+        self.ran("run")
+        keeper, self.stdin = os.openpty()
+        try:
+            for words, said in (
+                (["run", "a"], "dthreads: the program's input comes from the terminal: end it with Ctrl-D\n"),
+                (["debug", "a"], "dthreads: gdb is to be on standard input: gdb-multiarch FILE -ex 'target remote | dthreads debug FILE'\n"),
+                (["run", "a", "--input", "b"], ""), (["run", "--help"], ""), (["disasm", "a"], ""), ([], ""),
+            ):
+                with self.subTest(words):
+                    self.assertEqual(self.ran(*words)[0], " ".join(["built,", *words]) + ("" if words else " ") + "\n")
+                    self.assertEqual(self.said, said)
+        finally:
+            os.close(self.stdin)
+            os.close(keeper)
 
     def test_so_many_lanes_are_at_work_as_are_asked_for(self):
         _, asked = self.ran("--build", "--lanes", "3")

@@ -14,15 +14,22 @@ SLOW = {"datetime", "pathlib", "re", "shlex", "shutil", "site", "subprocess", "t
 
 
 class Starts(WithRoom):
+    errors = subprocess.PIPE
+
     def called(self, *words, text=ONE, before=(), **more):
         """Calls dthreads-exec with a script of this text as the program that runs others."""
         self.write("dthreads", f"#!/bin/sh\n{text}\n", 0o755)
         os.makedirs(f"{self.room}/tmp", exist_ok=True)
         environment = {**os.environ, "DTHREADS": f"{self.room}/dthreads", "TMPDIR": f"{self.room}/tmp", **more}
-        how = {"stdin": subprocess.DEVNULL, "stdout": subprocess.PIPE, "stderr": subprocess.PIPE, "text": True}
+        how = {"stdin": subprocess.DEVNULL, "stdout": subprocess.PIPE, "stderr": self.errors, "text": True}
         ran = subprocess.run([*before, EXEC, *words], env=environment, **how)
         self.said = ran.stderr
         return ran.returncode, ran.stdout
+
+    def words(self):
+        """Returns the words that the program was called with."""
+        with open(f"{self.room}/dthreads.words", encoding="utf-8") as it:
+            return it.read().split()
 
     def left(self):
         return os.listdir(f"{self.room}/tmp")
@@ -33,6 +40,21 @@ class Starts(WithRoom):
         self.assertEqual((ran, imported & SLOW), ((0, "one\n"), set()))
         with open(EXEC, encoding="utf-8") as it:
             self.assertTrue(it.readline().endswith(" -S\n"))
+
+    def test_a_run_is_explained_at_a_terminal(self):
+        text = f'{ONE}; echo "$@" > "$0.words"'
+        self.called(SAMPLE, text=text)
+        self.assertNotIn("--explain", self.words())
+        self.called(SAMPLE, "--explain", text=text)
+        self.assertEqual(self.words().count("--explain"), 1)
+        keeper, self.errors = os.openpty()
+        try:
+            for words, count in (([], 1), (["--explain"], 1), (["--explore"], 0)):
+                self.called(SAMPLE, *words, text=text)
+                self.assertEqual(self.words().count("--explain"), count)
+        finally:
+            os.close(self.errors)
+            os.close(keeper)
 
     def test_the_folder_of_the_run_is_gone_at_its_end(self):
         self.assertEqual(self.called(SAMPLE, text=f"{ONE}; test -s $2; exit 7"), (7, "one\n"))

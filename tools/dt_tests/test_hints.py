@@ -43,9 +43,10 @@ class Lists(unittest.TestCase):
         with open(hints.WANTED, encoding="utf-8") as it:
             rows = dict(line.rstrip("\n").split(":", 1) for line in it)
         wanted = {
-            "thread 0 pthread_mutex_lock": " enter acquire(mutex) leave", "thread 0 pthread_mutex_unlock": " enter release(mutex) leave",
-            "thread 0 pthread_rwlock_rdlock": " enter acquire(rwlock) leave", "thread 0 sem_post": " enter release(semaphore) leave",
-            "thread 0 malloc": " fresh(heap, 48)", "thread 1 in pthread_exit": " release(thread 1's result)",
+            "thread 0 pthread_mutex_lock": " caller(main) enter acquire(mutex) lock(mutex) leave",
+            "thread 0 pthread_mutex_unlock": " caller(main) enter release(mutex) unlock(mutex) leave",
+            "thread 0 pthread_rwlock_rdlock": " caller(main) enter acquire(rwlock) share(rwlock) leave",
+            "thread 0 sem_post": " enter release(semaphore) leave", "thread 0 malloc": " fresh(heap, 48)", "thread 1 in dthreads_own_thread_leave": " end_with_lock(other_mutex)",
         }
         self.assertEqual({name: rows[name] for name in wanted}, wanted)
 

@@ -12,6 +12,15 @@ LINES = f"{guest_runs.KIT}/dthreads-lines"
 SOURCE = data("lines.c")
 # Answers of a script that stands for addr2line, by the addresses that it is given.
 ANSWERS = data("addr2line.txt")
+# The symbols of a script that stands for nm.
+SYMBOLS = "#!/bin/sh\nprintf '%s\\n' '00010100 T one' '000100fc t two' '00018200 B it' '00000001 t same' '00000002 t same'\n"
+# A finding of each kind but a race, and two of misuse.
+FINDINGS = """\
+order it+0 none+4 thread=1 turn=9+2 in=one+0 thread=2 turn=12+2 in=two+8
+misuse unlock-of-anothers object=it+0 thread=2 turn=14+9 in=one+4 held-by thread=1 since=11+4
+misuse end-with-lock address=20000410 thread=2 turn=14+9 in=same+0
+freed address=20000410 bytes=4 load thread=2 turn=31+12 pc=00010100 freed-by thread=1 turn=28+3 in=one+0 in=two+8 block=20000400+48
+"""
 
 
 class Lines(WithRoom):
@@ -34,6 +43,41 @@ class Lines(WithRoom):
         ran = self.lines(race.format("", "", "") + rest, "a.elf")
         self.assertEqual((ran.returncode, ran.stderr), (0, ""))
         self.assertEqual(ran.stdout, race.format(" at=one.c:7", " at=/other/two words.c:12", " at=below/three.c:1") + rest)
+
+    def as_told(self, *words):
+        """Returns what becomes of a list of each other kind of finding, with the symbols of a script that stands for nm."""
+        self.write("riscv64-unknown-elf-addr2line", ANSWERS, 0o755)
+        self.write("riscv64-unknown-elf-nm", SYMBOLS, 0o755)
+        self.write("a.elf", "")
+        ran = self.lines(FINDINGS, *words, "a.elf")
+        self.assertEqual((ran.returncode, ran.stderr), (0, ""))
+        return ran.stdout.splitlines()
+
+    def test_calls_have_the_lines_of_their_functions(self):
+        self.assertEqual(self.as_told(), [
+            "order it+0 at=below/three.c:1 none+4 thread=1 turn=9+2 in=one+0 at=one.c:7 thread=2 turn=12+2 in=two+8 "
+            "at=/other/two words.c:12",
+            "misuse unlock-of-anothers object=it+0 at=below/three.c:1 thread=2 turn=14+9 in=one+4 at=/other/two words.c:12 held-by "
+            "thread=1 since=11+4",
+            "misuse end-with-lock address=20000410 thread=2 turn=14+9 in=same+0",
+            "freed address=20000410 bytes=4 load thread=2 turn=31+12 pc=00010100 at=one.c:7 freed-by thread=1 turn=28+3 in=one+0 "
+            "in=two+8 at=/other/two words.c:12 block=20000400+48",
+        ])
+
+    def test_findings_for_a_reader(self):
+        self.assertEqual(self.as_told("--readable"), [
+            "order of locks it below/three.c:1, none+4",
+            "  none+4 taken with it by thread 1 in turn 9+2   one one.c:7",
+            "  it taken with none+4 by thread 2 in turn 12+2  two /other/two words.c:12",
+            "unlock of anothers, it below/three.c:1",
+            "  call by thread 2 in turn 14+9  one /other/two words.c:12",
+            "  held by thread 1 in turn 11+4",
+            "end with lock, 20000410",
+            "  call by thread 2 in turn 14+9  same",
+            "freed of 4 bytes, at 20000410, block of 48 bytes",
+            "  load by thread 2 in turn 31+12  one one.c:7",
+            "  freed by thread 1 in turn 28+3  two /other/two words.c:12",
+        ])
 
     @unittest.skipUnless(shutil.which("riscv64-unknown-elf-c++filt"), "needs binutils-riscv64-unknown-elf")
     def test_names_of_other_languages_are_those_of_the_program(self):

@@ -49,7 +49,7 @@ class Table(unittest.TestCase):
         self.assertEqual(options.untold(page.format(" [--trace FILE]"), every), [])
 
     def test_the_program_has_these_commands(self):
-        self.assertEqual([it.name for it in options.commands()], ["run", "explore", "debug", "disasm", "replay"])
+        self.assertEqual([it.name for it in options.commands()], ["run", "explore", "debug", "disasm", "info", "replay"])
 
 
 class Completions(unittest.TestCase):

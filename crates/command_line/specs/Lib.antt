@@ -10,3 +10,4 @@ pub mod Replayed
 pub mod Replays
 pub mod Scheduled
 pub mod Status
+pub mod Telling

@@ -15,11 +15,12 @@ use Rattle.command_requests.specs.Unasked.{IsUnasked, KeepsUnlessHelp}
 use Rattle.command_requests.specs.declared.failure.Failure.{Failure}
 use Rattle.command_requests.specs.declared.number_range.NumberRange.{NumberRange}
 use Rattle.command_requests.specs.declared.request.Request.{Request}
-use Rattle.command_requests.specs.declared.request.Request.TheVariants.{Run, Explore, Debug, Disasm, Replay}
+use Rattle.command_requests.specs.declared.request.Request.TheVariants.{Run, Explore, Debug, Disasm, Info, Replay}
 use Rattle.command_run.specs.Status.{answer_status}
 use Rattle.command_line.specs.Explores.{ExploreRequest, Explores, exploration_of, explore_status}
 use Rattle.command_line.specs.Listings.{IsListed, IsUnlisted}
 use Rattle.command_line.specs.Status.{replay_status}
+use Rattle.command_line.specs.Telling.{IsTold, IsUntold}
 use Rattle.command_line.specs.declared.exploration.Exploration.{Exploration}
 use Rattle.command_line.specs.declared.replay_failure.ReplayFailure.{ReplayFailure}
 use Rattle.command_line.specs.declared.replay_failure.ReplayFailure.TheVariants.{Plain}
@@ -42,6 +43,11 @@ abbrev pub RunsOn : Type 0 → RunRequest → Option (Bor (List ℕ)) → (befor
 RunsOn tells request named before after answer =
     (IsErrAnd answer (IsInputUnread named) × (after ≡ before))
     ⊎ OnInput before.files request.input named (λ input. RunsInto tells (record request { input = input }) before after answer)
+
+-- the status is that of what a run answers
+abbrev pub IsAnswered : Type 0 → RunRequest → Option (Bor (List ℕ)) → (before after : Host) → (status : ℕ) → Type 0
+IsAnswered tells request named before after status =
+    (answer : Result RunOutcome Failure) × (status ≡ answer_status answer) × RunsOn tells request named before after answer
 
 -- what a replay answers, likewise
 abbrev pub ReplaysOn : ReplayRequest → Option (Bor (List ℕ)) → (output output' : Option (List ℕ)) → Result (Option RunOutcome) ReplayFailure → Type 0
@@ -73,9 +79,8 @@ found_of host is_same input = record { host = host; is_same = is_same; input = i
 -- Performing a request answers this status and leaves this. The first type says that outputs tell what they hold. Of a debugging it is
 -- said alone that it changes no file.
 abbrev pub PerformsOne : Type 0 → Found → Request → Host → ℕ → Type 0
-PerformsOne tells found (Run file named config wanted) after status =
-    (answer : Result RunOutcome Failure) × (status ≡ answer_status answer)
-    × RunsOn tells (run_of file found.is_same found.input config wanted.items) named found.host after answer
+PerformsOne tells found (Run file named config wanted explains) after status =
+    IsAnswered tells (run_of file found.is_same found.input config wanted.items) named found.host after status
 PerformsOne tells found (Explore file named config range same) after status =
     ((answer : Result Bool Failure) × (status ≡ explore_status answer)
     × ExploresOn (exploration_of (exploration_by file named config range same) found.host.files found.input) found.host.output after.output answer)
@@ -88,6 +93,10 @@ PerformsOne tells found (Replay file schedule named config) after status =
 PerformsOne tells found (Disasm file) after status =
     (((status ≡ 0) × IsListed (found.host.files file.now) found.host.output after.output)
     ⊎ ((failure : Failure) × (status ≡ failure_status failure) × IsUnlisted file.now (found.host.files file.now) failure))
+    × (after.files ≡ found.host.files)
+PerformsOne tells found (Info file) after status =
+    (((status ≡ 0) × IsTold (found.host.files file.now) found.host.output after.output)
+    ⊎ ((failure : Failure) × (status ≡ failure_status failure) × IsUntold file.now failure))
     × (after.files ≡ found.host.files)
 PerformsOne tells found (Debug file named config turn) after status = after.files ≡ found.host.files
 

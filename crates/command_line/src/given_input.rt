@@ -1,5 +1,5 @@
 //! Runs, explorations and replays whose input is that of a file, if one is named, and else standard input.
-ghost use Rattle.std.specs.Prelude.{◌≡◌, ◌+◌, ◌-◌, ◌^◌, ◌<◌, IfErr, IfOk, IsSome};
+ghost use Rattle.std.specs.Prelude.{◌≡◌, ◌+◌, ◌-◌, ◌^◌, ◌<◌, IfErr, IfOk, IsSome, false};
 ghost use Rattle.output_files.specs.Content.{Tells};
 ghost use Rattle.output_files.specs.Taken.{TakesAtMost};
 ghost use Rattle.abi.specs.Limits as limit;
@@ -22,7 +22,8 @@ use std::io::{Read, Write};
 use std::sync::Wait;
 use std::thread::Threads;
 
-/// Runs the program of a file on the input of another one, if it is named, and else on the bytes of `stdin`.
+/// Runs the program of a file on the input of another one, if it is named, and else on the bytes of `stdin`. If it is to be explained
+/// how the run ended, that is appended to `note`.
 pub(crate) fn run_given<'a, H: Threads + Wait + Sync, F: Files, R: Read, W: Write>(
     rt: &H,
     alloc: Global,
@@ -30,9 +31,11 @@ pub(crate) fn run_given<'a, H: Threads + Wait + Sync, F: Files, R: Read, W: Writ
     input: Option<&'a str>,
     config: &Config,
     wanted: &[RequestedText<'a>],
+    explains: bool,
     files: &mut F,
     stdin: &mut R,
     stdout: &mut WriteSink<W>,
+    note: &mut String,
 ) -> Result<RunOutcome, Failure<'a>>
     requires { stdout.old.failures < 2 ^ 64 - 1 }
     ensures taken { TakesAtMost (limit.input + 1) (R.remaining stdin.old) (R.remaining stdin.new) }
@@ -40,13 +43,27 @@ pub(crate) fn run_given<'a, H: Threads + Wait + Sync, F: Files, R: Read, W: Writ
     ensures answer { RunsOn (Tells F.Output.contents)
         (run_of file.entry (F.is_same files.old) (R.remaining stdin.old) config.now wanted.now)
         input.entry (host_of F.content W.contents files.old stdout.old) (host_of F.content W.contents files.new stdout.new) result }
+    ensures silent { explains ≡ false → note.new ≡ note.old }
 {
     let Some(path) = input else {
-        return run_file(rt, alloc, file, config, wanted, files, stdin, stdout);
+        return run_file(
+            rt, alloc, file, config, wanted, explains, files, stdin, stdout, note,
+        );
     };
     let bytes = input_at(alloc, path, files)?;
     let mut reader = bytes.as_slice();
-    run_file(rt, alloc, file, config, wanted, files, &mut reader, stdout)
+    run_file(
+        rt,
+        alloc,
+        file,
+        config,
+        wanted,
+        explains,
+        files,
+        &mut reader,
+        stdout,
+        note,
+    )
 }
 
 /// Replays a schedule of the program of a file on the input of another one, if it is named, and else on the bytes of

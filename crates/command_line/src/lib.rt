@@ -1,4 +1,4 @@
-//! The command line: parses the arguments, runs, explores, lists, replays or debugs as they ask for, and answers the status.
+//! The command line: parses the arguments, runs, explores, lists, tells, replays or debugs as they ask for, and answers the status.
 #![tactic(auto)]
 
 mod debugging;
@@ -11,11 +11,13 @@ mod given_input;
 mod given_schedule;
 mod incoming;
 mod listings;
+mod noting;
 mod opened_replay;
 mod performing;
 mod replay_failure;
 mod replaying;
 mod serving;
+mod telling;
 mod untold;
 
 pub use command_requests::{Failure, Target, arguments_of};

@@ -113,6 +113,9 @@ debug_is_plain = record { single = search (inl, inr); again = refl; negates = re
 disasm_is_plain : IsPlain (leaf spec.disasm)
 disasm_is_plain = record { single = search (inl, inr); again = refl; negates = refl }
 
+info_is_plain : IsPlain (leaf spec.info)
+info_is_plain = record { single = search (inl, inr); again = refl; negates = refl }
+
 replay_is_plain : IsPlain (leaf spec.replay)
 replay_is_plain = record { single = search (inl, inr); again = refl; negates = refl }
 
@@ -131,7 +134,7 @@ run_completes words e =
 explore_completes : Completes (leaf spec.explore)
 explore_completes words e =
     let there = is_there (leaf spec.explore) explore_is_plain words e in
-    inr (inr (inr (inr (
+    inr (inr (inr (inr (inl (
       refl,
       (
         text_of file _ (there file refl (inl refl)),
@@ -140,7 +143,7 @@ explore_completes words e =
         number_of (IsNumber 32) four_workers _ few_passed (there four_workers refl (inr refl)),
         number_of (IsNumber 64) bound _ count_passed (there bound refl (inr refl)),
       ),
-    ))))
+    )))))
 
 debug_completes : Completes (leaf spec.debug)
 debug_completes words e =
@@ -157,6 +160,10 @@ debug_completes words e =
 disasm_completes : Completes (leaf spec.disasm)
 disasm_completes words e =
     inr (inr (inl (refl, text_of file _ (is_there (leaf spec.disasm) disasm_is_plain words e file refl (inl refl)))))
+
+info_completes : Completes (leaf spec.info)
+info_completes words e =
+    inr (inr (inr (inr (inr (refl, text_of file _ (is_there (leaf spec.info) info_is_plain words e file refl (inl refl)))))))
 
 replay_completes : Completes (leaf spec.replay)
 replay_completes words e =
@@ -207,4 +214,4 @@ built_completes a words required all e =
 pub is_found : (words : List Text) → fault_of spec.program words ≡ [] → IsFound (subcommand_of spec.program words)
 is_found words e =
     built_completes (built spec.program) (argument_words spec.program words) refl
-    (run_completes, (explore_completes, (debug_completes, (disasm_completes, (replay_completes, tt))))) e
+    (run_completes, (explore_completes, (debug_completes, (disasm_completes, (info_completes, (replay_completes, tt)))))) e

@@ -9,7 +9,7 @@ use Rattle.command_requests.specs.Destination.{destination_of}
 use Rattle.command_requests.specs.declared.destination.Destination.{Destination}
 use Rattle.command_requests.specs.declared.number_range.NumberRange.{NumberRange}
 use Rattle.command_requests.specs.declared.request.Request.{Request}
-use Rattle.command_requests.specs.declared.request.Request.TheVariants.{Run, Explore, Debug, Disasm, Replay}
+use Rattle.command_requests.specs.declared.request.Request.TheVariants.{Run, Explore, Debug, Disasm, Info, Replay}
 use Rattle.command_requests.specs.declared.text.Text.{Text as RunText}
 use Rattle.command_requests.specs.declared.requested_text.RequestedText.{RequestedText}
 use Rattle.command_requests.specs.Shuffles.{shuffle_of}
@@ -86,9 +86,9 @@ pub record AreRange (rows : List Row) (range : NumberRange) : Type 0 where
 
 -- a command of this name that was given these values is this request
 abbrev pub Asks : Text → List Row → Request → Type 0
-Asks name rows (Run file input config wanted) =
+Asks name rows (Run file input config wanted explains) =
     (name ≡ codes "run") × AreFiles rows file input × IsConfig rows config × IsRead 32 (one_of (codes "workers") rows) (Some config.workers)
-    × AreWanted rows texts wanted.items
+    × AreWanted rows texts wanted.items × IsFlag (one_of (codes "explain") rows) explains
 Asks name rows (Explore file input config range same) =
     (name ≡ codes "explore") × AreFiles rows file input × IsConfig rows config × IsRead 32 (one_of (codes "workers") rows) (Some config.workers)
     × AreRange rows range × IsFlag (one_of (codes "same") rows) same
@@ -96,6 +96,7 @@ Asks name rows (Debug file input config turn) =
     (name ≡ codes "debug") × AreFiles rows file input × IsConfig rows config × (config.workers ≡ 1)
     × IsRead 64 (one_of (codes "turn") rows) (Some turn)
 Asks name rows (Disasm file) = (name ≡ codes "disasm") × IsText rows (codes "FILE") (Some file)
+Asks name rows (Info file) = (name ≡ codes "info") × IsText rows (codes "FILE") (Some file)
 Asks name rows (Replay file schedule input config) =
     (name ≡ codes "replay") × AreFiles rows file input × IsText rows (codes "SCHEDULE") (Some schedule) × IsConfig rows config
     × IsRead 32 (one_of (codes "workers") rows) (Some config.workers)

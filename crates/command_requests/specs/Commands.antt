@@ -69,6 +69,9 @@ from = record (schedule_number (codes "from")) { defaults = codes "1" ∷ [] }
 abbrev pub same : Rule
 same = flag (codes "same")
 
+abbrev pub explain : Rule
+explain = flag (codes "explain")
+
 -- what is the same for a run, its debugging and its replay
 abbrev pub setup : List Rule
 setup = bound ∷ quantum ∷ shuffle ∷ []
@@ -84,7 +87,7 @@ with_rules shape [] = shape
 with_rules shape (rule ∷ rest) = with_rules (record shape { rules = shape.rules ++ rule ∷ [] }) rest
 
 abbrev pub run : Shape
-run = with_rules (new_shape (codes "run")) (file ∷ input ∷ (record workers { defaults = codes "4" ∷ [] }) ∷ setup ++ options_of texts)
+run = with_rules (new_shape (codes "run")) (file ∷ input ∷ (record workers { defaults = codes "4" ∷ [] }) ∷ setup ++ (options_of texts ++ explain ∷ []))
 
 abbrev pub explore : Shape
 explore = with_rules (new_shape (codes "explore")) (file ∷ runs ∷ from ∷ input ∷ (record workers { defaults = codes "4" ∷ [] }) ∷ bound ∷ quantum ∷ same ∷ [])
@@ -95,6 +98,9 @@ debug = with_rules (new_shape (codes "debug")) (file ∷ input ∷ turn ∷ setu
 abbrev pub disasm : Shape
 disasm = with_rules (new_shape (codes "disasm")) (file ∷ [])
 
+abbrev pub info : Shape
+info = with_rules (new_shape (codes "info")) (file ∷ [])
+
 abbrev pub replay : Shape
 replay = with_rules (new_shape (codes "replay")) (file ∷ schedule ∷ input ∷ (record workers { required = true }) ∷ setup)
 
@@ -102,7 +108,14 @@ replay = with_rules (new_shape (codes "replay")) (file ∷ schedule ∷ input �
 abbrev pub program : App
 program = record {
   top = record (new_shape (codes "dthreads")) { has_version = true; subcommand_required = true; disable_help_subcommand = true; is_leaf = false };
-  subs = run ∷ explore ∷ debug ∷ disasm ∷ replay ∷ [];
+  subs = run ∷ explore ∷ debug ∷ disasm ∷ info ∷ replay ∷ [];
+}
+
+-- the program without its commands
+abbrev pub bare_program : App
+bare_program = record {
+  top = record (new_shape (codes "dthreads")) { has_version = true; subcommand_required = true; disable_help_subcommand = true };
+  subs = [];
 }
 
 -- the argument is this, for its command alone

@@ -30,6 +30,9 @@ HasDebug rows = HasText (codes "FILE") rows × HasNumber 64 (codes "turn") rows 
 abbrev pub HasDisasm : List Row → Type 0
 HasDisasm rows = HasText (codes "FILE") rows
 
+abbrev pub HasInfo : List Row → Type 0
+HasInfo rows = HasText (codes "FILE") rows
+
 abbrev pub HasReplay : List Row → Type 0
 HasReplay rows =
     HasText (codes "FILE") rows × HasText (codes "SCHEDULE") rows × HasNumber 32 (codes "workers") rows × HasNumber 64 (codes "bound") rows
@@ -38,7 +41,7 @@ HasReplay rows =
 abbrev pub IsComplete : Text → List Row → Type 0
 IsComplete name rows =
     ((name ≡ codes "run") × HasRun rows) ⊎ (((name ≡ codes "debug") × HasDebug rows) ⊎ (((name ≡ codes "disasm") × HasDisasm rows)
-    ⊎ (((name ≡ codes "replay") × HasReplay rows) ⊎ ((name ≡ codes "explore") × HasExplore rows))))
+    ⊎ (((name ≡ codes "replay") × HasReplay rows) ⊎ (((name ≡ codes "explore") × HasExplore rows) ⊎ ((name ≡ codes "info") × HasInfo rows)))))
 
 -- a command was found, and it has what it needs
 abbrev pub IsFound : Option (Text × List Row) → Type 0

@@ -26,7 +26,7 @@ pub fn asked<'a, S: AsStr, W: Write, E: Write>(
 {
     let matches = match matched(alloc, arguments) {
         Ok(matches) => matches,
-        Err(error) => return Err(refuse(alloc, &error, stdout, stderr)),
+        Err(error) => return Err(refuse(alloc, arguments, &error, stdout, stderr)),
     };
     match requested(alloc, &matches) {
         Ok(request) => Ok(request),

@@ -7,7 +7,7 @@ ghost use Rattle.command_requests.specs.Commands.{Takes, with_rules};
 ghost use Rattle.command_requests.specs.Parameter.{rules_for};
 
 use crate::parameter::{Parameter, arg};
-use crate::parameters::{DEBUG, DISASM, EXPLORE, REPLAY, RUN};
+use crate::parameters::{DEBUG, DISASM, EXPLORE, INFO, REPLAY, RUN};
 use clap::Command;
 use std::alloc::{AllocError, Global};
 
@@ -42,23 +42,39 @@ pub(crate) fn program<'a>(alloc: Global) -> Result<Command<'a>, AllocError>
         "Print the instructions of a program",
         &DISASM,
     )?;
+    let info = command(
+        alloc,
+        "info",
+        "Print what a file is, and why it is refused as a program",
+        &INFO,
+    )?;
     let replay = command(
         alloc,
         "replay",
         "Apply a schedule to a program and print the trace",
         &REPLAY,
     )?;
-    Command::new(alloc, "dthreads")
-        .bin_name("dthreads")?
-        .version(VERSION)
-        .about("Runs multithreaded RV32IM programs with the same result each time")
-        .subcommand_required(true)
-        .disable_help_subcommand(true)
+    bare_program(alloc)?
         .subcommand(run)?
         .subcommand(explore)?
         .subcommand(debug)?
         .subcommand(disasm)?
+        .subcommand(info)?
         .subcommand(replay)
+}
+
+/// The program without its commands.
+fn bare_program<'a>(alloc: Global) -> Result<Command<'a>, AllocError>
+    ensures { IfOk result (λ program. app_of program ≡ spec.bare_program) }
+{
+    Ok(
+        Command::new(alloc, "dthreads")
+            .bin_name("dthreads")?
+            .version(VERSION)
+            .about("Runs multithreaded RV32IM programs with the same result each time")
+            .subcommand_required(true)
+            .disable_help_subcommand(true),
+    )
 }
 
 /// A command of this name, with what help says of it and what it takes.

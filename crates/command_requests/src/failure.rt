@@ -34,7 +34,7 @@ pub enum Failure<'a> {
     #[error("elf refused: {0}")]
     ElfRefused(ElfFault),
     /// The guest's input is over its limit.
-    #[error("input too large")]
+    #[error("input too large: over 16777216 bytes")]
     InputTooLarge,
     #[error("cannot read {0}")]
     CannotRead(Target<'a>),

@@ -20,6 +20,7 @@ mod requested_text;
 mod requirement;
 mod shuffling;
 mod target;
+mod telling;
 mod text;
 
 pub use arguments::arguments_of;
@@ -31,6 +32,6 @@ pub use naming::named_twice;
 pub use number_range::NumberRange;
 pub use printing::print;
 pub use request::Request;
-pub use requested_text::{RequestedText, wants_races};
+pub use requested_text::{RequestedText, wants_findings};
 pub use target::Target;
 pub use text::Text;

@@ -11,6 +11,14 @@ pub(crate) const FILE: Parameter = Parameter {
     help: "The program, an ELF file",
 };
 
+/// The file of the command info, which may be any.
+const KNOWN_FILE: Parameter = Parameter {
+    name: "FILE",
+    form: Form::Placed,
+    need: Requirement::Required,
+    help: "The file, whatever it is",
+};
+
 pub(crate) const SCHEDULE: Parameter = Parameter {
     name: "SCHEDULE",
     form: Form::Placed,
@@ -120,11 +128,11 @@ const REPORT: Parameter = Parameter {
     help: "Write the sharing of pages to this file, or to standard output where it is -",
 };
 
-const RACES: Parameter = Parameter {
-    name: "races",
-    form: Form::Text(Text::Races),
+const FINDINGS: Parameter = Parameter {
+    name: "check",
+    form: Form::Text(Text::Findings),
     need: Requirement::Optional,
-    help: "Write the data races to this file, or to standard output where it is -",
+    help: "Write the data races and other faults to this file, or to standard output where it is -",
 };
 
 const CORE: Parameter = Parameter {
@@ -141,9 +149,17 @@ const DIGEST: Parameter = Parameter {
     help: "Write hashes of output, memory and trace to this file, or to standard output where it is -",
 };
 
+pub(crate) const EXPLAIN: Parameter = Parameter {
+    name: "explain",
+    form: Form::Flag,
+    need: Requirement::Optional,
+    help: "Say on standard error in words why a run ended by a trap or a deadlock, or a file is refused",
+};
+
 /// The parameters of the command run. The texts are in the order in which a run begins them and puts them where they are to be.
-pub(crate) static RUN: [Parameter; 12] = [
-    FILE, INPUT, WORKERS, BOUND, QUANTUM, SHUFFLE, TRACE, TIMELINE, REPORT, RACES, CORE, DIGEST,
+pub(crate) static RUN: [Parameter; 13] = [
+    FILE, INPUT, WORKERS, BOUND, QUANTUM, SHUFFLE, TRACE, TIMELINE, REPORT, FINDINGS, CORE, DIGEST,
+    EXPLAIN,
 ];
 
 /// The parameters of the command explore.
@@ -156,6 +172,9 @@ pub(crate) static DEBUG: [Parameter; 6] = [FILE, DEBUGGED_INPUT, TURN, BOUND, QU
 
 /// The parameters of the command disasm.
 pub(crate) static DISASM: [Parameter; 1] = [FILE];
+
+/// The parameters of the command info.
+pub(crate) static INFO: [Parameter; 1] = [KNOWN_FILE];
 
 /// The parameters of the command replay.
 pub(crate) static REPLAY: [Parameter; 7] = [

@@ -18,7 +18,7 @@ use crate::form::Form;
 use crate::number_range::NumberRange;
 use crate::parameter::Parameter;
 use crate::parameters::{
-    BOUND, FILE, FROM, INPUT, QUANTUM, RUN, RUNS, SAME, SCHEDULE, SHUFFLE, TURN, WORKERS,
+    BOUND, EXPLAIN, FILE, FROM, INPUT, QUANTUM, RUN, RUNS, SAME, SCHEDULE, SHUFFLE, TURN, WORKERS,
 };
 use crate::request::Request;
 use crate::requested_text::RequestedText;
@@ -58,6 +58,9 @@ pub(crate) fn requested<'a>(
         ("disasm", disasm) => Ok(Request::Disasm {
             file: given_text(disasm, FILE.name),
         }),
+        ("info", info) => Ok(Request::Info {
+            file: given_text(info, FILE.name),
+        }),
         ("replay", replay) => replay_request(replay),
         _ => unreachable!(),
     }
@@ -74,6 +77,7 @@ fn run_request<'a>(alloc: Global, matches: &ArgMatches<'a>) -> Result<Request<'a
         input: text(matches, INPUT.name),
         config: config_of(matches, workers_of(matches))?,
         wanted: wanted_of(alloc, matches)?,
+        explains: flag(matches, EXPLAIN.name),
     })
 }
 

@@ -7,17 +7,20 @@ use crate::failing::fail;
 use crate::failure::Failure;
 use crate::printing::print;
 use crate::target::Target;
+use crate::telling::tell;
 use clap::Error;
 use clap::error::ErrorKind;
 use std::alloc::Global;
+use std::convert::AsStr;
 use std::io::Write;
 
 /// The status of a command line that could not be read.
 const WRONG_ARGUMENTS: u8 = 2;
 
 /// Answers arguments that make no request: with help where they ask for it, and else with what is wrong.
-pub(crate) fn refuse<W: Write, E: Write>(
+pub(crate) fn refuse<S: AsStr, W: Write, E: Write>(
     alloc: Global,
+    arguments: &[S],
     error: &Error,
     stdout: &mut W,
     stderr: &mut E,
@@ -29,7 +32,7 @@ pub(crate) fn refuse<W: Write, E: Write>(
         return fail(Failure::OutOfMemory, stderr);
     }
     if error.use_stderr() {
-        let _ = write!(stderr, "{error}");
+        tell(alloc, arguments, error, stderr);
         return WRONG_ARGUMENTS;
     }
     match write_help(alloc, error, stdout) {

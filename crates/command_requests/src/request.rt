@@ -14,6 +14,8 @@ pub enum Request<'a> {
         config: Config,
         /// The texts that it is to leave, in their order.
         wanted: Vec<RequestedText<'a>>,
+        /// Whether it is to say in words why it ended.
+        explains: bool,
     },
     /// Run the program of a file by each of a range of schedules.
     Explore {
@@ -29,6 +31,10 @@ pub enum Request<'a> {
     },
     /// Print the instructions of a file.
     Disasm {
+        file: &'a str,
+    },
+    /// Print what a file is.
+    Info {
         file: &'a str,
     },
     /// Debug the program of a file, with gdb on standard input and output.

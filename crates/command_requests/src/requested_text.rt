@@ -14,12 +14,12 @@ pub struct RequestedText<'a> {
     pub destination: Destination<'a>,
 }
 
-/// Whether the races are among the texts that are wanted.
-pub fn wants_races(wanted: &[RequestedText<'_>]) -> bool
-    ensures { result ≡ spec.wants_races wanted.now }
+/// Whether the findings are among the texts that are wanted.
+pub fn wants_findings(wanted: &[RequestedText<'_>]) -> bool
+    ensures { result ≡ spec.wants_findings wanted.now }
 {
     let [first, others @ ..] = wanted else {
         return false;
     };
-    first.text.is_races() || wants_races(others)
+    first.text.is_findings() || wants_findings(others)
 }

@@ -11,8 +11,8 @@ pub enum Text {
     Timeline,
     /// The sharing report, gathered as the turns are done and made at the end.
     Report,
-    /// The data races, found as the turns are done and made a text at the end.
-    Races,
+    /// The data races and other faults, found as the turns are done and made a text at the end.
+    Findings,
     /// The core file, made of the end alone.
     Core,
     /// The digest, gathered as the turns are done and made at the end.
@@ -20,10 +20,10 @@ pub enum Text {
 }
 
 impl Text {
-    /// Whether it is the races, for which a run is observed.
-    pub(crate) fn is_races(self) -> bool
-        ensures { result ≡ spec.is_races self }
+    /// Whether it is the findings, for which a run is observed.
+    pub(crate) fn is_findings(self) -> bool
+        ensures { result ≡ spec.is_findings self }
     {
-        matches!(self, Text::Races)
+        matches!(self, Text::Findings)
     }
 }

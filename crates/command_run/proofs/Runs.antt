@@ -29,22 +29,22 @@ use Rattle.token.specs.declared.outcome.RunOutcome.{RunOutcome}
 use Rattle.token.specs.declared.turn.Turn.{Turn}
 use Rattle.command_run.specs.Failure.{IsStoppedBy}
 use Rattle.command_requests.specs.Destination.{KeepsBut}
-use Rattle.command_requests.specs.Texts.{wants_races}
+use Rattle.command_requests.specs.Texts.{wants_findings}
 use Rattle.command_run.proofs.Out.{from_before, printed_all}
 use Rattle.command_run.specs.Placing.{IsUnwrittenTo}
 use Rattle.command_run.specs.Recording.{HasWriting, either, failed_in, has_failed, kind_of, unwritten, wanted_by, wanted_of, writes_meanwhile, writing_in}
 use Rattle.command_run.specs.Texts.{AreAllOut, AreCutShort, AreTextsOf, ComesOut, IsUnbegun, Left, Placed, destinations}
 use Rattle.command_run.specs.declared.item.Item.{Item}
 use Rattle.command_run.specs.declared.recording.Recording.{Recording as TextRecording}
-use Rattle.command_run.specs.declared.recording.Recording.TheVariants.{Trace, Timeline, Report, Races, Core, Digest}
+use Rattle.command_run.specs.declared.recording.Recording.TheVariants.{Trace, Timeline, Report, Findings, Core, Digest}
 use Rattle.command_requests.specs.Destination.{target_of}
 use Rattle.symbols.specs.Symbol.{SymbolLists}
 use Rattle.symbols.specs.Symbols.{symbols_of}
 use Rattle.command_run.specs.Observing.{AreFound}
-use Rattle.races.specs.Texts.{text_of}
-use Rattle.races.specs.declared.race.Race.{Race}
+use Rattle.races.specs.FindingTexts.{text_of}
+use Rattle.races.specs.declared.finding.Finding.{Finding}
 use Rattle.command_run.specs.declared.opened_run.OpenedRun.{OpenedRun}
-use Rattle.command_run.specs.Serves.{left_after, AreOneFile, AreOpenedFrom, AreRun, AreWantedRaces, Concludes, Host, IsBegun, IsStopped, IsUnrun, LeavesTexts, RunRequest, RunsInto}
+use Rattle.command_run.specs.Serves.{left_after, AreOneFile, AreOpenedFrom, AreRun, AreWantedFindings, Concludes, Host, IsBegun, IsStopped, IsUnrun, LeavesTexts, RunRequest, RunsInto}
 use Rattle.command_requests.specs.declared.destination.Destination.{Destination}
 use Rattle.command_requests.specs.declared.failure.Failure.{Failure}
 use Rattle.command_requests.specs.declared.failure.Failure.TheVariants.{OutOfMemory}
@@ -105,7 +105,7 @@ failed_writes : {O : Type 0} (recording : TextRecording O) → has_failed record
 failed_writes (Timeline recorder) is = refl
 failed_writes (Trace recorder) is = refl
 failed_writes (Report recorder output) is = cc
-failed_writes (Races output) is = cc
+failed_writes (Findings output) is = cc
 failed_writes (Core output) is = cc
 failed_writes (Digest recorder output) is = cc
 
@@ -157,32 +157,32 @@ all_sent records setup end recorder old new ends sent =
     (ends.some.0, ends.some.1.legal, subst (λ (output : List ℕ). AppendsPrefix output old new) (sym ends.some.2.output) (appends_prefix end.output.items old new sent))
 
 -- what a run left that had these turns and changes, and this end
-abbrev left_with : List Turn → List Change → RunEnd → (races : List ℕ) → Left
-left_with turns changes end races =
-    record { turns = turns; changes = changes; ends = end.outcome; output = end.output.items; memory = cells_of end.memory; threads = end.threads.items; races = races }
+abbrev left_with : List Turn → List Change → RunEnd → (findings : List ℕ) → Left
+left_with turns changes end findings =
+    record { turns = turns; changes = changes; ends = end.outcome; output = end.output.items; memory = cells_of end.memory; threads = end.threads.items; findings = findings }
 
-module _ {R : Type 0} (told : Recording R) (tells : Type 0) (wanted : List RequestedText) (symbols : SymbolLists) (setup : Setup) (end : RunEnd) (races : List ℕ) (recorders : R)
-    (before after : Host) (now : Content) (mid : Option (List ℕ)) (ends : Ends told setup end recorders) (are_races : AreWantedRaces wanted symbols setup races) where
+module _ {R : Type 0} (told : Recording R) (tells : Type 0) (wanted : List RequestedText) (symbols : SymbolLists) (setup : Setup) (end : RunEnd) (findings : List ℕ) (recorders : R)
+    (before after : Host) (now : Content) (mid : Option (List ℕ)) (ends : Ends told setup end recorders) (are_findings : AreWantedFindings wanted symbols setup findings) where
   abbrev history : History
   history = ends.some.0
 
   abbrev left_put : List ℕ → Left
   left_put output =
-      record { turns = turns_of history; changes = changes_of history; ends = end.outcome; output = output; memory = cells_of end.memory; threads = end.threads.items; races = races }
+      record { turns = turns_of history; changes = changes_of history; ends = end.outcome; output = output; memory = cells_of end.memory; threads = end.threads.items; findings = findings }
 
   left_so : (output : List ℕ)
-      → left_put output ≡ left_after setup history end.outcome output races
+      → left_put output ≡ left_after setup history end.outcome output findings
   left_so output =
       ap
-      (λ (memory : Memory). record { turns = turns_of history; changes = changes_of history; ends = end.outcome; output = output; memory = memory; threads = end.threads.items; races = races })
+      (λ (memory : Memory). record { turns = turns_of history; changes = changes_of history; ends = end.outcome; output = output; memory = memory; threads = end.threads.items; findings = findings })
       (sym ends.some.2.memory)
       ∙ ap
       (λ (threads : List Thread).
-      record { turns = turns_of history; changes = changes_of history; ends = end.outcome; output = output; memory = (present setup history).memory; threads = threads; races = races })
+      record { turns = turns_of history; changes = changes_of history; ends = end.outcome; output = output; memory = (present setup history).memory; threads = threads; findings = findings })
       (sym ends.some.2.threads)
 
-  leaves_texts : (texts : List Placed) → AreTextsOf wanted (left_with (turns_of history) (changes_of history) end races) texts
-      → LeavesTexts setup wanted end.outcome end.output.items races texts history
+  leaves_texts : (texts : List Placed) → AreTextsOf wanted (left_with (turns_of history) (changes_of history) end findings) texts
+      → LeavesTexts setup wanted end.outcome end.output.items findings texts history
   leaves_texts texts are = record {
     ends_so = ends.some.2.ends;
     output_is = ends.some.2.output;
@@ -192,12 +192,12 @@ module _ {R : Type 0} (told : Recording R) (tells : Type 0) (wanted : List Reque
   module _ {T : Type 0} (texts : List RequestedText) (result : Result T Failure) (same : texts ≡ wanted) (kept : KeepsBut [] (destinations wanted) before.files now)
       (sent : Appends before.output mid end.output.items)
       (has : (turns : List Turn) (changes : List Change) → told recorders turns changes → AreInOrder changes
-      → ComesOut tells texts (left_with turns changes end races) now after.files mid after.output result) where
+      → ComesOut tells texts (left_with turns changes end findings) now after.files mid after.output result) where
     -- what became of the wanted texts
-    came_out : ComesOut tells wanted (left_with (turns_of history) (changes_of history) end races) before.files after.files mid after.output result
+    came_out : ComesOut tells wanted (left_with (turns_of history) (changes_of history) end findings) before.files after.files mid after.output result
     came_out =
-        from_before tells wanted (left_with (turns_of history) (changes_of history) end races) before.files now after.files mid after.output result kept
-        (subst (λ (all : List RequestedText). ComesOut tells all (left_with (turns_of history) (changes_of history) end races) now after.files mid after.output result) same
+        from_before tells wanted (left_with (turns_of history) (changes_of history) end findings) before.files now after.files mid after.output result kept
+        (subst (λ (all : List RequestedText). ComesOut tells all (left_with (turns_of history) (changes_of history) end findings) now after.files mid after.output result) same
         (has (turns_of history) (changes_of history) ends.some.2.recorded (in_order setup history ends.some.1.legal)))
 
     -- the texts are where they are to be
@@ -205,19 +205,19 @@ module _ {R : Type 0} (told : Recording R) (tells : Type 0) (wanted : List Reque
     concludes_well one goes good =
         let out = all_out_of result good came_out in (
           end.output.items,
-          races,
+          findings,
           out.texts,
-          one_answer setup history end.outcome (LeavesTexts setup wanted end.outcome end.output.items races out.texts) one goes ends.some.1.legal ends.some.2.ends
+          one_answer setup history end.outcome (LeavesTexts setup wanted end.outcome end.output.items findings out.texts) one goes ends.some.1.legal ends.some.2.ends
               (leaves_texts out.texts out.are_texts),
-          are_races,
+          are_findings,
           out.out.filed,
           out.others,
           λ can. Appends-trans before.output mid after.output _ _ sent (printed_all tells out.texts mid after.output out.out.printed_after can),
         )
       where
         all_out_of : (result : Result T Failure) → IsOk result
-            → ComesOut tells wanted (left_with (turns_of history) (changes_of history) end races) before.files after.files mid after.output result
-            → AreAllOut tells wanted (left_with (turns_of history) (changes_of history) end races) before.files after.files mid after.output
+            → ComesOut tells wanted (left_with (turns_of history) (changes_of history) end findings) before.files after.files mid after.output result
+            → AreAllOut tells wanted (left_with (turns_of history) (changes_of history) end findings) before.files after.files mid after.output
         all_out_of (Ok done) good out = out
         all_out_of (Err failure) good out =
             let no : IsOk {T = T} {E = Failure} (Err failure) = good in
@@ -232,13 +232,13 @@ module _ {R : Type 0} (told : Recording R) (tells : Type 0) (wanted : List Reque
       ends_so = ends.some.2.ends;
       between = mid;
       put_out = subst (λ (output : List ℕ). Appends before.output mid output) (sym ends.some.2.output) sent;
-      races = races;
-      are_races = are_races;
+      findings = findings;
+      are_findings = are_findings;
       unwritten =
           subst (λ (left : Left). AreCutShort tells wanted left before.files after.files mid after.output failure)
           (ap (λ (output : List ℕ). left_put output) (sym ends.some.2.output) ∙ left_so (present setup history).output)
           (subst
-          (λ (given : Result T Failure). ComesOut tells wanted (left_with (turns_of history) (changes_of history) end races) before.files after.files mid after.output given)
+          (λ (given : Result T Failure). ComesOut tells wanted (left_with (turns_of history) (changes_of history) end findings) before.files after.files mid after.output given)
           is came_out);
     })
 
@@ -303,13 +303,13 @@ pub runs_to : (tells : Type 0) (request : RunRequest) (before after : Host) (ope
 runs_to tells request before after opened answer are concluded =
     inl (begun (before.files request.path) request.input request.config opened (λ symbols setup. Concludes tells request.wanted symbols before after setup answer) are concluded)
 
--- the text that was made is that of the wanted races
-pub wanted_races : (wanted : List RequestedText) (symbols : SymbolLists) (own : Option SymbolLists) (setup : Setup) (races : List Race) (text : List ℕ)
-    → is_some own ≡ wants_races wanted → IfSome own (λ own. own ≡ symbols) → AreFound (is_some own) setup races
-    → IfSome own (λ own. text ≡ text_of own races) → AreWantedRaces wanted symbols setup text
-wanted_races wanted symbols None setup races text same names are is wants = absurd (unlike (same ∙ wants))
-wanted_races wanted symbols (Some own) setup races text same names are is wants =
-    (races, are, is ∙ ap (λ (names : SymbolLists). text_of names races) names)
+-- the text that was made is that of the wanted findings
+pub wanted_findings : (wanted : List RequestedText) (symbols : SymbolLists) (own : Option SymbolLists) (setup : Setup) (findings : List Finding) (text : List ℕ)
+    → is_some own ≡ wants_findings wanted → IfSome own (λ own. own ≡ symbols) → AreFound (is_some own) setup findings
+    → IfSome own (λ own. text ≡ text_of own findings) → AreWantedFindings wanted symbols setup text
+wanted_findings wanted symbols None setup findings text same names are is wants = absurd (unlike (same ∙ wants))
+wanted_findings wanted symbols (Some own) setup findings text same names are is wants =
+    (findings, are, is ∙ ap (λ (names : SymbolLists). text_of names findings) names)
 
 -- no run of the file began
 pub runs_unbegun : (tells : Type 0) (request : RunRequest) (before after : Host) (failure : Failure) (answer : Result RunOutcome Failure)
@@ -324,7 +324,7 @@ runs_unbegun tells request before after failure answer unrun files output given 
   output_kept = output;
 })
 
--- a run that came to its end, and for whose races memory was refused: all of its output was put out
+-- a run that came to its end, and for whose findings memory was refused: all of its output was put out
 pub concludes_refused : {R : Type 0} (told : Recording R) (tells : Type 0) (wanted : List RequestedText) (symbols : SymbolLists) (setup : Setup) (end : RunEnd) (recorders : R)
     (before after : Host) (failure : Failure) → Ends told setup end recorders → failure ≡ OutOfMemory → Appends before.output after.output end.output.items
     → KeepsBut [] (destinations wanted) before.files after.files → Concludes tells wanted symbols before after setup (Err failure)

@@ -1,3 +1,4 @@
+pub mod Explaining
 pub mod Failure
 pub mod Observing
 pub mod Placing

@@ -14,14 +14,14 @@ use Rattle.command_requests.specs.declared.text.Text.TheVariants as text
 use Rattle.command_requests.specs.declared.requested_text.RequestedText.{RequestedText}
 use Rattle.command_run.specs.declared.item.Item.{Item}
 use Rattle.command_run.specs.declared.recording.Recording.{Recording}
-use Rattle.command_run.specs.declared.recording.Recording.TheVariants.{Trace, Timeline, Report, Races, Core, Digest}
+use Rattle.command_run.specs.declared.recording.Recording.TheVariants.{Trace, Timeline, Report, Findings, Core, Digest}
 
 -- which text it is
 abbrev pub kind_of : {O : Type 0} → Recording O → Text
 kind_of (Trace recorder) = text.Trace
 kind_of (Timeline recorder) = text.Timeline
 kind_of (Report recorder output) = text.Report
-kind_of (Races output) = text.Races
+kind_of (Findings output) = text.Findings
 kind_of (Core output) = text.Core
 kind_of (Digest recorder output) = text.Digest
 
@@ -37,7 +37,7 @@ abbrev pub IsTold : {O : Type 0} → (O → Option (List ℕ)) → List Turn →
 IsTold contents turns changes (Trace recorder) = Traces contents recorder turns
 IsTold contents turns changes (Timeline recorder) = HasTimeline contents recorder turns changes
 IsTold contents turns changes (Report recorder output) = Shares recorder changes × Has contents output []
-IsTold contents turns changes (Races output) = Has contents output []
+IsTold contents turns changes (Findings output) = Has contents output []
 IsTold contents turns changes (Core output) = Has contents output []
 IsTold contents turns changes (Digest recorder output) = Digests recorder turns × Has contents output []
 
@@ -50,7 +50,7 @@ abbrev pub IsReadyFor : {O : Type 0} → List ℕ → Recording O → Type 0
 IsReadyFor addresses (Trace recorder) = recorder.last ≡ None
 IsReadyFor addresses (Timeline recorder) = (recorder.last ≡ None) × (recorder.pages ≡ page_count addresses)
 IsReadyFor addresses (Report recorder output) = IsPrepared recorder addresses
-IsReadyFor addresses (Races output) = Unit {0}
+IsReadyFor addresses (Findings output) = Unit {0}
 IsReadyFor addresses (Core output) = Unit {0}
 IsReadyFor addresses (Digest recorder output) = recorder.last ≡ None
 
@@ -62,7 +62,7 @@ abbrev pub writes_meanwhile : Text → Bool
 writes_meanwhile text.Trace = true
 writes_meanwhile text.Timeline = true
 writes_meanwhile text.Report = false
-writes_meanwhile text.Races = false
+writes_meanwhile text.Findings = false
 writes_meanwhile text.Core = false
 writes_meanwhile text.Digest = false
 
@@ -75,7 +75,7 @@ abbrev pub has_failed : {O : Type 0} → Recording O → Bool
 has_failed (Timeline recorder) = is_some recorder.failure
 has_failed (Trace recorder) = false
 has_failed (Report recorder output) = false
-has_failed (Races output) = false
+has_failed (Findings output) = false
 has_failed (Core output) = false
 has_failed (Digest recorder output) = false
 

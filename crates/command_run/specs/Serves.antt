@@ -25,7 +25,7 @@ use Rattle.token.specs.declared.run_in_turn.RunInTurn.{RunInTurn}
 use Rattle.command_requests.specs.Names.{AreTwins, Sameness, names_of}
 use Rattle.command_requests.specs.Reading.{AreRead, IsUnread}
 use Rattle.command_requests.specs.Destination.{KeepsBut}
-use Rattle.command_requests.specs.Texts.{wants_races}
+use Rattle.command_requests.specs.Texts.{wants_findings}
 use Rattle.command_run.specs.Placing.{IsUnwrittenTo}
 use Rattle.command_run.specs.Recording.{AreTold, writes_meanwhile}
 use Rattle.command_run.specs.Texts.{AreCutShort, AreFiled, AreTextsOf, CanPrintAll, IsUnbegun, Left, Placed, destinations, printed}
@@ -36,7 +36,7 @@ use Rattle.command_requests.specs.declared.target.Target.TheVariants.{StandardOu
 use Rattle.command_requests.specs.declared.requested_text.RequestedText.{RequestedText}
 use Rattle.command_run.specs.declared.opened_run.OpenedRun.{OpenedRun}
 use Rattle.command_run.specs.Failure.{failure_of_refusal}
-use Rattle.command_run.specs.Observing.{IsRaceText}
+use Rattle.command_run.specs.Observing.{IsFindingText}
 use Rattle.symbols.specs.Symbol.{SymbolLists}
 use Rattle.symbols.specs.Symbols.{symbols_of}
 
@@ -83,12 +83,12 @@ AreRun content input Is =
 abbrev pub IsOpenedFrom : Config → RunInTurn → List ℕ → List ℕ → Type 0
 IsOpenedFrom config start elf input = IsAccepted elf input config × ((point_of start).setup ≡ setup_from elf input config)
 
--- and the names that its races are told by, if they are wanted, are those of the file's symbols
+-- and the names that its findings are told by, if they are wanted, are those of the file's symbols
 pub record AreOpenedFrom (config : Config) (opened : OpenedRun) (elf input : List ℕ) : Type 0 where
   pub start : IsOpenedFrom config opened.start elf input
   pub symbols : IfSome opened.symbols (λ symbols. symbols ≡ symbols_of elf)
 
--- A run was opened of which no turn is done, and the names that its races are told by are there exactly where they are wanted.
+-- A run was opened of which no turn is done, and the names that its findings are told by are there exactly where they are wanted.
 pub record IsReady (observes : Bool) (opened : OpenedRun) : Type 0 where
   pub wanted : is_some opened.symbols ≡ observes
   pub done : (point_of opened.start).done ≡ 0
@@ -99,9 +99,9 @@ abbrev pub IsUnrun : List ℕ → Option (List ℕ) → Option (List ℕ) → Co
 IsUnrun path content input config failure =
     IsUnread path failure ⊎ AreRun content input (λ elf given. IsRefused elf given config failure)
 
--- what a run left that had this history and ended so, with this output and this text of its races
-abbrev pub left_after : Setup → History → RunOutcome → (output races : List ℕ) → Left
-left_after setup history ends output races =
+-- what a run left that had this history and ended so, with this output and this text of its findings
+abbrev pub left_after : Setup → History → RunOutcome → (output findings : List ℕ) → Left
+left_after setup history ends output findings =
     record {
       turns = turns_of history;
       changes = changes_of history;
@@ -109,18 +109,18 @@ left_after setup history ends output races =
       output = output;
       memory = (present setup history).memory;
       threads = (present setup history).threads;
-      races = races;
+      findings = findings;
     }
 
--- how a history ends, its output, and the texts of its turns and changes, with this text of its races
-pub record LeavesTexts (setup : Setup) (wanted : List RequestedText) (ends : RunOutcome) (output races : List ℕ) (texts : List Placed) (history : History) : Type 0 where
+-- how a history ends, its output, and the texts of its turns and changes, with this text of its findings
+pub record LeavesTexts (setup : Setup) (wanted : List RequestedText) (ends : RunOutcome) (output findings : List ℕ) (texts : List Placed) (history : History) : Type 0 where
   pub ends_so : outcome setup history ≡ Some ends
   pub output_is : (present setup history).output ≡ output
-  pub texts_are : AreTextsOf wanted (left_after setup history ends output races) texts
+  pub texts_are : AreTextsOf wanted (left_after setup history ends output findings) texts
 
 -- There is a complete history that ends so, with this output and these texts, and so it is with every complete history.
-abbrev pub ComesTo : Setup → List RequestedText → RunOutcome → (output races : List ℕ) → List Placed → Type 0
-ComesTo setup wanted ends output races texts = HasAnswer setup (LeavesTexts setup wanted ends output races texts)
+abbrev pub ComesTo : Setup → List RequestedText → RunOutcome → (output findings : List ℕ) → List Placed → Type 0
+ComesTo setup wanted ends output findings texts = HasAnswer setup (LeavesTexts setup wanted ends output findings texts)
 
 -- a write of one of the texts that are written as the turns are done failed
 abbrev pub IsUnwrittenMeanwhile : List RequestedText → Failure → Type 0
@@ -140,9 +140,9 @@ abbrev pub IsHalted : List RequestedText → (before after : Host) → Failure �
 IsHalted wanted before after failure setup =
     (IsUnbegun wanted failure × (after.output ≡ before.output)) ⊎ IsStopped wanted setup before after failure
 
--- the text is that of the run's races, if they are wanted
-abbrev pub AreWantedRaces : List RequestedText → SymbolLists → Setup → List ℕ → Type 0
-AreWantedRaces wanted symbols setup text = wants_races wanted ≡ true → IsRaceText symbols setup text
+-- the text is that of the run's findings, if they are wanted
+abbrev pub AreWantedFindings : List RequestedText → SymbolLists → Setup → List ℕ → Type 0
+AreWantedFindings wanted symbols setup text = wants_findings wanted ≡ true → IsFindingText symbols setup text
 
 -- There is a complete history, all of its output is put out, and then one of its texts didn't get to where it is to be.
 pub record IsLeftOut (tells : Type 0) (wanted : List RequestedText) (symbols : SymbolLists) (before after : Host) (failure : Failure) (setup : Setup) : Type 0 where
@@ -152,16 +152,16 @@ pub record IsLeftOut (tells : Type 0) (wanted : List RequestedText) (symbols : S
   pub ends_so : outcome setup history ≡ Some ends
   pub between : Option (List ℕ)
   pub put_out : Appends before.output between (present setup history).output
-  pub races : List ℕ
-  pub are_races : AreWantedRaces wanted symbols setup races
-  pub unwritten : AreCutShort tells wanted (left_after setup history ends (present setup history).output races) before.files after.files between after.output failure
+  pub findings : List ℕ
+  pub are_findings : AreWantedFindings wanted symbols setup findings
+  pub unwritten : AreCutShort tells wanted (left_after setup history ends (present setup history).output findings) before.files after.files between after.output failure
 
 -- What a run that nothing refuses answers: its outcome, with the output put out and each text where it is to be, and the other files as they
 -- were. Or it has no answer, and the files are as they were but for the parts; or a text didn't get to where it is to be.
 abbrev pub Concludes : Type 0 → List RequestedText → SymbolLists → (before after : Host) → Setup → Result RunOutcome Failure → Type 0
 Concludes tells wanted symbols before after setup (Ok ends) =
-    (put : List ℕ) × (races : List ℕ) × (texts : List Placed) × ComesTo setup wanted ends put races texts
-    × AreWantedRaces wanted symbols setup races
+    (put : List ℕ) × (findings : List ℕ) × (texts : List Placed) × ComesTo setup wanted ends put findings texts
+    × AreWantedFindings wanted symbols setup findings
     × AreFiled texts [] after.files
     × KeepsBut (destinations wanted) [] before.files after.files
     × (CanPrintAll tells texts → Appends before.output after.output (put ++ printed texts))

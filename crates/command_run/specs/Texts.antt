@@ -22,12 +22,12 @@ use Rattle.command_requests.specs.declared.destination.Destination.{Destination}
 use Rattle.command_requests.specs.declared.failure.Failure.{Failure}
 use Rattle.command_requests.specs.declared.failure.Failure.TheVariants.{OutOfMemory}
 use Rattle.command_requests.specs.declared.text.Text.{Text}
-use Rattle.command_requests.specs.declared.text.Text.TheVariants.{Trace, Timeline, Report, Races, Core, Digest}
+use Rattle.command_requests.specs.declared.text.Text.TheVariants.{Trace, Timeline, Report, Findings, Core, Digest}
 use Rattle.command_requests.specs.declared.requested_text.RequestedText.{RequestedText}
 use Rattle.command_run.specs.Placing.{IsUnbegunFor, IsUnwrittenTo, KeepsUnlessPrinted}
 use Rattle.command_run.specs.declared.ended_run.EndedRun.{EndedRun}
 
--- what a run left: its turns, what they changed, how it ended, its output, its memory, its threads and the text of its races
+-- what a run left: its turns, what they changed, how it ended, its output, its memory, its threads and the text of its findings
 pub record Left : Type 0 where
   pub turns : List Turn
   pub changes : List Change
@@ -35,7 +35,7 @@ pub record Left : Type 0 where
   pub output : List ℕ
   pub memory : Memory
   pub threads : List Thread
-  pub races : List ℕ
+  pub findings : List ℕ
 
 -- what a run left that had these turns and changes, and ended so
 abbrev pub left_by : List Turn → List Change → EndedRun → Left
@@ -47,7 +47,7 @@ left_by turns changes ended =
       output = ended.end.output.items;
       memory = cells_of ended.end.memory;
       threads = ended.end.threads.items;
-      races = string_bytes ended.races;
+      findings = string_bytes ended.findings;
     }
 
 -- the report of the sharing of these changes
@@ -66,7 +66,7 @@ abbrev pub IsTextOf : Text → Left → List ℕ → Type 0
 IsTextOf Trace left text = text ≡ trace_text_of left.turns
 IsTextOf Timeline left text = text ≡ timeline_text left.turns left.changes
 IsTextOf Report left text = IsReportOf left.changes text
-IsTextOf Races left text = text ≡ left.races
+IsTextOf Findings left text = text ≡ left.findings
 IsTextOf Core left text = IsCore left.ends left.memory left.threads text
 IsTextOf Digest left text = text ≡ digest_text left.ends left.output left.memory (trace_text_of left.turns)
 

@@ -86,18 +86,18 @@ pub(crate) fn complete_report<'a, O: Write>(
     }
 }
 
-/// Writes the races.
-pub(crate) fn complete_races<'a, O: Write>(
+/// Writes the findings.
+pub(crate) fn complete_findings<'a, O: Write>(
     output: O,
     destination: Destination<'a>,
     ended: &EndedRun,
 ) -> (O, Result<(), Failure<'a>>)
     ensures whole { OnOk result.1 (Has O.contents output []
-        → (text : List ℕ) × (text ≡ string_bytes ended.now.races) × Has O.contents result.0 text) }
+        → (text : List ℕ) × (text ≡ string_bytes ended.now.findings) × Has O.contents result.0 text) }
     ensures failed { IfErr result.1 (IsUnwrittenTo destination.entry) }
 {
     let mut output = output;
-    let written = write_whole(destination, &mut output, ended.races.as_bytes());
+    let written = write_whole(destination, &mut output, ended.findings.as_bytes());
     (output, written)
 }
 

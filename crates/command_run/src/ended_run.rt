@@ -6,6 +6,6 @@ use runtime::RunEnd;
 pub(crate) struct EndedRun {
     /// How it ended, its output, its memory and its threads.
     pub(crate) end: RunEnd,
-    /// The text of its races, if that is wanted.
-    pub(crate) races: String,
+    /// The text of its findings, if that is wanted.
+    pub(crate) findings: String,
 }

@@ -6,6 +6,7 @@ mod beginning;
 mod completing;
 mod concluding;
 mod ended_run;
+mod explaining;
 mod finishing;
 mod item;
 mod items;

@@ -11,7 +11,7 @@ ghost use Rattle.command_run.specs.Recording.{IsReadyFor, IsTold, kind_of, write
 ghost use Rattle.command_run.specs.Texts.{IsTextOf, left_by};
 
 use crate::completing::{
-    complete_core, complete_digest, complete_races, complete_report, complete_timeline,
+    complete_core, complete_digest, complete_findings, complete_report, complete_timeline,
     complete_trace,
 };
 use crate::ended_run::EndedRun;
@@ -33,8 +33,8 @@ pub(crate) enum Recording<O> {
     Timeline(TimelineRecorder<O>),
     /// What the report is made of.
     Report(SharingRecorder, O),
-    /// The races are found by who does the turns.
-    Races(O),
+    /// The findings are found by who does the turns.
+    Findings(O),
     /// The core file is made of the end alone.
     Core(O),
     /// What the digest is made of.
@@ -52,7 +52,7 @@ impl<O: Write> Recording<O> {
             Text::Trace => Recording::Trace(TraceRecorder::new(alloc, output)),
             Text::Timeline => Recording::Timeline(TimelineRecorder::new(alloc, output)),
             Text::Report => Recording::Report(SharingRecorder::new(alloc), output),
-            Text::Races => Recording::Races(output),
+            Text::Findings => Recording::Findings(output),
             Text::Core => Recording::Core(output),
             Text::Digest => Recording::Digest(DigestRecorder::new(alloc), output),
         }
@@ -70,7 +70,7 @@ impl<O: Write> Recording<O> {
             Recording::Trace(trace) => trace.prepare(patch),
             Recording::Timeline(timeline) => timeline.prepare(patch),
             Recording::Report(sharing, _) => sharing.prepare(patch),
-            Recording::Races(_) | Recording::Core(_) => Ok(()),
+            Recording::Findings(_) | Recording::Core(_) => Ok(()),
             Recording::Digest(digest, _) => digest.prepare(patch),
         }
     }
@@ -87,7 +87,7 @@ impl<O: Write> Recording<O> {
             Recording::Trace(trace) => trace.record(turn),
             Recording::Timeline(timeline) => timeline.record(turn),
             Recording::Report(sharing, _) => sharing.record(turn),
-            Recording::Races(_) | Recording::Core(_) => {}
+            Recording::Findings(_) | Recording::Core(_) => {}
             Recording::Digest(digest, _) => digest.record(turn),
         }
     }
@@ -99,7 +99,7 @@ impl<O: Write> Recording<O> {
         match self {
             Recording::Trace(_) | Recording::Timeline(_) => true,
             Recording::Report(..)
-            | Recording::Races(_)
+            | Recording::Findings(_)
             | Recording::Core(_)
             | Recording::Digest(..) => false,
         }
@@ -113,7 +113,7 @@ impl<O: Write> Recording<O> {
             Recording::Timeline(timeline) => timeline.failure().is_some(),
             Recording::Trace(_)
             | Recording::Report(..)
-            | Recording::Races(_)
+            | Recording::Findings(_)
             | Recording::Core(_)
             | Recording::Digest(..) => false,
         }
@@ -125,7 +125,7 @@ impl<O: Write> Recording<O> {
             Recording::Trace(trace) => trace.into_writer(),
             Recording::Timeline(timeline) => timeline.into_writer(),
             Recording::Report(_sharing, output) => output,
-            Recording::Races(output) | Recording::Core(output) => output,
+            Recording::Findings(output) | Recording::Core(output) => output,
             Recording::Digest(_digest, output) => output,
         }
     }
@@ -149,7 +149,7 @@ impl<O: Write> Recording<O> {
             Recording::Report(sharing, output) => {
                 complete_report(alloc, sharing, output, destination)
             }
-            Recording::Races(output) => complete_races(output, destination, ended),
+            Recording::Findings(output) => complete_findings(output, destination, ended),
             Recording::Core(output) => complete_core(alloc, output, destination, ended),
             Recording::Digest(digest, output) => {
                 complete_digest(alloc, digest, output, destination, ended)

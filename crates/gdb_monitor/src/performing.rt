@@ -6,9 +6,8 @@ ghost use Rattle.gdb_monitor.specs.Searching.{Stays};
 use crate::command::Command;
 use crate::searching::{existing, step_of};
 use crate::texts::{locks_text, position_text, shared_text, thread_line};
-use crate::trace::print_trace;
-use crate::writers::print_writers;
-use gdb_packets::Wire;
+use crate::trace::say_trace;
+use crate::writers::say_writers;
 use std::alloc::{AllocError, Global};
 use timeline::Timeline;
 
@@ -25,11 +24,11 @@ output             what the guest has written up to here
 help               this list
 ";
 
-/// Does a command, with so many threads listed, and prints what it has to say. Answers the step to which the next resume is
-/// to go, if the command chooses one.
+/// Does a command, with so many threads listed, and adds what it has to say to a text. Answers the step to which the next
+/// resume is to go, if the command chooses one.
 pub fn perform_command(
     alloc: Global,
-    wire: &mut Wire,
+    said: &mut Vec<u8>,
     timeline: &mut Timeline,
     listed: u32,
     command: Command,
@@ -40,64 +39,66 @@ pub fn perform_command(
     match command {
         Command::Turn { turn, count } => {
             let step = step_of(timeline, turn, count)?;
-            choose(alloc, wire, step)
+            choose(alloc, said, step)
         }
         Command::Go(step) => {
             let step = existing(timeline, step)?;
-            choose(alloc, wire, step)
+            choose(alloc, said, step)
         }
         _ => {
-            tell(alloc, wire, timeline, listed, command)?;
+            tell(alloc, said, timeline, listed, command)?;
             Ok(None)
         }
     }
 }
 
-/// Prints what a command asks for that chooses no position.
+/// Says what a command asks for that chooses no position.
 fn tell(
     alloc: Global,
-    wire: &mut Wire,
+    said: &mut Vec<u8>,
     timeline: &Timeline,
     listed: u32,
     command: Command,
 ) -> Result<(), AllocError> {
     match command {
-        Command::Help => wire.print(HELP),
-        Command::Where => wire.print(position_text(alloc, timeline)?.as_bytes()),
-        Command::Trace { first, last } => print_trace(alloc, wire, timeline, first, last),
-        Command::Threads => print_threads(alloc, wire, timeline, listed),
-        Command::Locks => wire.print(locks_text(alloc, timeline)?.as_bytes()),
-        Command::Writers(span) => print_writers(alloc, wire, timeline, span),
-        Command::Shared(span) => wire.print(shared_text(alloc, timeline, span)?.as_bytes()),
-        Command::Output => wire.print(timeline.serial().output()),
-        Command::NoNumber => wire.print(b"dthreads: not a number\n"),
+        Command::Help => said.extend_from_slice(HELP),
+        Command::Where => said.extend_from_slice(position_text(alloc, timeline)?.as_bytes()),
+        Command::Trace { first, last } => say_trace(alloc, said, timeline, first, last),
+        Command::Threads => say_threads(alloc, said, timeline, listed),
+        Command::Locks => said.extend_from_slice(locks_text(alloc, timeline)?.as_bytes()),
+        Command::Writers(span) => say_writers(alloc, said, timeline, span),
+        Command::Shared(span) => said.extend_from_slice(shared_text(
+            alloc, timeline, span,
+        )?.as_bytes()),
+        Command::Output => said.extend_from_slice(timeline.serial().output()),
+        Command::NoNumber => said.extend_from_slice(b"dthreads: not a number\n"),
         Command::Turn { .. } | Command::Go(_) | Command::Unknown => {
-            wire.print(b"dthreads: no such command; monitor help lists them\n")
+            said.extend_from_slice(b"dthreads: no such command; monitor help lists them\n")
         }
     }
 }
 
-/// Prints what each listed thread does, and which memory it shows.
-fn print_threads(
+/// Says what each listed thread does, and which memory it shows.
+fn say_threads(
     alloc: Global,
-    wire: &mut Wire,
+    said: &mut Vec<u8>,
     timeline: &Timeline,
     listed: u32,
 ) -> Result<(), AllocError> {
     for thread in 0..listed {
-        wire.print(thread_line(alloc, timeline, thread)?.as_bytes())?;
+        said.extend_from_slice(thread_line(alloc, timeline, thread)?.as_bytes())?;
     }
     Ok(())
 }
 
 /// Says whether a position was chosen for the next resume.
-fn choose(alloc: Global, wire: &mut Wire, step: Option<u64>) -> Result<Option<u64>, AllocError> {
+fn choose(alloc: Global, said: &mut Vec<u8>, step: Option<u64>) -> Result<Option<u64>, AllocError> {
     match step {
         Some(step) => {
             let line = format!(in alloc; "the next resume goes to step {step}\n")?;
-            wire.print(line.as_bytes())?;
+            said.extend_from_slice(line.as_bytes())?;
         }
-        None => wire.print(b"no such position\n")?,
+        None => said.extend_from_slice(b"no such position\n")?,
     }
     Ok(step)
 }

@@ -1,14 +1,13 @@
 //! The trace up to the present position, made again from the run's start.
-use gdb_packets::Wire;
 use std::alloc::{AllocError, Global};
 use timeline::{Timeline, moved};
 use token::{Next, NoRecord, Serial, Turn, next_turn};
 use tracer::write_line;
 
-/// Prints the lines of the trace up to here, from one turn to another.
-pub(crate) fn print_trace(
+/// Says the lines of the trace up to here, from one turn to another.
+pub(crate) fn say_trace(
     alloc: Global,
-    wire: &mut Wire,
+    said: &mut Vec<u8>,
     timeline: &Timeline,
     first: u64,
     last: u64,
@@ -21,7 +20,7 @@ pub(crate) fn print_trace(
         if first <= number {
             let mut text = format!(in alloc; "{number}: ")?;
             write_line(&mut text, &turn)?;
-            wire.print(text.as_bytes())?;
+            said.extend_from_slice(text.as_bytes())?;
         }
     }
     Ok(())

@@ -1,39 +1,52 @@
 //! The turns that changed some bytes, made again from the run's start.
+ghost use Rattle.std.specs.Prelude.{◌≡◌, IfOk, min};
+
 use crate::command::Span;
 use commit::changed_addresses;
-use gdb_packets::{Wire, write_bytes};
+use gdb_packets::write_bytes;
 use paged_memory::Snapshot;
 use std::alloc::{AllocError, Global};
 use timeline::{Timeline, moved};
 use token::{Need, Next, NoRecord, SegmentEnd, Serial, next_turn};
 
 /// How many bytes are looked at for their writers at most.
-const WRITERS_LIMIT: u32 = 64;
+const WRITERS_LIMIT: u32 = 4096;
 
-/// Prints the turns so far that changed one of these bytes.
-pub(crate) fn print_writers(
+/// Says the turns so far that changed one of these bytes.
+pub(crate) fn say_writers(
     alloc: Global,
-    wire: &mut Wire,
+    said: &mut Vec<u8>,
     timeline: &Timeline,
     span: Span,
 ) -> Result<(), AllocError> {
-    let span = Span {
-        start: span.start,
-        count: span.count.min(WRITERS_LIMIT),
-    };
+    let span = looked_at(alloc, said, span)?;
     let mut serial = timeline.beginning()?;
     let mut is_none = true;
     for number in 1..=timeline.serial().done() {
         let line = writer_line(alloc, &mut serial, number, span)?;
         if !line.is_empty() {
             is_none = false;
-            wire.print(line.as_bytes())?;
+            said.extend_from_slice(line.as_bytes())?;
         }
     }
     if is_none {
-        wire.print(b"no turn so far\n")?;
+        said.extend_from_slice(b"no turn so far\n")?;
     }
     Ok(())
+}
+
+/// The bytes that are looked at. If they are fewer than was asked for, that is said.
+fn looked_at(alloc: Global, said: &mut Vec<u8>, span: Span) -> Result<Span, AllocError>
+    ensures { IfOk result (λ looked. looked ≡ record { start = span.start; count = min span.count 4096 }) }
+{
+    if span.count > WRITERS_LIMIT {
+        let line = format!(in alloc; "looking at the first {WRITERS_LIMIT} bytes\n")?;
+        said.extend_from_slice(line.as_bytes())?;
+    }
+    Ok(Span {
+        start: span.start,
+        count: span.count.min(WRITERS_LIMIT),
+    })
 }
 
 /// Some bytes before a turn and after it.

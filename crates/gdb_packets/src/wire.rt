@@ -1,7 +1,7 @@
 //! The bytes for gdb: the frames of answers, and acknowledgements.
 ghost use Rattle.std.specs.Prelude.{◌≡◌, ◌++◌, [], OnOk, true, false};
 ghost use Rattle.gdb_packets.specs.Frames.{frame_of};
-ghost use Rattle.gdb_packets.specs.Wire.{IsPrinted, IsSent, Keeps, noted, printing, repeated, sent_of};
+ghost use Rattle.gdb_packets.specs.Wire.{IsPrinted, IsSaid, IsSent, Keeps, fits_answer, noted, printing, repeated, sent_of};
 
 use crate::digits::write_bytes;
 use crate::framing::frame;
@@ -10,6 +10,9 @@ use std::mem;
 
 /// How many bytes of the program's output a packet has at most.
 const OUTPUT_LIMIT: usize = 0x1000;
+
+/// How many bytes of what a command says its answer has at most. gdb has room for packets of twice as many.
+const SAID_LIMIT: usize = 0x1f00;
 
 /// The bytes for gdb that weren't taken yet.
 #[derive(Drop)]
@@ -45,6 +48,20 @@ impl Wire {
         self.last.clear();
         frame(self.alloc, text, &mut self.last)?;
         self.out.extend_from_slice(self.last.as_slice())
+    }
+
+    /// Answers a command with what it has to say. The answer is the text if that isn't too long: gdb can be interrupted between
+    /// two packets, and would take each later answer for the one before.
+    pub fn answer_command(&mut self, text: &[u8]) -> Result<(), AllocError>
+        ensures { OnOk result (IsSaid (fits_answer text.now) (sent_of self.old) text.now (sent_of self.new)) }
+    {
+        if !text.is_empty() && text.len() <= SAID_LIMIT {
+            let mut answer = String::new(self.alloc);
+            write_bytes(&mut answer, text)?;
+            return self.answer(answer.as_bytes());
+        }
+        self.print(text)?;
+        self.answer(b"OK")
     }
 
     /// Prints a text on the user's terminal, in packets of a bounded length.

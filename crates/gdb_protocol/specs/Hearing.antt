@@ -1,5 +1,5 @@
 -- What a byte of gdb does to a session.
-use Rattle.std.specs.Prelude.{◌≡◌, ◌⊎◌, ℕ, None, List, [], ◌∷◌, ◌++◌, codes}
+use Rattle.std.specs.Prelude.{◌≡◌, ◌⊎◌, ℕ, Bool, true, false, None, List, [], ◌∷◌, ◌++◌, codes}
 use Rattle.gdb_monitor.specs.Searching.{Stays}
 use Rattle.gdb_packets.specs.Frames.{bytes_begun, frame_of}
 use Rattle.gdb_packets.specs.Numbers.{IsNumber}
@@ -11,6 +11,7 @@ use Rattle.gdb_packets.specs.declared.window.Window.{Window}
 use Rattle.gdb_shown.specs.Memory.{memory_shown}
 use Rattle.gdb_shown.specs.Registers.{one_register_shown, registers_shown}
 use Rattle.timeline.specs.declared.line.Line.{Line}
+use Rattle.gdb_protocol.specs.Interrupts.{waits_for_next}
 use Rattle.gdb_protocol.specs.Moves.{Stands, Tells, moment_in}
 use Rattle.gdb_protocol.specs.Replies.{text_or_error}
 use Rattle.gdb_protocol.specs.declared.life.Life.TheVariants.{Alive}
@@ -48,9 +49,14 @@ pub record Handles (old new : Session) (text : List ℕ) : Type 0 where
 abbrev pub Sends : Session → Session → List ℕ → Type 0
 Sends old new bytes = IsSent old.wire bytes new.wire × (new ≡ record old { wire = new.wire; deframer = new.deframer })
 
+-- what an interrupt comes to: it is kept for what gdb goes on with next, or it is a stop where the run stands
+abbrev pub Interrupts : Bool → Session → Session → Type 0
+Interrupts true old new = new ≡ record old { deframer = new.deframer; is_interrupted = true }
+Interrupts false old new = Stands old new × (new.pursuit ≡ None) × (new.is_interrupted ≡ old.is_interrupted)
+
 -- what a byte outside of a frame comes to: an acknowledgement to nothing, a refusal to the last answer once more, an interrupt to a
--- stop where the run stands, if it goes on
+-- stop, or it is kept
 abbrev pub Reacts : Session → Session → Heard → Type 0
 Reacts old new heard.Refused = Sends old new (repeated old.wire)
-Reacts old new heard.Interrupt = Stands old new × (new.pursuit ≡ None) × (old.pursuit ≡ None → new ≡ record old { deframer = new.deframer })
+Reacts old new heard.Interrupt = Interrupts (waits_for_next old.pursuit) old new
 Reacts old new _ = new ≡ record old { deframer = new.deframer }

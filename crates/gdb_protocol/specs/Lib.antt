@@ -1,5 +1,6 @@
 pub mod Answers
 pub mod Hearing
+pub mod Interrupts
 pub mod Moves
 pub mod Pursuing
 pub mod Replies

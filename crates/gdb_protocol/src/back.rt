@@ -9,27 +9,39 @@ use std::alloc::AllocError;
 use timeline::Halt;
 
 impl Session {
-    ghost use Rattle.std.specs.Prelude.{◌-◌, None, OnOk};
+    ghost use Rattle.std.specs.Prelude.{◌-◌, true, None, OnOk};
     ghost use Rattle.timeline.specs.Present.{step_of};
+    ghost use Rattle.gdb_protocol.specs.Interrupts.{IsInterrupted};
     ghost use Rattle.gdb_protocol.specs.Moves.{Keeps, StandsAt, moment_in};
     ghost use Rattle.gdb_protocol.specs.Pursuing as spec;
     ghost use Rattle.gdb_protocol.specs.Pursuing.{GoesBefore, Returns, met_back, more_than, slice, wanted_with};
 
-    /// Goes back to the last stop before here.
-    pub(crate) fn continue_back(&mut self) -> Result<(), AllocError> {
+    /// Goes back to the last stop before here. If the user has interrupted that, it stops where it stands.
+    pub(crate) fn continue_back(&mut self) -> Result<(), AllocError>
+        ensures { self.old.is_interrupted ≡ true → IsInterrupted self.old self.new }
+    {
+        if self.is_interrupted {
+            self.start_motion();
+            return self.tell_interrupted();
+        }
         let pursuit = Pursuit::Back {
             alone: self.selection.moving,
         };
         self.go_back(pursuit, self.selection.moving)
     }
 
-    /// Goes back to a thread's last instruction.
+    /// Goes back to a thread's last instruction. Unless it moves alone, an interrupt of the user's is forgotten.
     pub(crate) fn step_back(&mut self) -> Result<(), AllocError> {
         let moving = self.selection.moving;
+        self.is_interrupted = self.is_interrupted && moving.is_some();
         let thread = self.selection.stepped_back();
         if let Some(told) = self.told_at(moving) {
             self.start_motion();
             return self.step_back_over(told);
+        }
+        if !self.has_chosen() && self.timeline.thread_count() <= thread {
+            self.start_motion();
+            return self.tell_start();
         }
         let is_alone = moving.is_some();
         self.go_back(Pursuit::BackStep { thread, is_alone }, moving)

@@ -38,20 +38,24 @@ impl Session {
     {
         let is_there = self.timeline.seek(step, SLICE)?;
         if is_there {
-            return self.tell_chosen();
+            return self.tell_chosen(step);
         }
         Ok(())
     }
 
-    /// Stops at the position that was chosen, of which gdb is told nothing but that it stands there.
-    fn tell_chosen(&mut self) -> Result<(), AllocError>
+    /// Stops at the position that was chosen, of which gdb is told nothing but that it stands there. First it hears of each
+    /// thread that is there, so that it numbers them in their order.
+    fn tell_chosen(&mut self, step: u64) -> Result<(), AllocError>
         ensures stands { Stands self.old self.new }
         ensures stopped { self.new.pursuit ≡ None }
         ensures keeps { Keeps self.old self.new }
     {
-        self.selection.hear_of(self.timeline.thread_count());
         self.printed = self.timeline.serial().output().len();
         self.watching.forget_told();
+        if self.selection.known < self.timeline.thread_count() {
+            self.heading = Some(step);
+            return self.tell_creation();
+        }
         self.tell_here(NONE, "")
     }
 

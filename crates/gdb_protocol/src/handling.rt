@@ -11,7 +11,9 @@ const FEATURES: &[u8] =
     b"PacketSize=4000;QStartNoAckMode+;ReverseStep+;ReverseContinue+;vContSupported+;swbreak+;hwbreak+;qXfer:features:read+;qXfer:threads:read+";
 
 impl Session {
-    ghost use Rattle.std.specs.Prelude.{◌≡◌, OnOk, option_map};
+    ghost use Rattle.std.specs.Prelude.{◌≡◌, ◌≢◌, OnOk, option_map};
+    ghost use Rattle.gdb_packets.specs.declared.action.Motion.{Motion};
+    ghost use Rattle.gdb_packets.specs.declared.packet_request.PacketRequest.TheVariants.{ContinueBack, ResumeSelected};
     ghost use Rattle.std.specs.String.{string_bytes};
     ghost use Rattle.gdb_monitor.specs.Searching.{Stays};
     ghost use Rattle.gdb_shown.specs.Memory.{memory_shown};
@@ -68,8 +70,10 @@ impl Session {
         }
     }
 
-    /// Answers what a packet asks of threads, registers and memory.
+    /// Answers what a packet asks of threads, registers and memory. Packets by which the run goes on are none of them.
     fn handle_state(&mut self, request: PacketRequest<'_>) -> Result<(), AllocError>
+        requires back { request ≢ ContinueBack }
+        requires selected { (motion : Motion) → request ≢ ResumeSelected motion }
         ensures { OnOk result (Replies self.old self.new request.entry) }
     {
         match request {
@@ -175,17 +179,12 @@ impl Session {
         };
         let command = command_of(self.alloc, text.as_slice())?;
         let listed = self.listed();
-        let chosen = perform_command(
-            self.alloc,
-            &mut self.wire,
-            &mut self.timeline,
-            listed,
-            command,
-        )?;
+        let mut said = Vec::new(self.alloc);
+        let chosen = perform_command(self.alloc, &mut said, &mut self.timeline, listed, command)?;
         if chosen.is_some() {
             self.chosen = chosen;
         }
-        self.wire.answer(b"OK")
+        self.wire.answer_command(said.as_slice())
     }
 
     /// Begins the run again, at its start or at the step that the arguments name.
@@ -194,6 +193,8 @@ impl Session {
         self.life = Life::Alive;
         self.pursuit = None;
         self.chosen = None;
+        self.heading = None;
+        self.is_interrupted = false;
         self.told_end = None;
         self.stuck = None;
         self.watching.forget();

@@ -1,4 +1,7 @@
 //! What a session pursues while the run goes on.
+ghost use Rattle.std.specs.Prelude.{◌≡◌};
+ghost use Rattle.gdb_protocol.specs.Interrupts as interrupts;
+
 use gdb_orders::Stepper;
 
 /// What a session pursues while the run goes on.
@@ -22,4 +25,18 @@ pub(crate) enum Pursuit {
     BackStep { thread: u32, is_alone: bool },
     /// The creation of a thread, before it.
     Creation(u32),
+}
+
+/// Whether an interrupt waits for what gdb goes on with next: nothing is pursued, or one instruction of a thread alone.
+pub(crate) fn waits_for_next(pursuit: Option<Pursuit>) -> bool
+    ensures { result ≡ interrupts.waits_for_next pursuit }
+{
+    match pursuit {
+        None => true,
+        Some(Pursuit::BackStep { is_alone, .. }) => is_alone,
+        Some(Pursuit::Turn(stepper) | Pursuit::First(stepper)) => {
+            stepper.is_alone && !stepper.has_range()
+        }
+        Some(_) => false,
+    }
 }

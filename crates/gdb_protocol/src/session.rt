@@ -31,7 +31,11 @@ pub struct Session {
     pub(crate) stuck: Option<u64>,
     /// The step that was chosen for the next resume.
     pub(crate) chosen: Option<u64>,
+    /// The chosen step at which it stands, while gdb hears of the threads that are there.
+    pub(crate) heading: Option<u64>,
     pub(crate) pursuit: Option<Pursuit>,
+    /// Whether the user has interrupted what gdb goes on with next.
+    pub(crate) is_interrupted: bool,
     /// Where a motion began.
     pub(crate) from: u64,
     /// How many bytes of the guest's output were sent.
@@ -65,7 +69,9 @@ impl Session {
             told_end: None,
             stuck: None,
             chosen: None,
+            heading: None,
             pursuit: None,
+            is_interrupted: false,
             from: 0,
             printed: 0,
         };

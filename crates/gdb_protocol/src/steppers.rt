@@ -142,7 +142,7 @@ impl Session {
         match halt {
             Halt::OtherThread => self.leave_turn(stepper),
             Halt::Arrived => self.tell_step(stepper.thread),
-            Halt::Breakpoint => self.meet_breakpoint(stepper),
+            Halt::Breakpoint => self.meet_next_breakpoint(stepper),
             _ => self.meet(halt, stepper.alone()),
         }
     }
@@ -202,14 +202,18 @@ impl Session {
         }
     }
 
-    /// Tells a breakpoint on the way to the next turn of a stepped thread.
+    /// Tells a breakpoint on the way to the next instruction of a stepped thread. One of another thread is told as that thread's,
+    /// unless it would have to move while the stepped one moves alone.
     fn meet_next_breakpoint(&mut self, stepper: Stepper) -> Result<(), AllocError>
         ensures stands { Stands self.old self.new }
-        ensures stopped { self.new.pursuit ≡ None }
+        ensures stopped { OnOk result (self.new.pursuit ≡ None) }
         ensures keeps { Keeps self.old self.new }
     {
         if self.is_turn_of(stepper.thread) {
             return self.meet_breakpoint(stepper);
+        }
+        if stepper.is_alone {
+            return self.tell_stuck(stepper.thread);
         }
         self.tell_breakpoint()
     }

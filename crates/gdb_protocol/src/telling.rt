@@ -1,5 +1,6 @@
 //! Tells gdb where and why the run stands.
 use crate::life::Life;
+use crate::pursuit::waits_for_next;
 use crate::session::Session;
 use gdb_shown::{
     INTERRUPT, NONE, PC, TRAP, WINDOW, end_text, exit_text, register, signal_of, stop_text,
@@ -8,9 +9,11 @@ use std::alloc::AllocError;
 use token::RunOutcome;
 
 impl Session {
-    ghost use Rattle.std.specs.Prelude.{◌≡◌, [], None, OnOk};
+    ghost use Rattle.std.specs.Prelude.{◌≡◌, [], true, false, None, OnOk};
     ghost use Rattle.gdb_shown.specs.Stops.{stop_shown};
-    ghost use Rattle.gdb_protocol.specs.Moves.{Keeps, Stands, moment_in, thread_in};
+    ghost use Rattle.timeline.specs.Present.{step_of};
+    ghost use Rattle.gdb_protocol.specs.Interrupts.{IsInterrupted, waits_for_next};
+    ghost use Rattle.gdb_protocol.specs.Moves.{Keeps, Stands, moment_in, only_at, thread_in};
 
     /// Keeps the text of the first stop, which gdb asks for.
     pub(crate) fn begin(&mut self) -> Result<(), AllocError>
@@ -32,10 +35,22 @@ impl Session {
         ensures keeps { Keeps self.old self.new }
     {
         self.pursuit = None;
+        self.forget_notes_elsewhere();
         self.send_output()?;
         self.stop = stop_text(self.alloc, &self.timeline, signal, reason, thread)?;
         self.selection.stop_at(thread);
         self.send_stop()
+    }
+
+    /// Forgets that the end was told, or that a thread couldn't move alone, if that was at another position.
+    fn forget_notes_elsewhere(&mut self)
+        ensures end { self.new.told_end ≡ only_at (step_of self.old.timeline.present) self.old.told_end }
+        ensures stuck { self.new.stuck ≡ only_at (step_of self.old.timeline.present) self.old.stuck }
+        ensures rest { self.new ≡ record self.old { told_end = self.new.told_end; stuck = self.new.stuck } }
+    {
+        let here = self.timeline.step_number();
+        self.told_end = self.told_end.filter(|step| *step == here);
+        self.stuck = self.stuck.filter(|step| *step == here);
     }
 
     /// Answers with the last stop.
@@ -90,16 +105,24 @@ impl Session {
         self.tell_here(TRAP, "replaylog:begin;")
     }
 
-    /// Stops where the user interrupted the run, if it goes on.
+    /// Stops where the user interrupts the run. If it stands, or gdb steps one thread alone, what goes on next is interrupted.
     pub(crate) fn interrupt(&mut self) -> Result<(), AllocError>
-        ensures idle { self.old.pursuit ≡ None → self.new ≡ self.old }
-        ensures stands { Stands self.old self.new }
-        ensures stopped { self.new.pursuit ≡ None }
-        ensures keeps { Keeps self.old self.new }
+        ensures waits { waits_for_next self.old.pursuit ≡ true → self.new ≡ record self.old { is_interrupted = true } }
+        ensures keeps { waits_for_next self.old.pursuit ≡ false → Keeps self.old self.new }
+        ensures stops { waits_for_next self.old.pursuit ≡ false → Stands self.old self.new × (self.new.pursuit ≡ None) }
     {
-        if self.pursuit.is_none() {
+        if waits_for_next(self.pursuit) {
+            self.is_interrupted = true;
             return Ok(());
         }
+        self.tell_here(INTERRUPT, "")
+    }
+
+    /// Stops where the run stands, since the user has interrupted what gdb goes on with.
+    pub(crate) fn tell_interrupted(&mut self) -> Result<(), AllocError>
+        ensures { IsInterrupted self.old self.new }
+    {
+        self.is_interrupted = false;
         self.tell_here(INTERRUPT, "")
     }
 

@@ -1,4 +1,5 @@
 pub mod Coding
 pub mod Executing
+pub mod Fencing
 pub mod Marking
 pub mod Reaching

@@ -30,25 +30,25 @@ marked_cell places x cell = option_map (λ cell. record { perm = marked_perm pla
 abbrev byte_by : (Perm → Bool) → Option Cell → Option ℕ
 byte_by may cell = option_and_then (λ cell. if may cell.perm then Some cell.byte else None) cell
 
-load_cell : (places : Places) (x : ℕ) (cell : Option Cell) → byte_by (λ perm. perm.read) (marked_cell places x cell) ≡ unless (is_load_marked places x) (byte_by (λ perm. perm.read) cell)
-load_cell places x None = nothing (is_load_marked places x)
-load_cell places x (Some cell) = taken cell.perm.read (is_load_marked places x) cell.byte
+load_cell : (places : Places) (x : ℕ) (cell : Option Cell) → byte_by (λ perm. perm.read) (marked_cell places x cell) ≡ unless (is_load_marked places.watches x) (byte_by (λ perm. perm.read) cell)
+load_cell places x None = nothing (is_load_marked places.watches x)
+load_cell places x (Some cell) = taken cell.perm.read (is_load_marked places.watches x) cell.byte
 
-store_cell : (places : Places) (x : ℕ) (cell : Option Cell) → byte_by (λ perm. perm.write) (marked_cell places x cell) ≡ unless (is_store_marked places x) (byte_by (λ perm. perm.write) cell)
-store_cell places x None = nothing (is_store_marked places x)
-store_cell places x (Some cell) = taken cell.perm.write (is_store_marked places x) cell.byte
+store_cell : (places : Places) (x : ℕ) (cell : Option Cell) → byte_by (λ perm. perm.write) (marked_cell places x cell) ≡ unless (is_store_marked places.watches x) (byte_by (λ perm. perm.write) cell)
+store_cell places x None = nothing (is_store_marked places.watches x)
+store_cell places x (Some cell) = taken cell.perm.write (is_store_marked places.watches x) cell.byte
 
 fetch_cell : (places : Places) (x : ℕ) (cell : Option Cell) → byte_by (λ perm. perm.execute) (marked_cell places x cell) ≡ unless (is_fetch_marked places x) (byte_by (λ perm. perm.execute) cell)
 fetch_cell places x None = nothing (is_fetch_marked places x)
 fetch_cell places x (Some cell) = taken cell.perm.execute (is_fetch_marked places x) cell.byte
 
 load_byte : (places : Places) (memory : Memory) (x : ℕ)
-    → permitted (λ perm. perm.read) (marked places memory) x ≡ unless (is_load_marked places x) (permitted (λ perm. perm.read) memory x)
+    → permitted (λ perm. perm.read) (marked places memory) x ≡ unless (is_load_marked places.watches x) (permitted (λ perm. perm.read) memory x)
 unfolding marked
 load_byte places memory x = load_cell places x (memory x)
 
 store_byte : (places : Places) (memory : Memory) (x : ℕ)
-    → permitted (λ perm. perm.write) (marked places memory) x ≡ unless (is_store_marked places x) (permitted (λ perm. perm.write) memory x)
+    → permitted (λ perm. perm.write) (marked places memory) x ≡ unless (is_store_marked places.watches x) (permitted (λ perm. perm.write) memory x)
 unfolding marked
 store_byte places memory x = store_cell places x (memory x)
 
@@ -84,11 +84,11 @@ load_answer true false number = refl
 load_answer false is_marked number = refl
 
 pub marked_load : (places : Places) (memory : Memory) (count address : ℕ)
-    → loaded count (marked places memory) address ≡ (if address % count == 0 && any_marked (is_load_marked places) count address then Err Denied else loaded count memory address)
+    → loaded count (marked places memory) address ≡ (if address % count == 0 && any_marked (is_load_marked places.watches) count address then Err Denied else loaded count memory address)
 unfolding loaded
 marked_load places memory count address =
-    rw (marked_number (permitted (λ perm. perm.read) (marked places memory)) (permitted (λ perm. perm.read) memory) (is_load_marked places) (load_byte places memory) count address)
-    (load_answer (address % count == 0) (any_marked (is_load_marked places) count address) (number_at (permitted (λ perm. perm.read) memory) count address))
+    rw (marked_number (permitted (λ perm. perm.read) (marked places memory)) (permitted (λ perm. perm.read) memory) (is_load_marked places.watches) (load_byte places memory) count address)
+    (load_answer (address % count == 0) (any_marked (is_load_marked places.watches) count address) (number_at (permitted (λ perm. perm.read) memory) count address))
 
 one : (aligned is_marked : Bool) → aligned ≡ true → (aligned && (is_marked || false)) ≡ is_marked
 one true true is = refl
@@ -102,9 +102,9 @@ any_of_byte is_marked address =
     one (address % 1 == 0) (is_marked address) aligned
 
 pub marked_load_byte : (places : Places) (memory : Memory) (address : ℕ)
-    → loaded 1 (marked places memory) address ≡ (if is_load_marked places address then Err Denied else loaded 1 memory address)
+    → loaded 1 (marked places memory) address ≡ (if is_load_marked places.watches address then Err Denied else loaded 1 memory address)
 marked_load_byte places memory address =
-    marked_load places memory 1 address ∙ ap (λ (test : Bool). if test then Err Denied else loaded 1 memory address) (any_of_byte (is_load_marked places) address)
+    marked_load places memory 1 address ∙ ap (λ (test : Bool). if test then Err Denied else loaded 1 memory address) (any_of_byte (is_load_marked places.watches) address)
 
 -- stores
 
@@ -135,17 +135,17 @@ store_answer places false is_marked number memory = refl
 
 pub marked_store : (places : Places) (memory : Memory) (count address number : ℕ)
     → stored count (marked places memory) address number
-    ≡ (if address % count == 0 && any_marked (is_store_marked places) count address then Err Denied else stored_marked places (stored count memory address number))
+    ≡ (if address % count == 0 && any_marked (is_store_marked places.watches) count address then Err Denied else stored_marked places (stored count memory address number))
 unfolding stored
 marked_store places memory count address number =
-    rw (marked_number (permitted (λ perm. perm.write) (marked places memory)) (permitted (λ perm. perm.write) memory) (is_store_marked places) (store_byte places memory) count address, marked_stored_memory places memory count address number)
-    (store_answer places (address % count == 0) (any_marked (is_store_marked places) count address) (number_at (permitted (λ perm. perm.write) memory) count address) (with_number count memory address number))
+    rw (marked_number (permitted (λ perm. perm.write) (marked places memory)) (permitted (λ perm. perm.write) memory) (is_store_marked places.watches) (store_byte places memory) count address, marked_stored_memory places memory count address number)
+    (store_answer places (address % count == 0) (any_marked (is_store_marked places.watches) count address) (number_at (permitted (λ perm. perm.write) memory) count address) (with_number count memory address number))
 
 pub marked_store_byte : (places : Places) (memory : Memory) (address number : ℕ)
-    → stored 1 (marked places memory) address number ≡ (if is_store_marked places address then Err Denied else stored_marked places (stored 1 memory address number))
+    → stored 1 (marked places memory) address number ≡ (if is_store_marked places.watches address then Err Denied else stored_marked places (stored 1 memory address number))
 marked_store_byte places memory address number =
     marked_store places memory 1 address number
-    ∙ ap (λ (test : Bool). if test then Err Denied else stored_marked places (stored 1 memory address number)) (any_of_byte (is_store_marked places) address)
+    ∙ ap (λ (test : Bool). if test then Err Denied else stored_marked places (stored 1 memory address number)) (any_of_byte (is_store_marked places.watches) address)
 
 -- fetches
 

@@ -1,11 +1,10 @@
 -- A memory with marks: a marked access is one that it doesn't permit.
-use Rattle.std.specs.Prelude.{◌≡◌, ℕ, zero, suc, ◌+◌, ◌*◌, ◌/◌, ◌%◌, ◌^◌, ◌≤◌, Bool, true, false, not, ◌&&◌, ◌||◌, ◌==◌, if◌then◌else◌, nat_le, nat_lt, List, length, Some, option_map}
+use Rattle.std.specs.Prelude.{◌≡◌, ℕ, zero, suc, ◌+◌, ◌*◌, ◌/◌, ◌%◌, ◌^◌, ◌≤◌, Bool, true, false, not, ◌&&◌, ◌||◌, ◌==◌, if◌then◌else◌, nat_le, nat_lt, List, length, Option, Some, None, option_map}
 use Rattle.std.specs.List.{list_any}
 use Rattle.decoded_code.specs.declared.code_slice.CodeSlice.{CodeSlice}
-use Rattle.decoder.specs.declared.instr.Instr.{Instr}
-use Rattle.decoder.specs.declared.instr.Instr.TheVariants.{Ebreak}
 use Rattle.guest_memory.specs.Memory.{Memory}
 use Rattle.guest_memory.specs.declared.perm.Perm.{Perm}
+use Rattle.marked_memory.specs.declared.fence.Fence.{Fence}
 use Rattle.marked_memory.specs.declared.marks.Marks.{Marks}
 use Rattle.marked_memory.specs.declared.watch.Watch.{Watch}
 use Rattle.marked_memory.specs.declared.watch.WatchKind.{WatchKind}
@@ -15,9 +14,29 @@ use Rattle.marked_memory.specs.declared.watch.WatchKind.TheVariants.{Store, Load
 pub record Places : Type 0 where
   pub breakpoints : List ℕ
   pub watches : List Watch
+  pub fence : Option Fence
 
 abbrev pub places_of : Marks → Places
-places_of marks = record { breakpoints = marks.breakpoints.now; watches = marks.watches.now }
+places_of marks = record { breakpoints = marks.breakpoints.now; watches = marks.watches.now; fence = None }
+
+-- the same, with a fence around some code, outside of which each instruction is marked
+abbrev pub fenced : Option Fence → Places → Places
+fenced fence places = record places { fence = fence }
+
+-- whether an address is outside of a fence
+abbrev pub is_beyond : Fence → ℕ → Bool
+is_beyond fence address = nat_lt address fence.start || nat_le fence.end address
+
+abbrev pub is_outside : Option Fence → ℕ → Bool
+is_outside None address = false
+is_outside (Some fence) address = is_beyond fence address
+
+-- whether an address is one of the four of an instruction
+abbrev pub covers : ℕ → ℕ → Bool
+covers address breakpoint = nat_le breakpoint address && nat_lt address (breakpoint + 4)
+
+abbrev pub is_marked_by : List ℕ → ℕ → Bool
+is_marked_by breakpoints address = list_any (covers address) breakpoints
 
 abbrev pub looks_for_stores : WatchKind → Bool
 looks_for_stores Store = true
@@ -35,13 +54,13 @@ has watch address = nat_le watch.start address && nat_lt address (watch.start + 
 
 -- whether an address is one of the four of a marked instruction
 unfoldable pub is_fetch_marked : Places → ℕ → Bool
-is_fetch_marked places address = list_any (λ breakpoint. nat_le breakpoint address && nat_lt address (breakpoint + 4)) places.breakpoints
+is_fetch_marked places address = is_outside places.fence address || is_marked_by places.breakpoints address
 
-unfoldable pub is_load_marked : Places → ℕ → Bool
-is_load_marked places address = list_any (λ watch. looks_for_loads watch.kind && has watch address) places.watches
+unfoldable pub is_load_marked : List Watch → ℕ → Bool
+is_load_marked watches address = list_any (λ watch. looks_for_loads watch.kind && has watch address) watches
 
-unfoldable pub is_store_marked : Places → ℕ → Bool
-is_store_marked places address = list_any (λ watch. looks_for_stores watch.kind && has watch address) places.watches
+unfoldable pub is_store_marked : List Watch → ℕ → Bool
+is_store_marked watches address = list_any (λ watch. looks_for_stores watch.kind && has watch address) watches
 
 -- whether one of so many addresses is marked, from one on
 unfoldable pub any_marked : (ℕ → Bool) → ℕ → ℕ → Bool
@@ -52,8 +71,8 @@ any_marked is_marked (suc count) address = is_marked address || any_marked is_ma
 abbrev pub marked_perm : Places → ℕ → Perm → Perm
 marked_perm places address perm =
     record {
-      read = perm.read && not (is_load_marked places address);
-      write = perm.write && not (is_store_marked places address);
+      read = perm.read && not (is_load_marked places.watches address);
+      write = perm.write && not (is_store_marked places.watches address);
       execute = perm.execute && not (is_fetch_marked places address);
     }
 
@@ -67,13 +86,9 @@ kept places below address =
     if address % 2 == 0 then below (address / 2)
     else
     Some (record {
-      perm = record { read = is_load_marked places (address / 2); write = is_store_marked places (address / 2); execute = is_fetch_marked places (address / 2) };
+      perm = record { read = is_load_marked places.watches (address / 2); write = is_store_marked places.watches (address / 2); execute = is_fetch_marked places (address / 2) };
       byte = 0;
     })
-
--- an entry of decoded code, EBREAK if it is marked
-abbrev pub unless_marked : Places → ℕ → Instr → Instr
-unless_marked places address entry = if any_marked (is_fetch_marked places) 4 address then Ebreak else entry
 
 -- decoded code begins at the address of a word, and ends within the memory
 pub record IsInMemory (code : CodeSlice) : Type 0 where

@@ -4,11 +4,13 @@
 //! - [`run_to_mark`] executes instructions of a segment as long as none of them is marked, as fast as without marks.
 #![tactic(auto)]
 
-mod code;
+mod fence;
 mod marked;
 mod marks;
+mod part;
 mod running;
 mod watch;
+mod window;
 
 pub use marks::Marks;
 pub use running::{RunToMark, run_to_mark};

@@ -1,6 +1,6 @@
 //! What is looked for: instructions at some addresses, and loads and stores of some ranges.
-ghost use Rattle.std.specs.Prelude.{◌≡◌, ◌+◌, ◌<◌, ◌^◌, ◌%◌};
-ghost use Rattle.marked_memory.specs.Marks.{any_marked, is_fetch_marked, is_load_marked, is_store_marked, places_of};
+ghost use Rattle.std.specs.Prelude.{◌≡◌, ◌+◌, ◌<◌, ◌^◌};
+ghost use Rattle.marked_memory.specs.Marks.{any_marked, is_load_marked, is_marked_by, is_store_marked};
 
 use crate::watch::Watch;
 
@@ -15,9 +15,9 @@ pub struct Marks<'a> {
 
 impl<'a> Marks<'a> {
     /// Whether an address is one of the four of a marked instruction.
-    #[tactic(auto, unfolding(crate::specs::Marks::is_fetch_marked), using(std::proofs::lemmas::List::Folds::list_any_at, std::proofs::lemmas::List::Folds::list_any_more))]
-    fn marks_byte(&self, address: u32) -> bool
-        ensures { result ≡ is_fetch_marked (places_of self.now) address }
+    #[tactic(auto, using(std::proofs::lemmas::List::Folds::list_any_at, std::proofs::lemmas::List::Folds::list_any_more))]
+    pub(crate) fn marks_byte(&self, address: u32) -> bool
+        ensures { result ≡ is_marked_by self.now.breakpoints.now address }
     {
         for breakpoint in self.breakpoints {
             if *breakpoint <= address && address - *breakpoint < 4 {
@@ -27,22 +27,10 @@ impl<'a> Marks<'a> {
         false
     }
 
-    /// Whether one of the four addresses of an instruction is marked.
-    #[tactic(auto, unfolding(crate::specs::Marks::any_marked))]
-    pub(crate) fn marks_fetch(&self, address: u32) -> bool
-        requires { address % 4 ≡ 0 }
-        ensures { result ≡ any_marked (is_fetch_marked (places_of self.now)) 4 address }
-    {
-        self.marks_byte(address)
-            || self.marks_byte(address + 1)
-            || self.marks_byte(address + 2)
-            || self.marks_byte(address + 3)
-    }
-
     /// Whether loads of an address are marked.
     #[tactic(auto, unfolding(crate::specs::Marks::is_load_marked), using(std::proofs::lemmas::List::Folds::list_any_at, std::proofs::lemmas::List::Folds::list_any_more))]
     pub(crate) fn marks_load(&self, address: u32) -> bool
-        ensures { result ≡ is_load_marked (places_of self.now) address }
+        ensures { result ≡ is_load_marked self.now.watches.now address }
     {
         for watch in self.watches {
             if watch.looks_for_loads() && watch.has(address) {
@@ -55,7 +43,7 @@ impl<'a> Marks<'a> {
     /// Whether stores to an address are marked.
     #[tactic(auto, unfolding(crate::specs::Marks::is_store_marked), using(std::proofs::lemmas::List::Folds::list_any_at, std::proofs::lemmas::List::Folds::list_any_more))]
     pub(crate) fn marks_store(&self, address: u32) -> bool
-        ensures { result ≡ is_store_marked (places_of self.now) address }
+        ensures { result ≡ is_store_marked self.now.watches.now address }
     {
         for watch in self.watches {
             if watch.looks_for_stores() && watch.has(address) {
@@ -69,7 +57,7 @@ impl<'a> Marks<'a> {
     #[tactic(auto, unfolding(crate::specs::Marks::any_marked))]
     pub(crate) fn marks_load16(&self, address: u32) -> bool
         requires { address + 1 < 2 ^ 32 }
-        ensures { result ≡ any_marked (is_load_marked (places_of self.now)) 2 address }
+        ensures { result ≡ any_marked (is_load_marked self.now.watches.now) 2 address }
     {
         self.marks_load(address) || self.marks_load(address + 1)
     }
@@ -78,7 +66,7 @@ impl<'a> Marks<'a> {
     #[tactic(auto, unfolding(crate::specs::Marks::any_marked))]
     pub(crate) fn marks_load32(&self, address: u32) -> bool
         requires { address + 3 < 2 ^ 32 }
-        ensures { result ≡ any_marked (is_load_marked (places_of self.now)) 4 address }
+        ensures { result ≡ any_marked (is_load_marked self.now.watches.now) 4 address }
     {
         self.marks_load(address)
             || self.marks_load(address + 1)
@@ -90,7 +78,7 @@ impl<'a> Marks<'a> {
     #[tactic(auto, unfolding(crate::specs::Marks::any_marked))]
     pub(crate) fn marks_store16(&self, address: u32) -> bool
         requires { address + 1 < 2 ^ 32 }
-        ensures { result ≡ any_marked (is_store_marked (places_of self.now)) 2 address }
+        ensures { result ≡ any_marked (is_store_marked self.now.watches.now) 2 address }
     {
         self.marks_store(address) || self.marks_store(address + 1)
     }
@@ -99,7 +87,7 @@ impl<'a> Marks<'a> {
     #[tactic(auto, unfolding(crate::specs::Marks::any_marked))]
     pub(crate) fn marks_store32(&self, address: u32) -> bool
         requires { address + 3 < 2 ^ 32 }
-        ensures { result ≡ any_marked (is_store_marked (places_of self.now)) 4 address }
+        ensures { result ≡ any_marked (is_store_marked self.now.watches.now) 4 address }
     {
         self.marks_store(address)
             || self.marks_store(address + 1)

@@ -6,12 +6,12 @@ ghost use Rattle.twins.specs.View.{base_of, cells_of};
 ghost use Rattle.marked_memory.specs.Marks.{places_of};
 ghost use Rattle.marked_memory.specs.Unmarked.{RunsUnmarked, steps_of};
 
-use crate::code::marked_entries;
 use crate::marked::Marked;
 use crate::marks::Marks;
+use crate::part::Part;
 use decoded_code::CodeSlice;
 use hart::{Hart, SliceEnd, Stop, run_coded_slice};
-use std::alloc::{AllocError, Global};
+use std::alloc::AllocError;
 use twins::View;
 
 /// What was run up to a mark.
@@ -23,10 +23,9 @@ pub struct RunToMark {
     pub count: u64,
 }
 
-/// Executes up to so many instructions, as long as they go on and none of them is marked. If memory is refused, the memory
-/// is lost.
+/// Executes up to so many instructions, as long as they go on and none of them is marked. It may stop earlier at one that is
+/// behind a marked one. If memory is refused, the memory is lost.
 pub fn run_to_mark(
-    alloc: Global,
     code: CodeSlice<'_>,
     hart: &mut Hart,
     view: View,
@@ -39,16 +38,13 @@ pub fn run_to_mark(
     ensures base { IfOk result (λ ran. snapshots.cells_of (base_of ran.view) ≡ snapshots.cells_of (base_of view)) }
     ensures within { IfOk result (λ ran. ran.count ≤ most) }
 {
-    let entries = marked_entries(alloc, &code, &marks)?;
-    let marked_code = CodeSlice {
-        start: code.start,
-        entries: entries.as_slice(),
-    };
+    let part = Part::around(code, &marks, hart.pc());
     let mut marked = Marked {
         memory: view,
         marks,
+        fence: part.fence,
     };
-    let end = run_coded_slice(marked_code, hart, &mut marked, most, None, 0, most)?;
+    let end = run_coded_slice(part.code, hart, &mut marked, most, None, 0, most)?;
     Ok(RunToMark {
         view: marked.memory,
         count: steps_of(end),

@@ -1,9 +1,9 @@
 -- What a recorder was told of a run, turn after turn.
 use Rattle.std.proofs.Common.{◌≡◌, ◌∙◌, ◌∷◌, ◌++◌, ℕ, ◌+◌, true, false, Bool, Option, Some, None, List, [], ap, arith, refl, sym, subst}
 use Rattle.std.specs.Prelude.{◌==◌, ◌||◌, if◌then◌else◌, is_some, length, nat_lt}
-use Rattle.races.specs.Recording.{Records}
+use Rattle.races.specs.Findings.{FindingRecords}
 use Rattle.races.specs.declared.observed_event.ObservedEvent.{ObservedEvent}
-use Rattle.races.specs.declared.recorder.RaceRecorder.{RaceRecorder}
+use Rattle.races.specs.declared.finding_recorder.FindingRecorder.{FindingRecorder}
 use Rattle.segment.specs.declared.segment_end.SegmentEnd.{SegmentEnd}
 use Rattle.token.specs.Outcome.{quiet_outcome}
 use Rattle.token.specs.Point.{Point, IsNeededAt, IsNeededBy, after_step, counted, moved, need_at, next_phase, passed_on, step_at}
@@ -17,7 +17,7 @@ use Rattle.token.specs.declared.outcome.RunOutcome.{RunOutcome}
 use Rattle.token.specs.declared.turn.TurnStop.{TurnStop}
 use Rattle.runtime.proofs.Needs.{end_in}
 use Rattle.observed_run.specs.Calls.{AreOfEnd, blocked_in, held_by, let_go}
-use Rattle.observed_run.specs.Runs.{AreEvents, AreLast, AreOfTurn, actor_of, needed_events, thread_by}
+use Rattle.observed_run.specs.Runs.{AreEvents, AreLast, AreOfTurn, actor_of, last_actor, needed_events, thread_by}
 use Rattle.observed_run.specs.Told.{IsTold}
 use Rattle.observed_run.specs.declared.actor.Actor.{Actor}
 use Rattle.observed_run.proofs.Told.{told_more}
@@ -57,22 +57,22 @@ last_is actor given point thread end step held passed stop events same holds goe
     (subst (λ (it : List ℕ). AreOfEnd actor end it passed stop events) holds
     (subst (λ (it : Actor). AreOfEnd it end held passed stop events) same are)))
 
-module _ (start point after : Point) (events last : List ObservedEvent) (before between now : RaceRecorder)
-    (are : AreEvents start point events) (records : Records before events) (told_last : IsTold between now last) where
+module _ (start point after : Point) (events last : List ObservedEvent) (before between now : FindingRecorder)
+    (are : AreEvents start point events) (records : FindingRecords before events) (told_last : IsTold between now last) where
   abbrev Leads : Type 0
-  Leads = (more : List ObservedEvent) × AreEvents start after more × Records now more
+  Leads = (more : List ObservedEvent) × AreEvents start after more × FindingRecords now more
 
   -- a turn that needs this, with this end of its segment and these events of it
   pub by_need : (asked : Need) (end : Option SegmentEnd) → need_at point ≡ asked → IsNeededBy point asked end
       → IsTold before between (needed_events (actor_of point.done (thread_by asked)) point asked end)
-      → AreLast (actor_of point.done (thread_by asked)) point (thread_by asked) end (step_at point end) last
+      → AreLast (last_actor point.done (thread_by asked) end) point (thread_by asked) end (step_at point end) last
       → after ≡ moved point (step_at point end) → Leads
   by_need asked end is needed told are_last moves =
       let first : List ObservedEvent = needed_events (actor_of point.done (thread_by (need_at point))) point (need_at point) end in
       let needed_now : IsNeededAt point end = subst (λ (n : Need). IsNeededBy point n end) (sym is) needed in
       let told_now : IsTold before between first = subst (λ (n : Need). IsTold before between (needed_events (actor_of point.done (thread_by n)) point n end)) (sym is) told in
-      let last_now : AreLast (actor_of point.done (thread_by (need_at point))) point (thread_by (need_at point)) end (step_at point end) last =
-      subst (λ (n : Need). AreLast (actor_of point.done (thread_by n)) point (thread_by n) end (step_at point end) last) (sym is) are_last in
+      let last_now : AreLast (last_actor point.done (thread_by (need_at point)) end) point (thread_by (need_at point)) end (step_at point end) last =
+      subst (λ (n : Need). AreLast (last_actor point.done (thread_by n) end) point (thread_by n) end (step_at point end) last) (sym is) are_last in
       let of_turn : AreOfTurn point end (first ++ last) = record { last = last; is_last = last_now; all = refl } in (
         events ++ (first ++ last),
         subst (λ (p : Point). AreEvents start p (events ++ (first ++ last))) (sym moves) (AreEvents.turn are needed_now of_turn),

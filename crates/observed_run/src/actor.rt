@@ -1,19 +1,32 @@
-//! Who makes events: a thread in one of its turns.
+//! Who makes events: a thread in one of its turns, before one of its instructions.
 ghost use Rattle.std.specs.Prelude.{◌≡◌};
 ghost use Rattle.observed_run.specs.Events as spec;
 
-use races::Site;
+use races::{HintSite, Site};
 
-/// A thread in one of its turns.
+/// A thread in one of its turns, before one of its instructions.
 #[derive(Clone, Copy)]
 pub(crate) struct Actor {
     /// The thread's number.
     pub(crate) thread: u8,
     /// The turn's number, from 1.
     pub(crate) turn: u64,
+    /// How many instructions it executed in the turn.
+    pub(crate) instruction: u64,
 }
 
 impl Actor {
+    /// It after so many instructions of the turn.
+    #[inline(always)]
+    pub(crate) fn after(self, instruction: u64) -> Actor
+        ensures { result ≡ spec.actor_after self instruction }
+    {
+        Actor {
+            instruction,
+            ..self
+        }
+    }
+
     /// Its load by the instruction at this pc.
     pub(crate) fn load(self, pc: u32) -> Site
         ensures { result ≡ spec.load_site self pc }
@@ -21,8 +34,10 @@ impl Actor {
         Site {
             thread: self.thread,
             turn: self.turn,
+            instruction: self.instruction,
             pc,
             is_store: false,
+            is_atomic: false,
         }
     }
 
@@ -33,8 +48,22 @@ impl Actor {
         Site {
             thread: self.thread,
             turn: self.turn,
+            instruction: self.instruction,
             pc,
             is_store: true,
+            is_atomic: false,
+        }
+    }
+
+    /// Its hint by the instruction at this pc.
+    pub(crate) fn hint(self, pc: u32) -> HintSite
+        ensures { result ≡ spec.hint_site self pc }
+    {
+        HintSite {
+            thread: self.thread,
+            turn: self.turn,
+            instruction: self.instruction,
+            pc,
         }
     }
 }

@@ -2,6 +2,7 @@
 ghost use Rattle.std.specs.Prelude.{◌≡◌, ◌≤◌, ◌<◌, ◌+◌, ◌^◌, ◌%◌, ◌/◌, ℕ, None, IsTrue};
 ghost use Rattle.decoded_code.specs.Code.{HasCode, entry_at};
 ghost use Rattle.hart.specs.HartState.{HartState, with_pc};
+ghost use Rattle.races.specs.Ranges as ranges;
 ghost use Rattle.observed_run.specs.Events as spec;
 ghost use Rattle.observed_run.specs.declared.actor.Actor.{Actor as Author};
 
@@ -10,7 +11,7 @@ use decoded_code::{CodeSlice, entry as entry_of_word};
 use decoder::{Instr, Register};
 use guest_memory::GuestMemory;
 use hart::{Hart, MemoryAccess};
-use races::{Access, ByteSet, ObservedEvent, Site};
+use races::{Access, ByteSet, HintEvent, HintKind, ObservedEvent, Site};
 
 /// The event that an instruction of a thread is at an address, none if it loads and stores nothing and is no hint.
 fn event_of(actor: Actor, hart: &Hart, pc: u32, instr: &Instr) -> Option<ObservedEvent>
@@ -18,7 +19,7 @@ fn event_of(actor: Actor, hart: &Hart, pc: u32, instr: &Instr) -> Option<Observe
 {
     match access_of(actor, hart, pc, instr) {
         Some(access) => Some(ObservedEvent::Access(access)),
-        None => hint_of(actor, hart, instr),
+        None => hint_of(actor, hart, pc, instr),
     }
 }
 
@@ -35,12 +36,16 @@ pub(crate) fn access_of(actor: Actor, hart: &Hart, pc: u32, instr: &Instr) -> Op
 
 /// The hint that an instruction of a thread is.
 #[tactic(auto, unfolding(crate::specs::Events::hint_of))]
-fn hint_of(actor: Actor, hart: &Hart, instr: &Instr) -> Option<ObservedEvent>
-    ensures { (pc : ℕ) → result ≡ spec.hint_of actor (with_pc hart.now pc) instr.now }
+fn hint_of(actor: Actor, hart: &Hart, pc: u32, instr: &Instr) -> Option<ObservedEvent>
+    ensures { result ≡ spec.hint_of actor (with_pc hart.now pc) instr.now }
 {
     match *instr {
         Instr::Slt { rd, rs1, rs2 } if rd.number() == 0 => signed_hint(actor, hart, rs1, rs2),
         Instr::Sltu { rd, rs1, rs2 } if rd.number() == 0 => unsigned_hint(actor, hart, rs1, rs2),
+        Instr::Slti { rd, rs1, immediate } if rd.number() == 0 => {
+            let value = hart.reg(usize::from(rs1.number()));
+            numbered_hint(actor, pc, value, immediate.word())
+        }
         _ => None,
     }
 }
@@ -52,7 +57,7 @@ pub(crate) fn is_silent(instr: &Instr) -> bool
     ensures { IsTrue result → (actor : Author) (hart : HartState) → spec.event_of actor hart instr.now ≡ None }
 {
     match *instr {
-        Instr::Slt { rd, .. } | Instr::Sltu { rd, .. } => rd.number() != 0,
+        Instr::Slt { rd, .. } | Instr::Sltu { rd, .. } | Instr::Slti { rd, .. } => rd.number() != 0,
         _ => !MemoryAccess::is_made_by(instr),
     }
 }
@@ -88,7 +93,7 @@ fn access_at(site: Site, address: u32, width: u32) -> Access
 #[inline(always)]
 fn bytes_from(from: u32, width: u32) -> ByteSet
     requires { from + width < 2 ^ 32 }
-    ensures { (address : ℕ) → address % 4 ≡ from → result ≡ spec.bytes_in (address / 4) address width }
+    ensures { (address : ℕ) → address % 4 ≡ from → result ≡ ranges.bytes_in (address / 4) address width }
 {
     if from == 0 && width == 4 {
         return ByteSet {
@@ -110,7 +115,7 @@ fn bytes_from(from: u32, width: u32) -> ByteSet
 #[inline(always)]
 fn is_within(place: u32, from: u32, width: u32) -> bool
     requires { from + width < 2 ^ 32 }
-    ensures { (address : ℕ) → address % 4 ≡ from → result ≡ spec.is_among (address / 4) place address width }
+    ensures { (address : ℕ) → address % 4 ≡ from → result ≡ ranges.is_among (address / 4) place address width }
 {
     from <= place && place < from + width
 }
@@ -146,6 +151,28 @@ fn unsigned_hint(actor: Actor, hart: &Hart, rs1: Register, rs2: Register) -> Opt
             address: hart.reg(usize::from(address)),
             length: hart.reg(usize::from(length)),
         }),
+    }
+}
+
+/// The hint that SLTI into x0 is at an address, with this value in its register and this immediate.
+fn numbered_hint(actor: Actor, pc: u32, value: u32, number: u32) -> Option<ObservedEvent>
+    ensures { result ≡ spec.numbered_hint actor pc value number }
+{
+    let thread = actor.thread;
+    match number {
+        1 => Some(ObservedEvent::Caller { thread, pc: value }),
+        2 => Some(ObservedEvent::Length {
+            thread,
+            length: value,
+        }),
+        _ => {
+            let kind = HintKind::from_number(number)?;
+            Some(ObservedEvent::Hint(HintEvent {
+                site: actor.hint(pc),
+                kind,
+                object: value,
+            }))
+        }
     }
 }
 

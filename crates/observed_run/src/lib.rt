@@ -1,4 +1,4 @@
-//! A run whose loads, stores, calls and hints are told to a recorder of races.
+//! A run whose loads, stores, calls and hints are told to a recorder of findings.
 #![tactic(auto)]
 
 mod actor;

@@ -1,5 +1,5 @@
-//! A run that has ended, with its races.
-use races::Race;
+//! A run that has ended, with its findings.
+use races::Finding;
 use runtime::{Interruption, RecordedRun};
 
 /// What an observed run came to.
@@ -7,7 +7,6 @@ use runtime::{Interruption, RecordedRun};
 pub struct ObservedRun<K> {
     /// How it ended, or why it didn't, and its recorder.
     pub run: RecordedRun<K, Interruption>,
-    /// Its races, in the order of their second accesses: one for each pair of instructions and each word at which they race.
-    /// None if it didn't end.
-    pub races: Vec<Race>,
+    /// What was found, in the order in which the last event of each came. None if it didn't end.
+    pub findings: Vec<Finding>,
 }

@@ -1,4 +1,4 @@
-//! Does the turns of a run and tells a recorder of races their events.
+//! Does the turns of a run and tells a recorder of findings their events.
 ghost use Rattle.std.specs.Prelude.{◌≡◌, ◌≢◌, ◌-◌, ◌^◌, ◌<◌, IfErr, IfOk, IsSome, None, OnErr, OnOk, Some, option_map};
 ghost use Rattle.token.specs.Point.{IsNeededAt, IsNeededBy, moved, step_at};
 ghost use Rattle.token.specs.RunInTurn.{point_of};
@@ -13,20 +13,20 @@ ghost use Rattle.observed_run.specs.Told.{IsTold};
 use crate::actor::{Actor, byte_of};
 use crate::before::Before;
 use crate::call_events::{EndedTurn, end_events, let_go};
-use crate::observing::observe;
+use crate::observing::{observe, steps_before};
 use crate::telling::tell_all;
-use races::RaceRecorder;
+use races::FindingRecorder;
 use runtime::{Interruption, Sink, send};
 use std::alloc::{AllocError, Global};
 use std::sync::Wait;
 use token::{Need, Recorder, RunOutcome, SegmentEnd, Serial, TurnFault};
 
-/// Does turns by the calling host thread alone, and tells a recorder of races their events.
+/// Does turns by the calling host thread alone, and tells a recorder of findings their events.
 #[derive(Drop)]
 pub(crate) struct Observer {
     pub(crate) alloc: Global,
     /// Who is told the events.
-    pub(crate) races: RaceRecorder,
+    pub(crate) findings: FindingRecorder,
 }
 
 impl Observer {
@@ -39,7 +39,7 @@ impl Observer {
     ) -> Result<RunOutcome, Interruption>
         requires { S.failed sink.old < 2 ^ 64 - 1 }
         ensures goes { GoesOn K.writes S.taken S.failed Some result serial.old serial.new sink.old sink.new }
-        ensures leads { OnOk result (LeadsLegally serial.old serial.new self.old.races self.new.races) }
+        ensures leads { OnOk result (LeadsLegally serial.old serial.new self.old.findings self.new.findings) }
         ensures ended { OnOk result (IsSome (point_of serial.new).ended) }
     {
         for _ in rt.forever() {
@@ -58,7 +58,7 @@ impl Observer {
     ) -> Result<Option<RunOutcome>, Interruption>
         requires { S.failed sink.old < 2 ^ 64 - 1 }
         ensures goes { GoesOn K.writes S.taken S.failed (λ ends. ends) result serial.old serial.new sink.old sink.new }
-        ensures leads { OnOk result (LeadsLegally serial.old serial.new self.old.races self.new.races) }
+        ensures leads { OnOk result (LeadsLegally serial.old serial.new self.old.findings self.new.findings) }
     {
         if let Some(outcome) = self.take_turn(serial)? {
             return Ok(Some(outcome));
@@ -74,7 +74,7 @@ impl Observer {
         &mut self,
         serial: &mut Serial<K>,
     ) -> Result<Option<RunOutcome>, TurnFault>
-        ensures leads { OnOk result (LeadsLegally serial.old serial.new self.old.races self.new.races) }
+        ensures leads { OnOk result (LeadsLegally serial.old serial.new self.old.findings self.new.findings) }
         ensures moved { IfOk result (λ ends. Moves ends (point_of serial.old) (point_of serial.new)) }
         ensures may { OnErr result (MayMove (point_of serial.old) (point_of serial.new)) }
         ensures failed { IfErr result (λ fault. fault ≡ WriteFailed → K.writes × ((point_of serial.new).ended ≡ None)) }
@@ -97,7 +97,7 @@ impl Observer {
         requires { (outcome : RunOutcome) → need.now ≢ Need.Ended outcome }
         ensures needed { IfOk result (IsNeededBy (point_of serial.now) need.now) }
         ensures told { IfOk result (λ end.
-            IsTold self.old.races self.new.races
+            IsTold self.old.findings self.new.findings
             (needed_events (actor_of (point_of serial.now).done (thread_by need.now)) (point_of serial.now) need.now end)) }
     {
         let (work, memory) = match *need {
@@ -106,7 +106,7 @@ impl Observer {
             Need::Wake { .. } | Need::Ended(_) => return Ok(None),
         };
         let actor = actor_in(serial, work.thread);
-        let end = observe(&mut self.races, actor, work.segment, memory)?;
+        let end = observe(&mut self.findings, actor, work.segment, memory)?;
         Ok(Some(end))
     }
 
@@ -123,7 +123,8 @@ impl Observer {
         ensures longer { OnOk result (IsLonger (point_of serial.old) (point_of serial.new)) }
         ensures may { OnErr result (MayMove (point_of serial.old) (point_of serial.new)) }
         ensures failed { IfErr result (λ fault. fault ≡ WriteFailed → K.writes × (point_of serial.new ≡ point_of serial.old)) }
-        ensures told { OnOk result (TellsLast serial.old self.old.races self.new.races thread (option_map (λ end. end.now) end.entry)) }
+        ensures told { OnOk result
+            (TellsLast serial.old self.old.findings self.new.findings thread (option_map (λ end. end.now) end.entry)) }
     {
         let alloc = self.alloc;
         let actor = actor_in(serial, thread);
@@ -131,12 +132,12 @@ impl Observer {
         let turn = serial.turn(end)?;
         let passed = let_go(alloc, &before, serial.threads())?;
         let ended = EndedTurn {
-            actor,
+            actor: actor.after(executed_in(end)),
             held: before.held.as_slice(),
             passed: passed.as_slice(),
         };
         let events = end_events(alloc, &ended, end, turn.stop)?;
-        Ok(tell_all(&mut self.races, &events)?)
+        Ok(tell_all(&mut self.findings, &events)?)
     }
 }
 
@@ -151,6 +152,16 @@ fn thread_by(need: &Need) -> u32
     }
 }
 
+/// How many instructions a turn executed before its stop: those of its segment, if it has one.
+fn executed_in(end: Option<&SegmentEnd>) -> u64
+    ensures { result ≡ spec.executed_in (option_map (λ end. end.now) end.entry) }
+{
+    match end {
+        Some(end) => steps_before(end.stop, end.count),
+        None => 0,
+    }
+}
+
 /// A thread in the next turn of a run.
 fn actor_in<K: Recorder>(serial: &Serial<K>, thread: u32) -> Actor
     ensures { result ≡ spec.actor_of (point_of serial.now).done thread }
@@ -158,5 +169,6 @@ fn actor_in<K: Recorder>(serial: &Serial<K>, thread: u32) -> Actor
     Actor {
         thread: byte_of(thread),
         turn: serial.done().wrapping_add(1),
+        instruction: 0,
     }
 }

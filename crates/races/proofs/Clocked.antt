@@ -10,7 +10,7 @@ use Rattle.std.proofs.lemmas.Option.{slice_get_read}
 use Rattle.races.specs.Clocks.{time, time_by, time_in, time_of, times_of, times_with, IsJoined, IsAfterOrder}
 use Rattle.races.specs.declared.clock.Clock.{Clock}
 use Rattle.races.specs.declared.clock_owner.ClockOwner.{ClockOwner}
-use Rattle.races.specs.declared.clock_owner.ClockOwner.TheVariants.{Thread, Ended, Mutex, Object}
+use Rattle.races.specs.declared.clock_owner.ClockOwner.TheVariants.{Thread, Ended, Mutex, Object, Seen, Fenced}
 use Rattle.races.proofs.Follow.{with_own}
 
 pub none_contained : {X : Type 0} (x : X) → Contains [] x → ⊥
@@ -108,30 +108,54 @@ IsThreadJoined old new key past = (other thread index : ℕ) → (index < time_o
 abbrev pub IsPlaceJoined : (old new : ClockOwner → ℕ → ℕ) (place : ClockOwner) (past : ℕ → ℕ) → Type 0
 IsPlaceJoined old new place past = (other : ClockOwner) (thread index : ℕ) → (index < new other thread) ↔ ((index < old other thread) ⊎ ((place ≡ other) × (index < past thread)))
 
-module _ (threads : List Clock) (ended mutexes objects : BTreeMap ℕ Clock) where
-  pub thread_joined : (new : List Clock) (key : ℕ) (past : ℕ → ℕ) → IsThreadJoined threads new key past → IsPlaceJoined (times_of threads ended mutexes objects) (times_of new ended mutexes objects) (Thread key) past
+module _ (threads : List Clock) (ended mutexes objects seen fenced : BTreeMap ℕ Clock) where
+  pub thread_joined : (new : List Clock) (key : ℕ) (past : ℕ → ℕ) → IsThreadJoined threads new key past → IsPlaceJoined (times_of threads ended mutexes objects seen fenced) (times_of new ended mutexes objects seen fenced) (Thread key) past
   thread_joined new key past joined (Thread other) thread index = renamed (λ same. ap Thread same) (λ same. cc same) (joined other thread index)
   thread_joined new key past joined (Ended other) thread index = not_named (λ same. cc same)
   thread_joined new key past joined (Mutex other) thread index = not_named (λ same. cc same)
   thread_joined new key past joined (Object other) thread index = not_named (λ same. cc same)
+  thread_joined new key past joined (Seen other) thread index = not_named (λ same. cc same)
+  thread_joined new key past joined (Fenced other) thread index = not_named (λ same. cc same)
 
-  pub ended_joined : (new : BTreeMap ℕ Clock) (key : ℕ) (past : ℕ → ℕ) → IsKeyJoined ended new key past → IsPlaceJoined (times_of threads ended mutexes objects) (times_of threads new mutexes objects) (Ended key) past
+  pub ended_joined : (new : BTreeMap ℕ Clock) (key : ℕ) (past : ℕ → ℕ) → IsKeyJoined ended new key past → IsPlaceJoined (times_of threads ended mutexes objects seen fenced) (times_of threads new mutexes objects seen fenced) (Ended key) past
   ended_joined new key past joined (Thread other) thread index = not_named (λ same. cc same)
   ended_joined new key past joined (Ended other) thread index = renamed (λ same. ap Ended same) (λ same. cc same) (joined other thread index)
   ended_joined new key past joined (Mutex other) thread index = not_named (λ same. cc same)
   ended_joined new key past joined (Object other) thread index = not_named (λ same. cc same)
+  ended_joined new key past joined (Seen other) thread index = not_named (λ same. cc same)
+  ended_joined new key past joined (Fenced other) thread index = not_named (λ same. cc same)
 
-  pub mutex_joined : (new : BTreeMap ℕ Clock) (key : ℕ) (past : ℕ → ℕ) → IsKeyJoined mutexes new key past → IsPlaceJoined (times_of threads ended mutexes objects) (times_of threads ended new objects) (Mutex key) past
+  pub mutex_joined : (new : BTreeMap ℕ Clock) (key : ℕ) (past : ℕ → ℕ) → IsKeyJoined mutexes new key past → IsPlaceJoined (times_of threads ended mutexes objects seen fenced) (times_of threads ended new objects seen fenced) (Mutex key) past
   mutex_joined new key past joined (Thread other) thread index = not_named (λ same. cc same)
   mutex_joined new key past joined (Ended other) thread index = not_named (λ same. cc same)
   mutex_joined new key past joined (Mutex other) thread index = renamed (λ same. ap Mutex same) (λ same. cc same) (joined other thread index)
   mutex_joined new key past joined (Object other) thread index = not_named (λ same. cc same)
+  mutex_joined new key past joined (Seen other) thread index = not_named (λ same. cc same)
+  mutex_joined new key past joined (Fenced other) thread index = not_named (λ same. cc same)
 
-  pub object_joined : (new : BTreeMap ℕ Clock) (key : ℕ) (past : ℕ → ℕ) → IsKeyJoined objects new key past → IsPlaceJoined (times_of threads ended mutexes objects) (times_of threads ended mutexes new) (Object key) past
+  pub object_joined : (new : BTreeMap ℕ Clock) (key : ℕ) (past : ℕ → ℕ) → IsKeyJoined objects new key past → IsPlaceJoined (times_of threads ended mutexes objects seen fenced) (times_of threads ended mutexes new seen fenced) (Object key) past
   object_joined new key past joined (Thread other) thread index = not_named (λ same. cc same)
   object_joined new key past joined (Ended other) thread index = not_named (λ same. cc same)
   object_joined new key past joined (Mutex other) thread index = not_named (λ same. cc same)
   object_joined new key past joined (Object other) thread index = renamed (λ same. ap Object same) (λ same. cc same) (joined other thread index)
+  object_joined new key past joined (Seen other) thread index = not_named (λ same. cc same)
+  object_joined new key past joined (Fenced other) thread index = not_named (λ same. cc same)
+
+  pub seen_joined : (new : BTreeMap ℕ Clock) (key : ℕ) (past : ℕ → ℕ) → IsKeyJoined seen new key past → IsPlaceJoined (times_of threads ended mutexes objects seen fenced) (times_of threads ended mutexes objects new fenced) (Seen key) past
+  seen_joined new key past joined (Thread other) thread index = not_named (λ same. cc same)
+  seen_joined new key past joined (Ended other) thread index = not_named (λ same. cc same)
+  seen_joined new key past joined (Mutex other) thread index = not_named (λ same. cc same)
+  seen_joined new key past joined (Object other) thread index = not_named (λ same. cc same)
+  seen_joined new key past joined (Seen other) thread index = renamed (λ same. ap Seen same) (λ same. cc same) (joined other thread index)
+  seen_joined new key past joined (Fenced other) thread index = not_named (λ same. cc same)
+
+  pub fenced_joined : (new : BTreeMap ℕ Clock) (key : ℕ) (past : ℕ → ℕ) → IsKeyJoined fenced new key past → IsPlaceJoined (times_of threads ended mutexes objects seen fenced) (times_of threads ended mutexes objects seen new) (Fenced key) past
+  fenced_joined new key past joined (Thread other) thread index = not_named (λ same. cc same)
+  fenced_joined new key past joined (Ended other) thread index = not_named (λ same. cc same)
+  fenced_joined new key past joined (Mutex other) thread index = not_named (λ same. cc same)
+  fenced_joined new key past joined (Object other) thread index = not_named (λ same. cc same)
+  fenced_joined new key past joined (Seen other) thread index = not_named (λ same. cc same)
+  fenced_joined new key past joined (Fenced other) thread index = renamed (λ same. ap Fenced same) (λ same. cc same) (joined other thread index)
 
 -- ---- a place's past at a step
 

@@ -8,7 +8,7 @@ use Rattle.races.specs.Clocks.{Follows, IsAfterOrder, Reaches, own_time, times_w
 use Rattle.races.specs.Steps.{Step}
 use Rattle.races.specs.Steps.Step.{Touch, Order, Renew}
 use Rattle.races.specs.declared.clock_owner.ClockOwner.{ClockOwner}
-use Rattle.races.specs.declared.clock_owner.ClockOwner.TheVariants.{Thread, Ended, Mutex, Object}
+use Rattle.races.specs.declared.clock_owner.ClockOwner.TheVariants.{Thread, Ended, Mutex, Object, Seen, Fenced}
 use Rattle.races.specs.declared.site.Access.{Access}
 use Rattle.races.proofs.Order.{at_before, at_last, reaches_cases, reaches_more, reaches_through, releases_inside, forward}
 
@@ -41,6 +41,8 @@ own_cases step (Thread one) thread = ⊎_elim
 own_cases step (Ended one) thread = inr (λ same. cc same, refl)
 own_cases step (Mutex one) thread = inr (λ same. cc same, refl)
 own_cases step (Object one) thread = inr (λ same. cc same, refl)
+own_cases step (Seen one) thread = inr (λ same. cc same, refl)
+own_cases step (Fenced one) thread = inr (λ same. cc same, refl)
 
 own_bound : (step : ℕ) (place : ClockOwner) (thread : ℕ) → own_time step place thread ≤ step
 own_bound step place thread = ⊎_elim (λ own. let o = own.1 in omega arith) (λ other. let o = other.1 in omega arith) (own_cases step place thread)

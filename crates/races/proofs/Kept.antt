@@ -64,7 +64,7 @@ some_byte bytes is = some_of bytes.first bytes.second bytes.third bytes.fourth i
 -- ---- one step more
 
 author_trans : (a b c : Site) → IsSameAuthor a b → IsSameAuthor b c → IsSameAuthor a c
-author_trans a b c one other = (one.0 ∙ other.0, (one.1.0 ∙ other.1.0, one.1.1 ∙ other.1.1))
+author_trans a b c one other = (one.0 ∙ other.0, (one.1.0 ∙ other.1.0, one.1.1 ∙ other.1.1, one.1.2 ∙ other.1.2))
 
 module _ (steps : List Step) (step : Step) (word : ℕ) where
   -- an access of before that is kept, with some of its bytes
@@ -236,7 +236,7 @@ latest_kept steps access old new kept knows = record { sound = sound; complete =
         let same : access ≡ one = cc (last.1) in (
           own,
           kept.there,
-          subst (λ (other : Access). IsSameAuthor access.site other.site) same (refl, (refl, refl)),
+          subst (λ (other : Access). IsSameAuthor access.site other.site) same (refl, (refl, refl, refl)),
           ap (λ (other : Access). has other.bytes place) same ∙ of.has_it,
           own_covers index one is (ap (λ (other : Access). other.site.thread) same),
         ))

@@ -143,7 +143,7 @@ latest_push (first ∷ entries) new place apart =
 
 no_entry : KeptAccess
 no_entry = record {
-  latest = record { site = record { turn = 0; pc = 0; thread = 0; is_store = false }; bytes = record { first = false; second = false; third = false; fourth = false }; step = 0 };
+  latest = record { site = record { turn = 0; instruction = 0; pc = 0; thread = 0; is_store = false; is_atomic = false }; bytes = record { first = false; second = false; third = false; fourth = false }; step = 0 };
   place = 0;
   next = 0;
 }

@@ -11,14 +11,14 @@ use Rattle.races.specs.Words.{IsGrown, IsNoted, race_of}
 use Rattle.races.specs.declared.site.Site.{Site}
 use Rattle.races.specs.declared.found_race.FoundRace.{FoundRace}
 
-same_trans : (a b c : Site) → IsSameInstruction a b → IsSameInstruction b c → IsSameInstruction a c
-same_trans a b c one other = (one.0 ∙ other.0, one.1 ∙ other.1)
+pub same_trans : (a b c : Site) → IsSameInstruction a b → IsSameInstruction b c → IsSameInstruction a c
+same_trans a b c one other = (one.0 ∙ other.0, one.1 ∙ other.1, one.2 ∙ other.2)
 
 pub same_sym : (a b : Site) → IsSameInstruction a b → IsSameInstruction b a
-same_sym a b one = (sym one.0, sym one.1)
+same_sym a b one = (sym one.0, sym one.1, sym one.2)
 
 pub pair_refl : (a b : Site) → IsSamePair a b a b
-pair_refl a b = inl ((refl, refl), (refl, refl))
+pair_refl a b = inl ((refl, refl, refl), (refl, refl, refl))
 
 pub pair_trans : (a b c d e f : Site) → IsSamePair a b c d → IsSamePair c d e f → IsSamePair a b e f
 pair_trans a b c d e f one other = ⊎_elim

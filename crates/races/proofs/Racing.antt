@@ -49,6 +49,7 @@ module _ (steps : List Step) (step : Step) where
         first_of = race.first_of;
         second_of = race.second_of;
         stores = race.stores;
+        plain = race.plain;
         unordered = λ before. race.unordered (before_less steps step before inside);
         one_life = λ between after before renews.
             let small : between < length steps = omega arith in
@@ -66,6 +67,7 @@ module _ (steps : List Step) (step : Step) where
         first_of = race.first_of;
         second_of = race.second_of;
         stores = race.stores;
+        plain = race.plain;
         unordered = λ before. race.unordered (before_more steps step before);
         one_life = λ between after before renews.
             let small : between < length steps = omega arith in
@@ -127,6 +129,7 @@ module _ (steps : List Step) (access : Access) (clocks : Clocks) (times : Times 
         first_of = is.of place there;
         second_of = record { word_is = refl; has_it = here };
         stores = ⊎_elim (λ first. inl (ap (λ (one : Site). one.is_store) site ∙ first)) (λ second. inr second) hit.stores;
+        plain = ⊎_elim (λ first. inl (ap (λ (one : Site). one.is_atomic) site ∙ first)) (λ second. inr second) hit.plain;
         unordered = λ before.
             let way = before_last steps (Touch access) past.step before in
             let reaches : Reaches steps past.step (Thread access.site.thread) = subst (Reaches steps past.step) (sym way.1) way.2 in
@@ -188,5 +191,6 @@ module _ (steps : List Step) (access : Access) (clocks : Clocks) (times : Times 
       hit = record {
         threads = λ same. race.threads (sym thread ∙ same);
         stores = ⊎_elim (λ first. inl (kept.2.1.1 ∙ first)) (λ second. inr second) race.stores;
+        plain = ⊎_elim (λ first. inl (kept.2.1.2 ∙ first)) (λ second. inr second) race.plain;
         unordered = unordered;
       }

@@ -11,7 +11,7 @@ use Rattle.races.specs.Bytes.{has}
 use Rattle.races.specs.Races.{AreRacing, IsSamePair, IsToldBy, Renews}
 use Rattle.races.specs.Recording.{KnowsSteps}
 use Rattle.races.specs.Recent.{IsNotedIn, IsRecent, IsSlotOf, IsWithin, KnowsRecent, WasAccessed}
-use Rattle.races.specs.Steps.{IsSameAuthor, IsSameInstruction, Step}
+use Rattle.races.specs.Steps.{IsSameAuthor, IsSameInstruction, IsSameInTurn, Step}
 use Rattle.races.specs.Steps.Step.{Touch}
 use Rattle.races.specs.Words.{KnowsFound, KnowsWords, PageList, Times, found_at, latest_at, race_of}
 use Rattle.races.specs.declared.byte_set.ByteSet.{ByteSet}
@@ -28,6 +28,7 @@ use Rattle.races.specs.declared.word_races.WordRaces.{WordRaces}
 use Rattle.races.proofs.Follow.{access_inside, after_touch, apart_kept, own_cases}
 use Rattle.races.proofs.Kept.{WasMade, latest_repeated}
 use Rattle.races.proofs.Mapped.{words_touched}
+use Rattle.races.proofs.Noting.{same_trans}
 use Rattle.races.proofs.Order.{at_before, at_last, before_more, last_part}
 use Rattle.races.proofs.Clocked.{none_contained}
 use Rattle.races.proofs.Racing.{race_more, racing_less, renews_inside}
@@ -39,8 +40,8 @@ swapped a b c d pair = ⊎_elim (λ straight. inr straight) (λ crossed. inl cro
 -- a pair with the same instruction in the place of its second
 with_second : (a b c d e : Site) → IsSameInstruction d e → IsSamePair a b c d → IsSamePair a b c e
 with_second a b c d e same pair = ⊎_elim
-    (λ straight. inl (straight.0, (straight.1.0 ∙ same.0, straight.1.1 ∙ same.1)))
-    (λ crossed. inr ((crossed.0.0 ∙ same.0, crossed.0.1 ∙ same.1), crossed.1))
+    (λ straight. inl (straight.0, same_trans b d e straight.1 same))
+    (λ crossed. inr (same_trans a d e crossed.0 same, crossed.1))
     pair
 
 -- an access of a byte that was accessed before
@@ -86,6 +87,7 @@ module _ (steps : List Step) (access : Access) (place : ℕ) (before : WasMade s
         first_of = race.first_of;
         second_of = before.of;
         stores = ⊎_elim (λ first. inl first) (λ second. inr (author.1.1 ∙ second)) race.stores;
+        plain = ⊎_elim (λ first. inl first) (λ second. inr (author.1.2 ∙ second)) race.plain;
         unordered = λ happens. race.unordered (through (before_more steps (Touch access) happens) made_before);
         one_life = λ between after sooner renews.
             let last : between < length steps = omega arith in
@@ -102,6 +104,7 @@ module _ (steps : List Step) (access : Access) (place : ℕ) (before : WasMade s
     first_of = before.of;
     second_of = race.first_of;
     stores = ⊎_elim (λ first. inr first) (λ second. inl (author.1.1 ∙ second)) race.stores;
+    plain = ⊎_elim (λ first. inr first) (λ second. inl (author.1.2 ∙ second)) race.plain;
     unordered = λ happens.
         let part = last_part steps happens in
         let place_is = before.only part.ordered.1.0 (record { last = part.last; upto = part.upto; releases = part.ordered.1.1 }) in
@@ -179,6 +182,20 @@ module _ (steps : List Step) (access : Access) (before : (place : ℕ) → has a
 
 -- ---- the recent accesses
 
+in_turn_trans : (a b c : Site) → IsSameInTurn a b → IsSameInTurn b c → IsSameInTurn a c
+in_turn_trans a b c one other = (one.0 ∙ other.0, (one.1.0 ∙ other.1.0, same_trans a b c one.1.1 other.1.1))
+
+-- what an instruction accessed in a turn, by another site of it in that turn
+of_another : (steps : List Step) (since : ℕ) (site other : Site) (word place : ℕ) → IsSameInTurn site other → WasAccessed steps since site word place → WasAccessed steps since other word place
+of_another steps since site other word place same had = record {
+  made = had.made;
+  access = had.access;
+  counts = had.counts;
+  is = had.is;
+  site_is = in_turn_trans had.access.site site other had.site_is same;
+  of = had.of;
+}
+
 -- none at first
 pub recent_none : (recent : Recent) (clocks : Clocks) → recent.since ≡ 1 → recent.slots.items ≡ [] → ((place : ClockOwner) (thread : ℕ) → time_kept clocks place thread ≡ 0) → KnowsRecent recent clocks []
 recent_none recent clocks since none zeros = record {
@@ -238,7 +255,7 @@ recent_touched old new clocks steps access since noted knows = record {
       access = access;
       counts = omega arith;
       is = at_last steps (Touch access);
-      site_is = refl;
+      site_is = (refl, (refl, (refl, refl, refl)));
       of = record { word_is = refl; has_it = there };
     }
 
@@ -254,7 +271,7 @@ recent_touched old new clocks steps access since noted knows = record {
         (λ empty. let b = knows.begun in let counts = joined.counts in absurd (omega arith))
         (λ there.
         still_told access.site access.word place
-        (subst (λ (site : Site). WasAccessed steps old.since site access.word place) joined.site_is
+        (of_another steps old.since joined.was.access.site access.site access.word place joined.site_is
         (subst (λ (word : ℕ). WasAccessed steps old.since joined.was.access.site word place) joined.word_is (knows.told joined.was place there joined.counts had))))
         joined.there)
         (λ new_one. told_own place late new_one)
@@ -293,13 +310,13 @@ words_again steps clocks recent access slot pages races times knows_recent among
     made_before : (place : ℕ) → has access.bytes place ≡ true → WasMade steps access place
     made_before place there =
         let had = knows_recent.told slot place among late (within.bytes place there) in
-        let site : had.access.site ≡ access.site = had.site_is ∙ within.site_is in
-        let thread : had.access.site.thread ≡ access.site.thread = ap (λ (one : Site). one.thread) site in
+        let site : IsSameInTurn had.access.site access.site = in_turn_trans had.access.site slot.access.site access.site had.site_is within.site_is in
+        let thread : had.access.site.thread ≡ access.site.thread = site.1.0 in
         record {
           made = had.made;
           first = had.access;
           is = had.is;
-          author = (thread, (ap (λ (one : Site). one.pc) site, ap (λ (one : Site). one.is_store) site));
+          author = site.1;
           of = record { word_is = had.of.word_is ∙ within.word_is; has_it = had.of.has_it };
           alive = λ later after renews. let counts = had.counts in knows_recent.lives later access.word place (omega arith) renews;
           only = λ other reaches. ap Thread (sym thread) ∙ only_own steps clocks recent had.made had.access times knows_recent had.is had.counts other reaches;

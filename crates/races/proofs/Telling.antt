@@ -1,49 +1,69 @@
 -- What a recorder has recorded with one event more.
-use Rattle.std.proofs.Common.{◌≡◌, ℕ, Bool, true, List, [], ◌∷◌, ◌++◌, refl, sym, ◌∙◌, ap, subst, append_assoc}
+use Rattle.std.proofs.Common.{◌≡◌, ℕ, Bool, Option, true, List, [], ◌∷◌, ◌++◌, refl, sym, ◌∙◌, ap, subst, append_assoc}
 use Rattle.std.specs.Prelude.{◌==◌, if◌then◌else◌}
 use Rattle.std.proofs.Math.Path.{fun_ext}
 use Rattle.std.proofs.lemmas.List.{append-nil}
-use Rattle.races.specs.Recording.{Adds, KnowsSteps, Records, RecordsMore, depth_of, depths_from, depths_in}
-use Rattle.races.specs.Steps.{Step, depth_after, outside, steps_from, steps_in, steps_of}
+use Rattle.races.specs.Recording.{Adds, IsSaid, KnowsSteps, Records, RecordsMore, said_from, said_in, said_of}
+use Rattle.races.specs.Steps.{Said, Step, outside, said_after, steps_from, steps_in, steps_of, unsaid}
 use Rattle.races.specs.Steps.Step.{Touch}
-use Rattle.races.specs.declared.depths.Depths.{Depths}
 use Rattle.races.specs.declared.observed_event.ObservedEvent.{ObservedEvent}
 use Rattle.races.specs.declared.observed_event.ObservedEvent.TheVariants.{Access as Accessed}
 use Rattle.races.specs.declared.recorder.RaceRecorder.{RaceRecorder}
 use Rattle.races.specs.declared.site.Access.{Access}
 
-depths_more : (depth : ℕ → ℕ) (history : List ObservedEvent) (event : ObservedEvent) → depths_from depth (history ++ event ∷ []) ≡ depth_after (depths_from depth history) event
-depths_more depth [] event = refl
-depths_more depth (first ∷ history) event = depths_more (depth_after depth first) history event
+said_more : (said : Said) (history : List ObservedEvent) (event : ObservedEvent) → said_from said (history ++ event ∷ []) ≡ said_after (said_from said history) event
+said_more said [] event = refl
+said_more said (first ∷ history) event = said_more (said_after said first) history event
 
-steps_more : (depth : ℕ → ℕ) (history : List ObservedEvent) (event : ObservedEvent) → steps_from depth (history ++ event ∷ []) ≡ steps_from depth history ++ steps_of (depths_from depth history) event
-steps_more depth [] event = append-nil (steps_of depth event)
-steps_more depth (first ∷ history) event =
-    ap (λ (rest : List Step). steps_of depth first ++ rest) (steps_more (depth_after depth first) history event)
-    ∙ sym (append_assoc (steps_of depth first) (steps_from (depth_after depth first) history) (steps_of (depths_from (depth_after depth first) history) event))
+steps_more : (said : Said) (history : List ObservedEvent) (event : ObservedEvent) → steps_from said (history ++ event ∷ []) ≡ steps_from said history ++ steps_of (said_from said history) event
+steps_more said [] event = append-nil (steps_of said event)
+steps_more said (first ∷ history) event =
+    ap (λ (rest : List Step). steps_of said first ++ rest) (steps_more (said_after said first) history event)
+    ∙ sym (append_assoc (steps_of said first) (steps_from (said_after said first) history) (steps_of (said_from (said_after said first) history) event))
 
--- the depths and the steps with an event more
-pub told_more : (old new : RaceRecorder) (history : List ObservedEvent) (event : ObservedEvent) → ((thread : ℕ) → depth_of new.depths thread ≡ depth_after (depth_of old.depths) event thread)
-    → Adds old.steps (steps_of (depth_of old.depths) event) new.steps → Records old history → Records new (history ++ event ∷ [])
-told_more old new history event depths steps records =
-    let same : depth_of old.depths ≡ depths_in history = fun_ext records.depths in record {
-      depths = λ thread.
-          depths thread ∙ ap (λ (depth : ℕ → ℕ). depth_after depth event thread) same ∙ ap (λ (depth : ℕ → ℕ). depth thread) (sym (depths_more (λ one. 0) history event));
-      steps = subst (KnowsSteps new.steps) (ap (λ (depth : ℕ → ℕ). steps_in history ++ steps_of depth event) same ∙ sym (steps_more (λ one. 0) history event)) (steps (steps_in history) records.steps);
+-- the same is said of each thread
+same_said : (one other : Said) → IsSaid one other → one ≡ other
+same_said one other same =
+    ap (λ (depth : ℕ → ℕ). record one { depth = depth }) (fun_ext same.depth)
+    ∙ ap (λ (caller : ℕ → Option ℕ). record { depth = other.depth; caller = caller; length = one.length }) (fun_ext same.caller)
+    ∙ ap (λ (length : ℕ → ℕ). record { depth = other.depth; caller = other.caller; length = length }) (fun_ext same.length)
+
+as_said : (one other : Said) → one ≡ other → IsSaid one other
+as_said one other same = record {
+  depth = λ thread. ap (λ (said : Said). said.depth thread) same;
+  caller = λ thread. ap (λ (said : Said). said.caller thread) same;
+  length = λ thread. ap (λ (said : Said). said.length thread) same;
+}
+
+-- what is said and the steps with an event more
+pub told_more : (old new : RaceRecorder) (history : List ObservedEvent) (event : ObservedEvent) → IsSaid (said_of new) (said_after (said_of old) event)
+    → Adds old.steps (steps_of (said_of old) event) new.steps → Records old history → Records new (history ++ event ∷ [])
+told_more old new history event said steps records =
+    let same : said_of old ≡ said_in history = same_said (said_of old) (said_in history) records.said in record {
+      said = as_said (said_of new) (said_in (history ++ event ∷ []))
+          (same_said (said_of new) (said_after (said_of old) event) said ∙ ap (λ (one : Said). said_after one event) same ∙ sym (said_more unsaid history event));
+      steps = subst (KnowsSteps new.steps) (ap (λ (one : Said). steps_in history ++ steps_of one event) same ∙ sym (steps_more unsaid history event)) (steps (steps_in history) records.steps);
     }
 
+-- an event by which nothing is said
+pub told_still : (old new : RaceRecorder) (event is : ObservedEvent) → event ≡ is → said_after (said_of old) is ≡ said_of old → said_of new ≡ said_of old
+    → Adds old.steps (steps_of (said_of old) is) new.steps → RecordsMore old event new
+told_still old new event is same stays said steps history records =
+    subst (λ (one : ObservedEvent). Records new (history ++ one ∷ [])) (sym same)
+    (told_more old new history is (as_said (said_of new) (said_after (said_of old) is) (said ∙ sym stays)) steps records)
+
 -- an access more
-pub told_access : (old new : RaceRecorder) (access : Access) → new.depths ≡ old.depths
-    → Adds old.steps (outside (depth_of old.depths) access.site.thread (Touch access)) new.steps → RecordsMore old (Accessed access) new
-told_access old new access depths steps history records = told_more old new history (Accessed access) (λ thread. ap (λ (one : Depths). depth_of one thread) depths) steps records
+pub told_access : (old new : RaceRecorder) (access : Access) → said_of new ≡ said_of old
+    → Adds old.steps (outside (said_of old).depth access.site.thread (Touch access)) new.steps → RecordsMore old (Accessed access) new
+told_access old new access said steps = told_still old new (Accessed access) (Accessed access) refl refl said steps
 
 -- what is looked at of an access of a thread that is in no library region
 pub outside_is : (depth : ℕ → ℕ) (thread : ℕ) (step : Step) → (depth thread == 0) ≡ true → outside depth thread step ≡ step ∷ []
 outside_is depth thread step is = ap (λ (b : Bool). if b then step ∷ [] else []) is
 
 -- nothing more
-pub told_same : (old new : RaceRecorder) → new.depths ≡ old.depths → ((steps : List Step) → KnowsSteps old.steps steps → KnowsSteps new.steps steps) → (history : List ObservedEvent) → Records old history → Records new history
-told_same old new depths steps history records = record {
-  depths = λ thread. ap (λ (one : Depths). depth_of one thread) depths ∙ records.depths thread;
+pub told_same : (old new : RaceRecorder) → said_of new ≡ said_of old → ((steps : List Step) → KnowsSteps old.steps steps → KnowsSteps new.steps steps) → (history : List ObservedEvent) → Records old history → Records new history
+told_same old new said steps history records = record {
+  said = as_said (said_of new) (said_in history) (said ∙ same_said (said_of old) (said_in history) records.said);
   steps = steps (steps_in history) records.steps;
 }

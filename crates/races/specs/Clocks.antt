@@ -9,7 +9,7 @@ use Rattle.races.specs.declared.clock.Clock.{Clock}
 use Rattle.races.specs.declared.clocks.Clocks.{Clocks}
 use Rattle.races.specs.declared.clock_owner.ClockOwner.{ClockOwner}
 use Rattle.races.specs.declared.site.Access.{Access}
-use Rattle.races.specs.declared.clock_owner.ClockOwner.TheVariants.{Thread, Ended, Mutex, Object}
+use Rattle.races.specs.declared.clock_owner.ClockOwner.TheVariants.{Thread, Ended, Mutex, Object, Seen, Fenced}
 
 -- a thread's time: the past holds its accesses before this step
 abbrev pub time : Clock → (thread : ℕ) → ℕ
@@ -36,14 +36,16 @@ abbrev pub time_of : List Clock → (key thread : ℕ) → ℕ
 time_of clocks key thread = time_by (slice_get clocks key) thread
 
 -- the times that are kept of a place of each kind
-abbrev pub times_of : (threads : List Clock) (ended mutexes objects : BTreeMap ℕ Clock) → ClockOwner → (thread : ℕ) → ℕ
-times_of threads ended mutexes objects (Thread thread) other = time_of threads thread other
-times_of threads ended mutexes objects (Ended thread) other = time_in ended thread other
-times_of threads ended mutexes objects (Mutex mutex) other = time_in mutexes mutex other
-times_of threads ended mutexes objects (Object object) other = time_in objects object other
+abbrev pub times_of : (threads : List Clock) (ended mutexes objects seen fenced : BTreeMap ℕ Clock) → ClockOwner → (thread : ℕ) → ℕ
+times_of threads ended mutexes objects seen fenced (Thread thread) other = time_of threads thread other
+times_of threads ended mutexes objects seen fenced (Ended thread) other = time_in ended thread other
+times_of threads ended mutexes objects seen fenced (Mutex mutex) other = time_in mutexes mutex other
+times_of threads ended mutexes objects seen fenced (Object object) other = time_in objects object other
+times_of threads ended mutexes objects seen fenced (Seen thread) other = time_in seen thread other
+times_of threads ended mutexes objects seen fenced (Fenced thread) other = time_in fenced thread other
 
 abbrev pub time_kept : Clocks → ClockOwner → (thread : ℕ) → ℕ
-time_kept clocks = times_of clocks.threads.clocks.items clocks.ended clocks.mutexes clocks.objects
+time_kept clocks = times_of clocks.threads.clocks.items clocks.ended clocks.mutexes clocks.objects clocks.seen clocks.fenced
 
 -- what a thread did before this step is in its own past
 abbrev pub own_time : (step : ℕ) → ClockOwner → (thread : ℕ) → ℕ
@@ -51,6 +53,8 @@ own_time step (Thread thread) other = if thread == other then step else 0
 own_time step (Ended thread) other = 0
 own_time step (Mutex mutex) other = 0
 own_time step (Object object) other = 0
+own_time step (Seen thread) other = 0
+own_time step (Fenced thread) other = 0
 
 -- the times of a place at a step
 abbrev pub times_with : (step : ℕ) → (kept : ClockOwner → ℕ → ℕ) → ClockOwner → (thread : ℕ) → ℕ

@@ -1,5 +1,5 @@
 -- The races of a run.
-use Rattle.std.specs.Prelude.{◌≡◌, ◌≢◌, ℕ, ◌+◌, ◌*◌, ◌<◌, ◌≤◌, ◌⊎◌, true, List, Contains}
+use Rattle.std.specs.Prelude.{◌≡◌, ◌≢◌, ℕ, ◌+◌, ◌*◌, ◌<◌, ◌≤◌, ◌⊎◌, true, false, List, Contains}
 use Rattle.races.specs.Before.{at, HappensBefore}
 use Rattle.races.specs.Bytes.{has}
 use Rattle.races.specs.Steps.{Step, Touch, Order, Renew, IsSameInstruction}
@@ -18,8 +18,8 @@ Renews (Touch access) word place = ⊥
 Renews (Order acquired released) word place = ⊥
 Renews (Renew address length) word place = (address ≤ word * 4 + place) × (word * 4 + place < address + length)
 
--- A race: two accesses of different threads with a common byte, at least one of them a store, of which none happens before the other, in
--- one life of that byte. (The later one never happens before the earlier one.)
+-- A race: two accesses of different threads with a common byte, at least one of them a store, at least one of them not atomic, of which none
+-- happens before the other, in one life of that byte. (The later one never happens before the earlier one.)
 pub record AreRacing (steps : List Step) (earlier later : ℕ) (first second : Access) (word place : ℕ) : Type 0 where
   pub first_is : at steps earlier ≡ Touch first
   pub second_is : at steps later ≡ Touch second
@@ -28,6 +28,7 @@ pub record AreRacing (steps : List Step) (earlier later : ℕ) (first second : A
   pub first_of : IsOf first word place
   pub second_of : IsOf second word place
   pub stores : (first.site.is_store ≡ true) ⊎ (second.site.is_store ≡ true)
+  pub plain : (first.site.is_atomic ≡ false) ⊎ (second.site.is_atomic ≡ false)
   pub unordered : ¬ HappensBefore steps earlier later
   pub one_life : (between : ℕ) → earlier < between → between < later → ¬ Renews (at steps between) word place
 

@@ -4,7 +4,7 @@ use Rattle.races.specs.Before.{at}
 use Rattle.races.specs.Clocks.{time_kept}
 use Rattle.races.specs.Bytes.{has}
 use Rattle.races.specs.Races.{IsOf, Renews}
-use Rattle.races.specs.Steps.{Step}
+use Rattle.races.specs.Steps.{Step, IsSameInTurn}
 use Rattle.races.specs.Steps.Step.{Touch}
 use Rattle.races.specs.declared.clocks.Clocks.{Clocks}
 use Rattle.races.specs.declared.clock_owner.ClockOwner.{ClockOwner}
@@ -16,7 +16,7 @@ use Rattle.races.specs.declared.recent_access.RecentAccess.{RecentAccess}
 
 -- an access has no bytes but those of another, by the same instruction of the thread in the same turn
 pub record IsWithin (access other : Access) : Type 0 where
-  pub site_is : other.site ≡ access.site
+  pub site_is : IsSameInTurn other.site access.site
   pub word_is : other.word ≡ access.word
   pub bytes : (place : ℕ) → has access.bytes place ≡ true → has other.bytes place ≡ true
 
@@ -25,7 +25,7 @@ pub record IsJoined (old : List RecentAccess) (since : ℕ) (access : Access) (s
   pub was : RecentAccess
   pub there : (was.step ≡ 0) ⊎ Contains old was
   pub counts : since ≤ was.step
-  pub site_is : was.access.site ≡ access.site
+  pub site_is : IsSameInTurn was.access.site access.site
   pub word_is : was.access.word ≡ access.word
   pub bytes : (place : ℕ) → has slot.access.bytes place ≡ true → (has was.access.bytes place ≡ true) ⊎ (has access.bytes place ≡ true)
 
@@ -46,7 +46,7 @@ pub record WasAccessed (steps : List Step) (since : ℕ) (site : Site) (word pla
   pub access : Access
   pub counts : since ≤ made
   pub is : at steps made ≡ Touch access
-  pub site_is : access.site ≡ site
+  pub site_is : IsSameInTurn access.site site
   pub of : IsOf access word place
 
 -- the bytes of an access are among those of a slot that counts

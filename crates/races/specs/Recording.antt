@@ -1,10 +1,12 @@
 -- What a recorder of races has recorded.
-use Rattle.std.specs.Prelude.{◌≡◌, ℕ, Result, OnOk, OnErr, true, false, List, [], ◌∷◌, ◌++◌, length, slice_index_or}
+use Rattle.std.specs.Prelude.{◌≡◌, ℕ, Option, None, Result, OnOk, OnErr, true, false, List, [], ◌∷◌, ◌++◌, length, slice_index_or}
 use Rattle.std.specs.declared.alloc.AllocError.{AllocError}
 use Rattle.races.specs.Recent.{KnowsRecent}
-use Rattle.races.specs.Steps.{Step, depth_after, steps_in}
+use Rattle.races.specs.Steps.{Said, Step, said_after, steps_in, unsaid}
 use Rattle.races.specs.Words.{KnowsWords, Times}
+use Rattle.races.specs.declared.callers.Callers.{Callers}
 use Rattle.races.specs.declared.depths.Depths.{Depths}
+use Rattle.races.specs.declared.lengths.Lengths.{Lengths}
 use Rattle.races.specs.declared.observed_event.ObservedEvent.{ObservedEvent}
 use Rattle.races.specs.declared.recorder.RaceRecorder.{RaceRecorder}
 use Rattle.races.specs.declared.steps.Steps.{Steps}
@@ -13,13 +15,31 @@ use Rattle.races.specs.declared.steps.Steps.{Steps}
 abbrev pub depth_of : Depths → (thread : ℕ) → ℕ
 depth_of depths thread = slice_index_or depths.depths.items thread 0
 
--- the depths after some events
-abbrev pub depths_from : (ℕ → ℕ) → List ObservedEvent → ℕ → ℕ
-depths_from depth [] = depth
-depths_from depth (event ∷ events) = depths_from (depth_after depth event) events
+-- from where a thread called a library
+abbrev pub caller_of : Callers → (thread : ℕ) → Option ℕ
+caller_of callers thread = slice_index_or callers.callers.items thread None
 
-abbrev pub depths_in : List ObservedEvent → ℕ → ℕ
-depths_in history = depths_from (λ thread. 0) history
+-- how many bytes a thread's next hint is about
+abbrev pub length_of : Lengths → (thread : ℕ) → ℕ
+length_of lengths thread = slice_index_or lengths.lengths.items thread 0
+
+-- what a recorder knows of what was said
+abbrev pub said_of : RaceRecorder → Said
+said_of recorder = record { depth = depth_of recorder.depths; caller = caller_of recorder.callers; length = length_of recorder.lengths }
+
+-- what was said after some events
+abbrev pub said_from : Said → List ObservedEvent → Said
+said_from said [] = said
+said_from said (event ∷ events) = said_from (said_after said event) events
+
+abbrev pub said_in : List ObservedEvent → Said
+said_in history = said_from unsaid history
+
+-- the same was said of each thread
+pub record IsSaid (one other : Said) : Type 0 where
+  pub depth : (thread : ℕ) → one.depth thread ≡ other.depth thread
+  pub caller : (thread : ℕ) → one.caller thread ≡ other.caller thread
+  pub length : (thread : ℕ) → one.length thread ≡ other.length thread
 
 -- the clocks and the words are those of the steps
 pub record KnowsSteps (kept : Steps) (steps : List Step) : Type 0 where
@@ -34,17 +54,17 @@ Adds old more new = (steps : List Step) → KnowsSteps old steps → KnowsSteps 
 
 -- A recorder was told a history.
 pub record Records (recorder : RaceRecorder) (history : List ObservedEvent) : Type 0 where
-  pub depths : (thread : ℕ) → depth_of recorder.depths thread ≡ depths_in history thread
+  pub said : IsSaid (said_of recorder) (said_in history)
   pub steps : KnowsSteps recorder.steps (steps_in history)
 
 -- a recorder has recorded one event more than before
 abbrev pub RecordsMore : RaceRecorder → ObservedEvent → RaceRecorder → Type 0
 RecordsMore old event new = (history : List ObservedEvent) → Records old history → Records new (history ++ event ∷ [])
 
--- A recorder takes some steps, unless memory runs out. The depths stay in any case.
+-- A recorder takes some steps, unless memory runs out. What was said stays in any case.
 pub record Takes (old : RaceRecorder) (more : List Step) (new : RaceRecorder) (result : Result (Unit {0}) AllocError) : Type 0 where
   pub steps : OnOk result (Adds old.steps more new.steps)
-  pub depths : new.depths ≡ old.depths
+  pub said : said_of new ≡ said_of old
 
 -- What becomes of a recorder at an event: it was told the event, or it is broken. One that was broken before is told nothing.
 pub record RecordsOrBreaks (old : RaceRecorder) (event : ObservedEvent) (new : RaceRecorder) (result : Result (Unit {0}) AllocError) : Type 0 where

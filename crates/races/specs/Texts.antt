@@ -1,7 +1,5 @@
--- The text of races.
-use Rattle.std.specs.Prelude.{ℕ, ◌+◌, ◌-◌, ◌*◌, ◌%◌, ◌^◌, ◌==◌, if◌then◌else◌, nat_lt, Option, Some, None, List, [], ◌++◌, codes, decimal, length, map}
-use Rattle.std.specs.List.{flat_map}
-use Rattle.std.proofs.Common.{take}
+-- The text of a race.
+use Rattle.std.specs.Prelude.{ℕ, ◌+◌, ◌*◌, ◌%◌, ◌^◌, ◌==◌, if◌then◌else◌, nat_lt, Option, Some, None, List, [], ◌++◌, codes, decimal, map}
 use Rattle.symbols.specs.Covering.{NamedPlace, place_at}
 use Rattle.symbols.specs.Symbol.{SymbolLists}
 use Rattle.text_output.specs.Digits.{hexadecimal}
@@ -24,7 +22,8 @@ address_of race = (race.word * 4 + lowest race.bytes) % 2 ^ 32
 -- an access
 unfoldable pub site_text : Site → List ℕ
 site_text site =
-    (if site.is_store then codes " store" else codes " load") ++ codes " thread=" ++ decimal site.thread ++ codes " turn=" ++ decimal site.turn ++ codes " pc=" ++ hexadecimal 8 site.pc
+    (if site.is_store then codes " store" else codes " load") ++ codes " thread=" ++ decimal site.thread ++ codes " turn=" ++ decimal site.turn ++ codes "+" ++ decimal site.instruction
+    ++ codes " pc=" ++ hexadecimal 8 site.pc
 
 -- which bytes race
 unfoldable pub bytes_text : Race → List ℕ
@@ -52,7 +51,3 @@ race_text symbols race = bytes_text race ++ site_text race.first ++ site_text ra
 -- how many lines were left out, if any were
 unfoldable pub left_text : ℕ → List ℕ
 left_text count = if count == 0 then [] else codes "left out=" ++ decimal count ++ codes "\n"
-
--- the text of races: a line for each of the first 10,000
-unfoldable pub text_of : SymbolLists → List Race → List ℕ
-text_of symbols races = flat_map (race_text symbols) (take 10000 races) ++ left_text (length races - 10000)

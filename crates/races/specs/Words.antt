@@ -1,5 +1,5 @@
 -- What is kept of a word.
-use Rattle.std.specs.Prelude.{◌≡◌, ◌≢◌, ℕ, ◌/◌, ◌%◌, ◌<◌, ◌≤◌, ◌⊎◌, ◌||◌, true, Option, Some, None, List, [], ◌∷◌, ◌++◌, Contains, length, map, slice_get, slice_index_or, slice_set}
+use Rattle.std.specs.Prelude.{◌≡◌, ◌≢◌, ℕ, ◌/◌, ◌%◌, ◌<◌, ◌≤◌, ◌⊎◌, ◌||◌, true, false, Option, Some, None, List, [], ◌∷◌, ◌++◌, Contains, length, map, slice_get, slice_index_or, slice_set}
 use Rattle.std.specs.Global.{Box}
 use Rattle.std.specs.Ordering.{nat_cmp}
 use Rattle.std.specs.BTreeMap.{BTreeMap, get}
@@ -55,10 +55,12 @@ pub record KeepsAt (old : ℕ → List Latest) (number : ℕ) (kept : Latest) (n
 abbrev pub KeepsWith : (old : List KeptAccess) → (index : ℕ) → Latest → (new : List KeptAccess) → Type 0
 KeepsWith old index kept new = (entry : KeptAccess) → IsAt old index entry → KeepsAt (latest_in old) entry.place kept (latest_in new)
 
--- an access of before races with one of now: another thread's, one of both a store, and not before the time of the past
+-- an access of before races with one of now: another thread's, one of both a store, one of both not atomic, and not before the time of the
+-- past
 pub record IsHit (times : ℕ → ℕ) (past : Latest) (access : Access) : Type 0 where
   pub threads : past.site.thread ≢ access.site.thread
   pub stores : (past.site.is_store ≡ true) ⊎ (access.site.is_store ≡ true)
+  pub plain : (past.site.is_atomic ≡ false) ⊎ (access.site.is_atomic ≡ false)
   pub unordered : times past.site.thread ≤ past.step
 
 -- a race with more bytes

@@ -1,6 +1,7 @@
 //! Which of a word's four bytes.
 ghost use Rattle.std.specs.Prelude.{◌≡◌, ℕ, ◌&&◌, ◌||◌, IsTrue, not, true};
 ghost use Rattle.races.specs.Bytes.{has, is_none};
+ghost use Rattle.races.specs.Ranges as ranges;
 
 /// Some of a word's four bytes, which stand at the places 0 to 3.
 #[derive(Clone, Copy, Debug, PartialEq, Eq)]
@@ -17,6 +18,18 @@ pub struct ByteSet {
 
 impl ByteSet {
     ghost use Rattle.races.specs.Texts.{lowest};
+
+    /// Which bytes of a word are among those from an address on, so many.
+    pub fn of_range(word: u32, address: u32, length: u32) -> Self
+        ensures { result ≡ ranges.bytes_in word address length }
+    {
+        ByteSet {
+            first: is_among(word, 0, address, length),
+            second: is_among(word, 1, address, length),
+            third: is_among(word, 2, address, length),
+            fourth: is_among(word, 3, address, length),
+        }
+    }
 
     /// Whether there is no byte.
     pub fn is_empty(self) -> bool
@@ -102,4 +115,12 @@ impl ByteSet {
             fourth: self.fourth && !other.fourth,
         }
     }
+}
+
+/// Whether the byte at a place of a word is among those from an address on, so many.
+fn is_among(word: u32, place: u8, address: u32, length: u32) -> bool
+    ensures { result ≡ ranges.is_among word place address length }
+{
+    let byte = u64::from(word) * 4 + u64::from(place);
+    u64::from(address) <= byte && byte < u64::from(address) + u64::from(length)
 }

@@ -10,4 +10,8 @@ pub(crate) enum ClockOwner {
     Mutex(u32),
     /// An object of hints.
     Object(u32),
+    /// What a thread's relaxed loads have seen, for its acquire fences.
+    Seen(u8),
+    /// What a thread did before its release fences, for its relaxed stores.
+    Fenced(u8),
 }

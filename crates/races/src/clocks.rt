@@ -25,6 +25,8 @@ pub(crate) struct Clocks {
     ended: ClockMap,
     mutexes: ClockMap,
     objects: ClockMap,
+    seen: ClockMap,
+    fenced: ClockMap,
 }
 
 impl Clocks {
@@ -38,6 +40,8 @@ impl Clocks {
             ended: BTreeMap::new(alloc),
             mutexes: BTreeMap::new(alloc),
             objects: BTreeMap::new(alloc),
+            seen: BTreeMap::new(alloc),
+            fenced: BTreeMap::new(alloc),
         })
     }
 
@@ -86,6 +90,8 @@ impl Clocks {
             ClockOwner::Ended(thread) => add_in(&self.ended, u32::from(thread), past),
             ClockOwner::Mutex(mutex) => add_in(&self.mutexes, mutex, past),
             ClockOwner::Object(object) => add_in(&self.objects, object, past),
+            ClockOwner::Seen(thread) => add_in(&self.seen, u32::from(thread), past),
+            ClockOwner::Fenced(thread) => add_in(&self.fenced, u32::from(thread), past),
         }
     }
 
@@ -107,6 +113,8 @@ impl Clocks {
             ClockOwner::Ended(thread) => join_in(alloc, &mut self.ended, u32::from(thread), past),
             ClockOwner::Mutex(mutex) => join_in(alloc, &mut self.mutexes, mutex, past),
             ClockOwner::Object(object) => join_in(alloc, &mut self.objects, object, past),
+            ClockOwner::Seen(thread) => join_in(alloc, &mut self.seen, u32::from(thread), past),
+            ClockOwner::Fenced(thread) => join_in(alloc, &mut self.fenced, u32::from(thread), past),
         }
     }
 }

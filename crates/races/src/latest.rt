@@ -19,7 +19,8 @@ pub(crate) struct Latest {
 }
 
 impl Latest {
-    /// Whether it races with an access of now: another thread's, one of both a store, and not in the past of the other.
+    /// Whether it races with an access of now: another thread's, one of both a store, one of both not atomic, and not in the past of
+    /// the other.
     #[inline(always)]
     pub(crate) fn is_hit(&self, access: &Access, clocks: &Clocks) -> bool
         ensures { IsTrue result ↔ IsHit (time_of clocks.now.threads.clocks.items access.now.site.thread) self.now access.now }
@@ -28,6 +29,7 @@ impl Latest {
         let other = access.site.thread;
         own != other
             && (self.site.is_store || access.site.is_store)
+            && !(self.site.is_atomic && access.site.is_atomic)
             && clocks.time(other, own) <= self.step
     }
 

@@ -1,4 +1,5 @@
 //! The events of a run, as a recorder is told them.
+use crate::hint_event::HintEvent;
 use crate::site::Access;
 
 /// An event of a run.
@@ -82,4 +83,20 @@ pub enum ObservedEvent {
         /// How many they are.
         length: u32,
     },
+    /// A hint: where in the program a library was called. It goes for the later hints of the thread, up to the next such event.
+    Caller {
+        /// The thread.
+        thread: u8,
+        /// The place: an address in the program.
+        pc: u32,
+    },
+    /// A hint: how many bytes the thread's next hint `Dead`, `AtomicLoad` or `AtomicStore` is about.
+    Length {
+        /// The thread.
+        thread: u8,
+        /// How many they are.
+        length: u32,
+    },
+    /// A hint that names an object.
+    Hint(HintEvent),
 }

@@ -7,7 +7,7 @@ use crate::block::{BLOCK_WORDS, Block};
 use crate::byte_set::ByteSet;
 use crate::clocks::Clocks;
 use crate::fresh::Fresh;
-use crate::hint::Hint;
+use crate::guess::Guess;
 use crate::kept_access::KeptAccess;
 use crate::latest::Latest;
 use crate::race_map::RaceMap;
@@ -31,7 +31,7 @@ pub(crate) struct PageHistory {
     /// The accesses that are kept of all words.
     entries: Vec<KeptAccess>,
     /// Of each word where its next access is probably kept.
-    hints: Vec<Hint>,
+    guesses: Vec<Guess>,
     /// The threads of each block of words.
     blocks: Vec<Block>,
     ghost sized: { vec_len firsts ≢ 0 → vec_len firsts ≡ 4096 },
@@ -56,7 +56,7 @@ impl PageHistory {
         PageHistory {
             firsts: Vec::new(alloc),
             entries: Vec::new(alloc),
-            hints: Vec::new(alloc),
+            guesses: Vec::new(alloc),
             blocks: Vec::new(alloc),
         }
     }
@@ -100,7 +100,7 @@ impl PageHistory {
     {
         self.reach(alloc)?;
         self.take(place, &own);
-        match self.hinted(place, &own) {
+        match self.guessed(place, &own) {
             Spot::At(index) => {
                 self.replace(index, own);
                 Ok(())
@@ -159,19 +159,19 @@ impl PageHistory {
         }
     }
 
-    /// Where an access of the word at a place is to be kept, by its hint if that is right.
-    fn hinted(&self, place: usize, own: &Latest) -> Spot
+    /// Where an access of the word at a place is to be kept, by its guess if that is right.
+    fn guessed(&self, place: usize, own: &Latest) -> Spot
         ensures { IsSpot self.now.firsts.items self.now.entries.items place 0 own.now result }
     {
-        let hint = self.hint(place);
-        if let Some(index) = self.alike_at(hint.next, place, own) {
+        let guess = self.guess(place);
+        if let Some(index) = self.alike_at(guess.next, place, own) {
             return Spot::At(index);
         }
-        if let Some(index) = self.alike_at(hint.begin, place, own) {
+        if let Some(index) = self.alike_at(guess.begin, place, own) {
             return Spot::At(index);
         }
-        if !hint.may_have(own.site, own.bytes)
-            && let Some(index) = self.index_of(hint.last, place)
+        if !guess.may_have(own.site, own.bytes)
+            && let Some(index) = self.index_of(guess.last, place)
             && self.entries[index].next == 0
         {
             return Spot::After(index);
@@ -204,19 +204,19 @@ impl PageHistory {
     }
 
     /// Where the next access of the word at a place is probably kept.
-    fn hint(&self, place: usize) -> Hint {
-        match self.hints.get(place) {
-            Some(hint) => *hint,
-            None => Hint::new(),
+    fn guess(&self, place: usize) -> Guess {
+        match self.guesses.get(place) {
+            Some(guess) => *guess,
+            None => Guess::new(),
         }
     }
 
-    /// Keeps the hint of the word at a place.
-    fn set_hint(&mut self, place: usize, hint: Hint)
+    /// Keeps the guess of the word at a place.
+    fn set_guess(&mut self, place: usize, guess: Guess)
         ensures { self.new.entries.items ≡ self.old.entries.items }
     {
-        if place < self.hints.len() {
-            self.hints[place] = hint;
+        if place < self.guesses.len() {
+            self.guesses[place] = guess;
         }
     }
 
@@ -245,11 +245,11 @@ impl PageHistory {
         ensures same { self.new.entries.items ≡ self.old.entries.items }
     {
         if self.firsts.is_empty() {
-            let hints = vec![in alloc; Hint::new(); PAGE_WORDS]?;
+            let guesses = vec![in alloc; Guess::new(); PAGE_WORDS]?;
             let blocks = vec![in alloc; Block::new(); PAGE_WORDS / BLOCK_WORDS]?;
             let firsts = vec![in alloc; 0; PAGE_WORDS]?;
             self.blocks = blocks;
-            self.hints = hints;
+            self.guesses = guesses;
             self.firsts = firsts;
         }
         Ok(())
@@ -264,10 +264,10 @@ impl PageHistory {
         let KeptAccess { place, next, .. } = self.entries[index];
         self.entries[index].latest = own;
         let place = place as usize;
-        let hint = self.hint(place);
-        self.set_hint(
+        let guess = self.guess(place);
+        self.set_guess(
             place,
-            hint.replaced(own.site, own.bytes, number_of(index), next),
+            guess.replaced(own.site, own.bytes, number_of(index), next),
         );
     }
 
@@ -286,8 +286,8 @@ impl PageHistory {
         })?;
         self.entries[index].next = number;
         let place = place as usize;
-        let hint = self.hint(place);
-        self.set_hint(place, hint.pushed(own.site, own.bytes, number));
+        let guess = self.guess(place);
+        self.set_guess(place, guess.pushed(own.site, own.bytes, number));
         Ok(())
     }
 
@@ -306,8 +306,8 @@ impl PageHistory {
             next: 0,
         })?;
         self.firsts[place] = number;
-        let hint = self.hint(place);
-        self.set_hint(place, hint.pushed(own.site, own.bytes, number));
+        let guess = self.guess(place);
+        self.set_guess(place, guess.pushed(own.site, own.bytes, number));
         Ok(())
     }
 

@@ -1,6 +1,7 @@
 //! An access that was told lately.
 ghost use Rattle.std.specs.Prelude.{◌≡◌, IsTrue, Contains, List};
 ghost use Rattle.races.specs.Recent.{IsSlotOf, IsWithin};
+ghost use Rattle.races.specs.Steps.{IsSameInTurn};
 ghost use Rattle.races.specs.declared.recent_access.RecentAccess.{RecentAccess as Told};
 
 use crate::byte_set::ByteSet;
@@ -25,9 +26,11 @@ impl RecentAccess {
             access: Access {
                 site: Site {
                     turn: 0,
+                    instruction: 0,
                     pc: 0,
                     thread: 0,
                     is_store: false,
+                    is_atomic: false,
                 },
                 word: 0,
                 bytes: ByteSet {
@@ -45,9 +48,9 @@ impl RecentAccess {
     #[inline(always)]
     fn is_alike(&self, access: &Access) -> bool
         ensures word { IsTrue result → self.now.access.word ≡ access.now.word }
-        ensures site { IsTrue result → self.now.access.site ≡ access.now.site }
+        ensures site { IsTrue result → IsSameInTurn self.now.access.site access.now.site }
     {
-        self.access.word == access.word && self.access.site.is_exactly(access.site)
+        self.access.word == access.word && self.access.site.is_same_in_turn(access.site)
     }
 
     /// Whether it is of the word and the instruction of an access, in its turn, with just its bytes.

@@ -1,21 +1,28 @@
 //! The recorder of races: it is told a run's events one after another, and says where they race.
 ghost use Rattle.std.specs.Prelude.{◌≡◌, List, [], ◌∷◌, ◌++◌, IfOk, IsFalse, IsTrue, OnOk, OnErr, true, false, map};
 ghost use Rattle.races.specs.Races.{AreRaces};
-ghost use Rattle.races.specs.Recording.{Records, RecordsMore, RecordsOrBreaks, Takes, depth_of};
-ghost use Rattle.races.specs.Steps.{both_outside, meeting, outside, passing, steps_in, taking, threads_outside};
-ghost use Rattle.races.specs.Steps.Step.{Touch};
+ghost use Rattle.races.specs.Recording.{Records, RecordsMore, RecordsOrBreaks, Takes, depth_of, said_of};
+ghost use Rattle.races.specs.Steps.{atomic, both_outside, meeting, outside, passing, steps_in, steps_of_hint, taking, threads_outside};
+ghost use Rattle.races.specs.Steps.Step.{Order, Touch};
 ghost use Rattle.races.specs.declared.observed_event.ObservedEvent.{ObservedEvent as RunEvent};
 ghost use Rattle.races.specs.declared.observed_event.ObservedEvent.TheVariants.{Access as Accessed};
 ghost use Rattle.races.specs.declared.clock_owner.ClockOwner.TheVariants.{Thread};
 
+use crate::callers::Callers;
 use crate::clock_owner::ClockOwner;
 use crate::depths::Depths;
+use crate::hint_event::HintEvent;
+use crate::hint_kind::HintKind;
+use crate::lengths::Lengths;
 use crate::observed_event::ObservedEvent;
 use crate::ordered_race::OrderedRace;
 use crate::race::Race;
-use crate::site::Access;
+use crate::site::{Access, Site};
 use crate::steps::Steps;
 use std::alloc::{AllocError, Global};
+
+/// An atomic access has so many bytes at most.
+const MOST_ATOMIC_BYTES: u32 = 8;
 
 /// Is told the events of a run in the order of its turns, and finds the races.
 ///
@@ -27,6 +34,10 @@ pub struct RaceRecorder {
     alloc: Global,
     /// How many library regions each thread is in.
     depths: Depths,
+    /// From where each thread called a library.
+    callers: Callers,
+    /// How many bytes each thread's next hint is about.
+    lengths: Lengths,
     /// What is kept of the steps.
     steps: Steps,
     /// Whether an event could not be recorded.
@@ -45,6 +56,8 @@ impl RaceRecorder {
         Ok(RaceRecorder {
             alloc,
             depths: Depths::new(alloc)?,
+            callers: Callers::new(alloc)?,
+            lengths: Lengths::new(alloc)?,
             steps: Steps::new(alloc)?,
             is_broken: false,
         })
@@ -188,6 +201,15 @@ impl RaceRecorder {
                 Ok(())
             }
             ObservedEvent::Fresh { address, length } => self.steps.renew(*address, *length),
+            ObservedEvent::Caller { thread, pc } => {
+                self.callers.set(*thread, *pc);
+                Ok(())
+            }
+            ObservedEvent::Length { thread, length } => {
+                self.lengths.set(*thread, *length);
+                Ok(())
+            }
+            ObservedEvent::Hint(hint) => self.hint(hint),
         }
     }
 
@@ -200,6 +222,62 @@ impl RaceRecorder {
         } else {
             Ok(())
         }
+    }
+
+    /// A hint that names an object.
+    fn hint(&mut self, hint: &HintEvent) -> Result<(), AllocError>
+        ensures { Takes self.old (steps_of_hint (said_of self.old) hint.now.site hint.now.object hint.now.kind) self.new result }
+    {
+        let thread = hint.site.thread;
+        let object = ClockOwner::Object(hint.object);
+        match hint.kind {
+            HintKind::AtomicLoad => self.atomic(hint, false),
+            HintKind::AtomicStore => self.atomic(hint, true),
+            HintKind::SeenAcquire => self.bring(object, ClockOwner::Seen(thread)),
+            HintKind::FenceRelease => self.pass(thread, ClockOwner::Fenced(thread)),
+            HintKind::FenceAcquire => self.take(thread, ClockOwner::Seen(thread)),
+            HintKind::RelaxedRelease => self.bring(ClockOwner::Fenced(thread), object),
+            HintKind::Begin
+            | HintKind::Dead
+            | HintKind::Lock
+            | HintKind::Share
+            | HintKind::TryLock
+            | HintKind::TryShare
+            | HintKind::Unlock
+            | HintKind::UnlockOfAnothers
+            | HintKind::UnlockOfFree
+            | HintKind::EndWithLock
+            | HintKind::DestroyOfHeld
+            | HintKind::DestroyOfWaited
+            | HintKind::WaitWithoutLock
+            | HintKind::WaitWithAnother
+            | HintKind::TakenTwice
+            | HintKind::WriteByReader => Ok(()),
+        }
+    }
+
+    /// An atomic access of an object.
+    fn atomic(&mut self, hint: &HintEvent, is_store: bool) -> Result<(), AllocError>
+        ensures { Takes self.old (atomic (said_of self.old) hint.now.site hint.now.object is_store) self.new result }
+    {
+        let thread = hint.site.thread;
+        let site = Site {
+            turn: hint.site.turn,
+            instruction: hint.site.instruction,
+            pc: self.callers.of(thread).unwrap_or(hint.site.pc),
+            thread,
+            is_store,
+            is_atomic: true,
+        };
+        let length = self.lengths.of(thread).min(MOST_ATOMIC_BYTES);
+        self.steps.touch_range(site, hint.object, length)
+    }
+
+    /// What one place has passes on to another, and nothing of a thread.
+    fn bring(&mut self, from: ClockOwner, to: ClockOwner) -> Result<(), AllocError>
+        ensures { Takes self.old (Order (from ∷ []) (to ∷ []) ∷ []) self.new result }
+    {
+        self.steps.order(&[from], &[to])
     }
 
     /// A thread passes its past on to a place.

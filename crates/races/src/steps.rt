@@ -3,6 +3,7 @@ ghost use Rattle.std.specs.Prelude.{◌≡◌, ◌+◌, ◌-◌, ◌^◌, ◌<�
 ghost use Rattle.std.specs.Ordering.{nat_cmp};
 ghost use Rattle.std.specs.BTreeMap.{IsOrdered};
 ghost use Rattle.races.specs.Recording.{Adds, KnowsSteps};
+ghost use Rattle.races.specs.Steps.{touches, touching};
 ghost use Rattle.races.specs.Steps.Step.{Touch, Order, Renew};
 ghost use Rattle.races.specs.Words.{told_of};
 
@@ -11,7 +12,7 @@ use crate::clocks::Clocks;
 use crate::fresh::Fresh;
 use crate::ordered_race::OrderedRace;
 use crate::recent::Recent;
-use crate::site::Access;
+use crate::site::{Access, Site};
 use crate::words::Words;
 use std::alloc::{AllocError, Global};
 
@@ -70,6 +71,31 @@ impl Steps {
         self.recent.note(access, self.count);
         self.count = more;
         Ok(())
+    }
+
+    /// An access of so many bytes from an address on, in the first three words.
+    pub(crate) fn touch_range(
+        &mut self,
+        site: Site,
+        address: u32,
+        length: u32,
+    ) -> Result<(), AllocError>
+        ensures { OnOk result (Adds self.old (touches site address length) self.new) }
+    {
+        let word = address / 4;
+        self.touch_some(&Access::of_range(site, word, address, length))?;
+        self.touch_some(&Access::of_range(site, word + 1, address, length))?;
+        self.touch_some(&Access::of_range(site, word + 2, address, length))
+    }
+
+    /// An access, if it has a byte.
+    fn touch_some(&mut self, access: &Access) -> Result<(), AllocError>
+        ensures { OnOk result (Adds self.old (touching access.now) self.new) }
+    {
+        if access.bytes.is_empty() {
+            return Ok(());
+        }
+        self.touch(access)
     }
 
     /// An event that takes over the pasts of some places and passes its own on to others.

@@ -1,35 +1,56 @@
-//! The text of races: a line for each, with the names that a symbol table has for its places.
+//! The text of findings: a line for each, with the names that a symbol table has for its places.
 ghost use Rattle.std.specs.Prelude.{◌≡◌, ◌++◌, IfOk, OnOk, codes, decimal, if◌then◌else◌, option_map};
 ghost use Rattle.std.specs.String.{string_bytes};
 ghost use Rattle.symbols.specs.Covering.{told};
-ghost use Rattle.races.specs.Texts.{bytes_text, left_text, name_text, names_text, place_text, race_text, site_text, text_of};
+ghost use Rattle.races.specs.FindingTexts.{finding_text, text_of};
+ghost use Rattle.races.specs.Texts.{bytes_text, left_text, names_text, place_text, race_text, site_text};
 
+use crate::finding::Finding;
+use crate::freed_text::write_freed;
+use crate::misuse_text::write_misuse;
+use crate::order_text::write_order;
+use crate::place_text::{write_number, write_symbol};
 use crate::race::Race;
 use crate::site::Site;
-use itoa::Buffer;
 use std::alloc::{AllocError, Global};
 use symbols::{SymbolOffset, Symbols};
 use text_output::write_hexadecimal;
 
-/// As many races have a line.
+/// As many findings have a line.
 pub const MOST_LINES: usize = 10_000;
 
-/// The text of races: a line for each of the first [`MOST_LINES`], and one that says how many were left out, if any were. An object
+/// The text of findings: a line for each of the first [`MOST_LINES`], and one that says how many were left out, if any were. An object
 /// that covers a race's lowest byte and the functions that cover its instructions are named.
 ///
 /// # Errors
 ///
 /// Only out of memory.
-pub fn races_text(alloc: Global, races: &[Race], symbols: &Symbols) -> Result<String, AllocError>
-    ensures { IfOk result (λ text. string_bytes text ≡ text_of symbols.now races.now) }
+pub fn findings_text(
+    alloc: Global,
+    findings: &[Finding],
+    symbols: &Symbols,
+) -> Result<String, AllocError>
+    ensures { IfOk result (λ text. string_bytes text ≡ text_of symbols.now findings.now) }
 {
-    let (shown, left) = races.split_at(races.len().min(MOST_LINES));
+    let (shown, left) = findings.split_at(findings.len().min(MOST_LINES));
     let mut text = String::new(alloc);
-    for race in shown {
-        write_race(&mut text, race, symbols)?;
+    for finding in shown {
+        write_finding(&mut text, finding, symbols)?;
     }
     write_left(&mut text, left.len())?;
     Ok(text)
+}
+
+/// Appends the line of a finding.
+fn write_finding(text: &mut String, finding: &Finding, symbols: &Symbols) -> Result<(), AllocError>
+    ensures { OnOk result (string_bytes text.new ≡ string_bytes text.old ++ finding_text symbols.now finding.now) }
+{
+    match finding {
+        Finding::Race(race) => write_race(text, race, symbols),
+        Finding::Freed(freed) => write_freed(text, freed, symbols),
+        Finding::Order(fault) => write_order(text, fault, symbols),
+        Finding::Misuse(misuse) => write_misuse(text, misuse, symbols),
+    }
 }
 
 /// Appends how many lines were left out, if any were.
@@ -40,11 +61,11 @@ fn write_left(text: &mut String, count: usize) -> Result<(), AllocError>
     if count == 0 {
         return Ok(());
     }
-    write_count(text, "left out=", count as u64)?;
+    write_number(text, "left out=", count as u64)?;
     text.push_str("\n")
 }
 
-/// Appends the line of a race, as `race address=00016038 bytes=4 store thread=1 turn=15 pc=00010188 store thread=2 turn=17
+/// Appends the line of a race, as `race address=00016038 bytes=4 store thread=1 turn=15+8 pc=00010188 store thread=2 turn=17+8
 /// pc=00010188 object=counter+0 in=add+20 in=add+20`.
 #[tactic(auto, unfolding(crate::specs::Texts::race_text))]
 fn write_race(text: &mut String, race: &Race, symbols: &Symbols) -> Result<(), AllocError>
@@ -69,7 +90,7 @@ fn write_names(text: &mut String, race: &Race, symbols: &Symbols) -> Result<(), 
 
 /// Appends a place after the name of its field, if there is one.
 #[tactic(auto, unfolding(crate::specs::Texts::place_text))]
-fn write_place(
+pub(crate) fn write_place(
     text: &mut String,
     field: &str,
     place: Option<SymbolOffset<'_>>,
@@ -79,26 +100,11 @@ fn write_place(
     match place {
         Some(place) => {
             text.push_str(field)?;
-            write_name(text, place.name)?;
-            write_count(text, "+", u64::from(place.offset))
+            write_symbol(text, place.name)?;
+            write_number(text, "+", u64::from(place.offset))
         }
         None => Ok(()),
     }
-}
-
-/// Appends a symbol's name. A byte that is no ASCII becomes a question mark.
-#[tactic(auto, unfolding(crate::specs::Texts::name_text))]
-fn write_name(text: &mut String, name: &[u8]) -> Result<(), AllocError>
-    ensures { OnOk result (string_bytes text.new ≡ string_bytes text.old ++ name_text name.now) }
-{
-    for byte in name {
-        if *byte < 128 {
-            text.push(*byte as char)?;
-        } else {
-            text.push('?')?;
-        }
-    }
-    Ok(())
 }
 
 /// Appends which bytes race, as `race address=00016038 bytes=4`.
@@ -109,17 +115,18 @@ fn write_bytes(text: &mut String, race: &Race) -> Result<(), AllocError>
     let (address, size) = (race.address(), u64::from(race.size()));
     text.push_str("race address=")?;
     write_hexadecimal(text, 8, address)?;
-    write_count(text, " bytes=", size)
+    write_number(text, " bytes=", size)
 }
 
-/// Appends an access, as ` store thread=1 turn=15 pc=00010188`.
+/// Appends an access, as ` store thread=1 turn=15+8 pc=00010188`.
 #[tactic(auto, unfolding(crate::specs::Texts::site_text))]
-fn write_site(text: &mut String, site: Site) -> Result<(), AllocError>
+pub(crate) fn write_site(text: &mut String, site: Site) -> Result<(), AllocError>
     ensures { OnOk result (string_bytes text.new ≡ string_bytes text.old ++ site_text site) }
 {
     text.push_str(kind_of(site))?;
-    write_count(text, " thread=", u64::from(site.thread))?;
-    write_count(text, " turn=", site.turn)?;
+    write_number(text, " thread=", u64::from(site.thread))?;
+    write_number(text, " turn=", site.turn)?;
+    write_number(text, "+", site.instruction)?;
     text.push_str(" pc=")?;
     write_hexadecimal(text, 8, site.pc)
 }
@@ -129,12 +136,4 @@ fn kind_of(site: Site) -> &'static str
     ensures { result.now ≡ (if site.is_store then codes " store" else codes " load") }
 {
     if site.is_store { " store" } else { " load" }
-}
-
-/// Appends a count after its name.
-fn write_count(text: &mut String, name: &str, count: u64) -> Result<(), AllocError>
-    ensures { OnOk result (string_bytes text.new ≡ string_bytes text.old ++ name.now ++ decimal count) }
-{
-    text.push_str(name)?;
-    text.push_str(Buffer::new().format(count))
 }

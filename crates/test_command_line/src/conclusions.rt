@@ -70,7 +70,11 @@ static FAILURES: [(Failure<'static>, u8, &str); 9] = [
         123,
         "elf refused: 20 BadEntry\n",
     ),
-    (Failure::InputTooLarge, 124, "input too large\n"),
+    (
+        Failure::InputTooLarge,
+        124,
+        "input too large: over 16777216 bytes\n",
+    ),
     (
         Failure::CannotRead(Target::Path("a b")),
         124,

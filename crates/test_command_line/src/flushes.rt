@@ -34,8 +34,8 @@ static RECORDED: [&str; 15] = [
     "timeline",
     "--report",
     "report",
-    "--races",
-    "races",
+    "--check",
+    "findings",
     "--core",
     "core",
     "--digest",
@@ -77,12 +77,13 @@ fn replay(schedule: &'static str) -> Row {
 }
 
 /// The command lines.
-fn rows() -> [Row; 12] {
+fn rows() -> [Row; 13] {
     [
         lost(&["dthreads", "--help"], SEVEN),
         lost(&["dthreads", "run", "--help"], SEVEN),
         lost(&["dthreads", "--version"], SEVEN),
         lost(&["dthreads", "disasm", "a.elf"], SEVEN),
+        lost(&["dthreads", "info", "a.elf"], SEVEN),
         lost(&["dthreads", "debug", "a.elf"], SEVEN),
         replay("draw 0\nstep 0\nstep 0\nstep 0\npost 0\nturn\n"),
         replay("turn\n"),

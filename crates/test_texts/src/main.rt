@@ -1,11 +1,13 @@
 //! Writes texts of runs and of what numbers draw: `stdout` has what they must be.
 //!
-//! With no arguments it writes the timelines of runs whose turns are written by hand; a line for each row of races and of symbols,
-//! `NAME: ok` or what it gave, with one for random histories of each kind and one for random files; and what numbers draw.
+//! With no arguments it writes the timelines of runs whose turns are written by hand; a line for each row of races, locks, dead bytes
+//! and symbols, `NAME: ok` or what it gave, with one for random histories of each kind and one for random files; and what numbers draw.
 //! `test_texts random N [SEED]` looks at N random histories of one turn from the seed, `test_texts files N [SEED]` at N random
 //! files, and `test_texts names FILE FIRST COUNT` prints what COUNT addresses of a file from FIRST on are called, a line for each.
 #![tactic(auto)]
 
+mod of_freed;
+mod of_locks;
 mod of_races;
 mod of_shuffles;
 mod of_symbols;
@@ -43,6 +45,8 @@ fn show_some<R: AllocGlobal + Print>(rt: &R, action: &str, count: &str, seed: &s
 fn show_all(rt: &HostRuntime) -> Result<()> {
     of_timelines::show_rows(rt)?;
     of_races::show_all(rt)?;
+    of_locks::show_all(rt)?;
+    of_freed::show_all(rt)?;
     of_symbols::show_all(rt)?;
     of_shuffles::show_shuffles(rt)
 }

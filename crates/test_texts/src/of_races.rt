@@ -1,5 +1,6 @@
 //! What a recorder of races says of histories: of rows whose races are known, and of random ones, which a plain detector looks at too.
 
+mod atomic;
 mod dice;
 mod histories;
 mod literal;

@@ -12,6 +12,7 @@ mod row;
 mod rows;
 
 use anyhow::Result;
+pub use file::{Written, file_of};
 pub use names::show_names;
 pub use random::show_random;
 

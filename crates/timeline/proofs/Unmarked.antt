@@ -53,7 +53,7 @@ no_breakpoint (breakpoint ∷ breakpoints) pc is =
 
 unmarked_address : (places : Places) (pc : ℕ) → any_marked (is_fetch_marked places) 4 pc ≡ false → is_breakpoint places.breakpoints pc ≡ false
 unfolding any_marked is_fetch_marked
-unmarked_address places pc is = no_breakpoint places.breakpoints pc (first_false _ _ is)
+unmarked_address places pc is = no_breakpoint places.breakpoints pc (other_false _ _ (first_false _ _ is))
 
 -- watched ranges
 
@@ -101,19 +101,19 @@ none_first passes place [] is = refl
 none_first passes place (watch ∷ watches) is =
     rw (first_false (passes watch) (list_any passes watches) is) (none_first passes (place + 1) watches (other_false (passes watch) (list_any passes watches) is))
 
-unseen_load : (places : Places) (address width : ℕ) → any_marked (is_load_marked places) width address ≡ false
+unseen_load : (places : Places) (address width : ℕ) → any_marked (is_load_marked places.watches) width address ≡ false
     → access_event places.watches (Some (record { address = address; width = width; is_store = false })) ≡ None
 unfolding is_load_marked
 unseen_load places address width is =
     let access : MemoryAccess = record { address = address; width = width; is_store = false } in
-    ap (option_map Watched) (none_first (is_seen access) 0 places.watches (unseen looks_for_loads places.watches access (λ k within. each_unmarked (is_load_marked places) width address k is within)))
+    ap (option_map Watched) (none_first (is_seen access) 0 places.watches (unseen looks_for_loads places.watches access (λ k within. each_unmarked (is_load_marked places.watches) width address k is within)))
 
-unseen_store : (places : Places) (address width : ℕ) → any_marked (is_store_marked places) width address ≡ false
+unseen_store : (places : Places) (address width : ℕ) → any_marked (is_store_marked places.watches) width address ≡ false
     → access_event places.watches (Some (record { address = address; width = width; is_store = true })) ≡ None
 unfolding is_store_marked
 unseen_store places address width is =
     let access : MemoryAccess = record { address = address; width = width; is_store = true } in
-    ap (option_map Watched) (none_first (is_seen access) 0 places.watches (unseen looks_for_stores places.watches access (λ k within. each_unmarked (is_store_marked places) width address k is within)))
+    ap (option_map Watched) (none_first (is_seen access) 0 places.watches (unseen looks_for_stores places.watches access (λ k within. each_unmarked (is_store_marked places.watches) width address k is within)))
 
 -- an instruction that goes on
 
@@ -141,10 +141,10 @@ load_by true true number value is = absurd (cc)
 load_by true false number value is = refl
 load_by false is_marked number value is = absurd (cc)
 
-unmarked_load : (places : Places) (memory : Memory) (count address value : ℕ) → loaded count (marked places memory) address ≡ Ok value → any_marked (is_load_marked places) count address ≡ false
+unmarked_load : (places : Places) (memory : Memory) (count address value : ℕ) → loaded count (marked places memory) address ≡ Ok value → any_marked (is_load_marked places.watches) count address ≡ false
 unfolding loaded
 unmarked_load places memory count address value is =
-    load_by (address % count == 0) (any_marked (is_load_marked places) count address) (number_at (permitted (λ perm. perm.read) memory) count address) value
+    load_by (address % count == 0) (any_marked (is_load_marked places.watches) count address) (number_at (permitted (λ perm. perm.read) memory) count address) value
     (sym (marked_load places memory count address) ∙ is)
 
 store_by : (places : Places) (aligned is_marked there : Bool) (wanted memory : Memory)
@@ -153,10 +153,10 @@ store_by places true true there wanted memory is = absurd (cc)
 store_by places true false there wanted memory is = refl
 store_by places false is_marked there wanted memory is = absurd (cc)
 
-unmarked_store : (places : Places) (memory new : Memory) (count address number : ℕ) → stored count (marked places memory) address number ≡ Ok new → any_marked (is_store_marked places) count address ≡ false
+unmarked_store : (places : Places) (memory new : Memory) (count address number : ℕ) → stored count (marked places memory) address number ≡ Ok new → any_marked (is_store_marked places.watches) count address ≡ false
 unfolding stored
 unmarked_store places memory new count address number is =
-    store_by places (address % count == 0) (any_marked (is_store_marked places) count address) (is_some (number_at (permitted (λ perm. perm.write) memory) count address))
+    store_by places (address % count == 0) (any_marked (is_store_marked places.watches) count address) (is_some (number_at (permitted (λ perm. perm.write) memory) count address))
     (with_number count memory address number) new (sym (marked_store places memory count address number) ∙ is)
 
 -- the load or store of an instruction that goes on is of no watched range
@@ -228,7 +228,7 @@ goes_on places hart memory is =
     }
 
 abbrev pub places_in : Wanted → Places
-places_in wanted = record { breakpoints = wanted.breakpoints; watches = wanted.watches }
+places_in wanted = record { breakpoints = wanted.breakpoints; watches = wanted.watches; fence = None }
 
 -- A motion doesn't halt at an instruction that isn't marked and isn't waited for, and that is no call.
 pub unmarked_is_quiet : (wanted : Wanted) (thread : ℕ) (hart : HartState) (memory : Memory) → arrives wanted.arrival thread hart.pc ≡ false → IsUnmarked (places_in wanted) hart memory

@@ -1,12 +1,11 @@
 -- The watch events of calls: what a `read` stores, and what the commit of a turn joins.
-use Rattle.std.specs.Prelude.{ℕ, zero, suc, ◌+◌, ◌*◌, ◌^◌, ◌==◌, ◌&&◌, ◌||◌, Bool, true, false, not, nat_lt, min, if◌then◌else◌, Option, Some, None, option_map, option_and_then, List}
+use Rattle.std.specs.Prelude.{ℕ, zero, suc, ◌+◌, ◌^◌, ◌==◌, ◌&&◌, ◌||◌, Bool, true, false, not, nat_lt, min, if◌then◌else◌, Option, Some, None, option_map, option_and_then, List}
 use Rattle.std.specs.List.{list_any}
 use Rattle.abi.specs.Calls.{touched_in}
 use Rattle.abi.specs.declared.call.Call.{Call}
 use Rattle.abi.specs.declared.touched.Touched.{Touched}
 use Rattle.abi.specs.declared.touched.Touched.TheVariants.{Nothing, Loads, Stores}
 use Rattle.ecalls.specs.Request.{call_of}
-use Rattle.guest_memory.specs.Layout.{page_of, page_size}
 use Rattle.guest_memory.specs.Memory.{Memory}
 use Rattle.hart.specs.HartState.{register}
 use Rattle.hart.specs.declared.memory_access.MemoryAccess.{MemoryAccess}
@@ -77,16 +76,20 @@ agree one other address = is_same (option_map (λ cell. cell.byte) (one address)
 abbrev pub is_behind : Joint → ℕ → Bool
 is_behind joint address = agree joint.own joint.base address && not (agree joint.own joint.shared address)
 
--- whether a memory has another byte than the one that it began as, in an address's page
-abbrev pub has_changed_page_of : Memory → Memory → ℕ → Bool
-has_changed_page_of own base address = any_below (λ offset. not (agree own base (page_of address * page_size + offset))) page_size
+-- whether a test holds of one of a range's addresses: at most 4,096 of them are looked at
+abbrev pub holds_at : (ℕ → Bool) → ℕ → Bool
+holds_at test address = nat_lt address (2 ^ 32) && test address
 
-abbrev pub joins_at : Joint → ℕ → Bool
-joins_at joint address = nat_lt address (2 ^ 32) && is_behind joint address && has_changed_page_of joint.own joint.base address
+abbrev pub any_in : (ℕ → Bool) → Watch → Bool
+any_in test watch = any_below (λ offset. holds_at test (watch.start + offset)) (min watch.len 4096)
 
--- whether the commit makes of a range something else than the thread has itself: at most 4,096 of its bytes are looked at
+-- whether the thread has changed a byte
+abbrev pub has_changed : Joint → ℕ → Bool
+has_changed joint address = not (agree joint.own joint.base address)
+
+-- whether the commit makes of a range that the thread has changed something else than the thread has itself
 abbrev pub joins : Joint → Watch → Bool
-joins joint watch = looks_for_stores watch.kind && any_below (λ offset. joins_at joint (watch.start + offset)) (min watch.len 4096)
+joins joint watch = looks_for_stores watch.kind && any_in (has_changed joint) watch && any_in (is_behind joint) watch
 
 -- the event
 

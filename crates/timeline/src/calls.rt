@@ -107,30 +107,56 @@ impl Present {
         Ok(count_in(after.row(thread)))
     }
 
-    /// Whether the commit of a thread makes of a range something else than the thread has itself: it has changed a page of
+    /// Whether the commit of a thread makes of a range something else than the thread has itself: it has changed a byte of
     /// it, and others changed other bytes of it.
     fn joins(&self, underway: &PresentSegment, watch: &Watch) -> bool
         ensures { result ≡ calls.joins (joint_in self.now underway.now) watch.now }
     {
-        if !watch.looks_for_stores() {
-            return false;
-        }
+        watch.looks_for_stores()
+            && self.changes_in(underway, watch)
+            && self.is_behind_in(underway, watch)
+    }
+
+    /// Whether a thread has changed a byte of a range.
+    fn changes_in(&self, underway: &PresentSegment, watch: &Watch) -> bool
+        ensures { result ≡ calls.any_in (calls.has_changed (joint_in self.now underway.now)) watch.now }
+    {
         for offset in 0..watch.len.min(JOIN_LIMIT) {
-            if self.joins_at(underway, watch.start, offset) {
+            if self.has_changed_at(underway, watch.start, offset) {
                 return true;
             }
         }
         false
     }
 
-    /// Whether it does so of the byte at an offset.
-    fn joins_at(&self, underway: &PresentSegment, start: u32, offset: u32) -> bool
-        ensures { result ≡ calls.joins_at (joint_in self.now underway.now) (start + offset) }
+    /// Whether a thread has changed the byte at an offset.
+    fn has_changed_at(&self, underway: &PresentSegment, start: u32, offset: u32) -> bool
+        ensures { result ≡ calls.holds_at (calls.has_changed (joint_in self.now underway.now)) (start + offset) }
     {
         match start.checked_add(offset) {
-            Some(address) => {
-                self.is_behind(underway, address) && underway.has_changed_page_of(address)
+            Some(address) => !underway.agrees_with(&underway.base, address),
+            None => false,
+        }
+    }
+
+    /// Whether others have changed a byte of a range that a thread hasn't.
+    fn is_behind_in(&self, underway: &PresentSegment, watch: &Watch) -> bool
+        ensures { result ≡ calls.any_in (calls.is_behind (joint_in self.now underway.now)) watch.now }
+    {
+        for offset in 0..watch.len.min(JOIN_LIMIT) {
+            if self.is_behind_at(underway, watch.start, offset) {
+                return true;
             }
+        }
+        false
+    }
+
+    /// Whether others have changed the byte at an offset that a thread hasn't.
+    fn is_behind_at(&self, underway: &PresentSegment, start: u32, offset: u32) -> bool
+        ensures { result ≡ calls.holds_at (calls.is_behind (joint_in self.now underway.now)) (start + offset) }
+    {
+        match start.checked_add(offset) {
+            Some(address) => self.is_behind(underway, address),
             None => false,
         }
     }

@@ -15,9 +15,6 @@ use std::mem;
 use token::{SegmentEnd, Work};
 use twins::View;
 
-/// How many instructions are executed one by one before the code is marked. That takes as long as hundreds of them, and longer with more code.
-const ALONE: u64 = 64;
-
 /// A segment that has begun and isn't over.
 #[derive(Drop)]
 pub(crate) struct PresentSegment {
@@ -197,7 +194,7 @@ impl PresentSegment {
                 SegmentOutcome::Stays => {}
                 other => return Ok(other),
             }
-            self.skip_after(from, stops, until)?;
+            self.skip_others(stops, until)?;
         }
         Ok(SegmentOutcome::Stays)
     }
@@ -210,13 +207,12 @@ impl PresentSegment {
         !stops.watches.is_empty() && self.is_at_call()
     }
 
-    /// Does as [`PresentSegment::skip`] once some instructions were executed one by one, if none is waited for.
-    fn skip_after(&mut self, from: u64, stops: &Stops<'_>, until: u64) -> Result<(), AllocError>
-        requires can { CanSkip self.old until }
-        requires since { from ≤ self.old.done }
+    /// Does as [`PresentSegment::skip`] if none of its instructions is waited for.
+    fn skip_others(&mut self, stops: &Stops<'_>, until: u64) -> Result<(), AllocError>
+        requires { CanSkip self.old until }
         ensures { OnOk result (IsSkippedStill (halts.wanted_by stops.now) self.old until self.new) }
     {
-        if self.done - from < ALONE || stops.waits_for(self.work.thread) {
+        if stops.waits_for(self.work.thread) {
             return Ok(());
         }
         self.skip(stops, until)
@@ -235,14 +231,8 @@ impl PresentSegment {
         let most = self.room(until);
         let spare = View::open(self.under.try_clone()?);
         let view = mem::replace(&mut self.view, spare);
-        let ran = run_to_mark(
-            self.under.allocator(),
-            self.under.code(),
-            &mut self.hart,
-            view,
-            stops.marks(),
-            most,
-        )?;
+        let code = self.under.code();
+        let ran = run_to_mark(code, &mut self.hart, view, stops.marks(), most)?;
         self.view = ran.view;
         self.done += ran.count;
         Ok(())
@@ -327,19 +317,6 @@ impl PresentSegment {
         ensures { result ≡ halts.is_call (halts.next_instr self.now.hart (views.cells_of self.now.view)) }
     {
         matches!(self.next_instruction(), Some(Instr::Ecall))
-    }
-
-    /// Whether the thread has changed a byte of an address's page.
-    pub(crate) fn has_changed_page_of(&self, address: u32) -> bool
-        ensures { result ≡ calls.has_changed_page_of (views.cells_of self.now.view) (snapshots.cells_of self.now.base) address }
-    {
-        let first = address / PAGE_SIZE * PAGE_SIZE;
-        for offset in 0..PAGE_SIZE {
-            if !self.agrees_with(&self.base, first + offset) {
-                return true;
-            }
-        }
-        false
     }
 
     /// Whether the thread and a memory have the same byte at an address, or none.

@@ -11,9 +11,6 @@ use crate::stops::Stops;
 use std::alloc::AllocError;
 use token::TurnFault;
 
-/// After how many instructions without a halt the code is marked. That takes as long as hundreds of them, and longer with more code.
-const QUIET: u32 = 4096;
-
 /// A halt, and the step at which it stands.
 #[derive(Clone, Copy)]
 pub struct FoundHalt {
@@ -32,19 +29,10 @@ impl Present {
         ensures { IfOk result (Finds (wanted_by stops.now) self.old until) }
     {
         let mut last = None;
-        let mut quiet = 0u32;
         while self.step_number() < until {
             let found = self.pass(stops, until)?;
-            quiet = if found.is_some() {
-                0
-            } else {
-                quiet.saturating_add(1)
-            };
             last = found.or(last);
-            if quiet == QUIET {
-                self.skip(stops, until)?;
-                quiet = 0;
-            }
+            self.skip(stops, until)?;
         }
         Ok(last)
     }

@@ -100,17 +100,17 @@ extern "C" {
 #define DTHREADS_BOOL _Bool
 #endif
 
-void dthreads_atomic_load(__SIZE_TYPE__, const volatile void *, void *);
-void dthreads_atomic_store(__SIZE_TYPE__, volatile void *, const void *);
-void dthreads_atomic_exchange(__SIZE_TYPE__, volatile void *, const void *, void *);
-DTHREADS_BOOL dthreads_atomic_compare_exchange(__SIZE_TYPE__, volatile void *, void *, const void *);
-DTHREADS_BOOL dthreads_atomic_compare_exchange_weak(__SIZE_TYPE__, volatile void *, void *, const void *);
-DTHREADS_BOOL dthreads_atomic_test_and_set(volatile void *);
-void dthreads_atomic_fence(void);
+void dthreads_atomic_load(__SIZE_TYPE__, const volatile void *, void *, int);
+void dthreads_atomic_store(__SIZE_TYPE__, volatile void *, const void *, int);
+void dthreads_atomic_exchange(__SIZE_TYPE__, volatile void *, const void *, void *, int);
+DTHREADS_BOOL dthreads_atomic_compare_exchange(__SIZE_TYPE__, volatile void *, void *, const void *, int, int);
+DTHREADS_BOOL dthreads_atomic_compare_exchange_weak(__SIZE_TYPE__, volatile void *, void *, const void *, int, int);
+DTHREADS_BOOL dthreads_atomic_test_and_set(volatile void *, int);
+void dthreads_atomic_fence(int);
 
 #define DTHREADS_DECLARE(name) \
-    __UINT64_TYPE__ dthreads_atomic_fetch_##name(__SIZE_TYPE__, volatile void *, __UINT64_TYPE__); \
-    __UINT64_TYPE__ dthreads_atomic_##name##_fetch(__SIZE_TYPE__, volatile void *, __UINT64_TYPE__);
+    __UINT64_TYPE__ dthreads_atomic_fetch_##name(__SIZE_TYPE__, volatile void *, __UINT64_TYPE__, int); \
+    __UINT64_TYPE__ dthreads_atomic_##name##_fetch(__SIZE_TYPE__, volatile void *, __UINT64_TYPE__, int);
 DTHREADS_DECLARE(add)
 DTHREADS_DECLARE(sub)
 DTHREADS_DECLARE(and)
@@ -133,15 +133,14 @@ template <typename T> struct dthreads_plain<const volatile T> { typedef T type; 
 #ifndef DTHREADS_LIBRARY
 
 #define __atomic_load(object, result, order) \
-    ((void)(order), dthreads_atomic_load(sizeof *(object), (object), (void *)(result)))
+    dthreads_atomic_load(sizeof *(object), (object), (void *)(result), (int)(order))
 #define __atomic_store(object, value, order) \
-    ((void)(order), dthreads_atomic_store(sizeof *(object), (object), (const void *)(value)))
+    dthreads_atomic_store(sizeof *(object), (object), (const void *)(value), (int)(order))
 #define __atomic_exchange(object, value, result, order) \
-    ((void)(order), dthreads_atomic_exchange(sizeof *(object), (object), (const void *)(value), (void *)(result)))
+    dthreads_atomic_exchange(sizeof *(object), (object), (const void *)(value), (void *)(result), (int)(order))
 #define __atomic_compare_exchange(object, expected, desired, weak, success, failure) \
-    ((void)(success), (void)(failure), \
-     ((weak) ? dthreads_atomic_compare_exchange_weak : dthreads_atomic_compare_exchange)( \
-         sizeof *(object), (object), (void *)(expected), (const void *)(desired)))
+    ((weak) ? dthreads_atomic_compare_exchange_weak : dthreads_atomic_compare_exchange)( \
+        sizeof *(object), (object), (void *)(expected), (const void *)(desired), (int)(success), (int)(failure))
 
 #define __atomic_load_n(object, order) __extension__({ \
         DTHREADS_PLAIN(object) dthreads_result; \
@@ -164,8 +163,8 @@ template <typename T> struct dthreads_plain<const volatile T> { typedef T type; 
 
 #define DTHREADS_CHANGE(name, object, value, order) __extension__({ \
         DTHREADS_PLAIN(object) dthreads_result; \
-        (void)(order); \
-        dthreads_result = (DTHREADS_PLAIN(object))dthreads_atomic_##name(sizeof *(object), (object), (__UINT64_TYPE__)(value)); \
+        dthreads_result = (DTHREADS_PLAIN(object))dthreads_atomic_##name( \
+            sizeof *(object), (object), (__UINT64_TYPE__)(value), (int)(order)); \
         dthreads_result; \
     })
 
@@ -182,18 +181,17 @@ template <typename T> struct dthreads_plain<const volatile T> { typedef T type; 
 #define __atomic_xor_fetch(object, value, order) DTHREADS_CHANGE(xor_fetch, object, value, order)
 #define __atomic_nand_fetch(object, value, order) DTHREADS_CHANGE(nand_fetch, object, value, order)
 
-#define __atomic_test_and_set(object, order) ((void)(order), dthreads_atomic_test_and_set(object))
+#define __atomic_test_and_set(object, order) dthreads_atomic_test_and_set(object, (int)(order))
 #define __atomic_clear(object, order) __extension__({ \
         unsigned char dthreads_value = 0; \
-        (void)(order); \
-        dthreads_atomic_store(1, (object), &dthreads_value); \
+        dthreads_atomic_store(1, (object), &dthreads_value, (int)(order)); \
     })
-#define __atomic_thread_fence(order) ((void)(order), dthreads_atomic_fence())
+#define __atomic_thread_fence(order) dthreads_atomic_fence((int)(order))
 #define __atomic_signal_fence(order) ((void)(order), __extension__({ __asm__ volatile("" ::: "memory"); }))
-#define __sync_synchronize() dthreads_atomic_fence()
+#define __sync_synchronize() dthreads_atomic_fence(__ATOMIC_SEQ_CST)
 #define __sync_lock_release(object, ...) __extension__({ \
         DTHREADS_PLAIN(object) dthreads_value = 0; \
-        dthreads_atomic_store(sizeof *(object), (object), &dthreads_value); \
+        dthreads_atomic_store(sizeof *(object), (object), &dthreads_value, __ATOMIC_RELEASE); \
     })
 
 #endif

@@ -69,6 +69,7 @@ static int finish(bool is_done, int code)
 int munmap(void *address, size_t length)
 {
     bool is_range = (uintptr_t)address % DTHREADS_PAGE == 0 && length > 0;
+    hint_called();
     return finish(is_range && heap_unmap(address, pages_of(length)), EINVAL);
 }
 
@@ -93,6 +94,7 @@ void *mremap(void *address, size_t length, size_t wanted, int flags, ...)
         return refuse(EINVAL);
     if (wanted > (size_t)DTHREADS_HEAP_PAGES * DTHREADS_PAGE || (pages > old && !(flags & MREMAP_MAYMOVE)))
         return refuse(ENOMEM);
+    hint_called();
     if (pages > old)
         return move(address, old, pages);
     if (pages < old && !heap_unmap((char *)address + (size_t)pages * DTHREADS_PAGE, old - pages))

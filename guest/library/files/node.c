@@ -2,9 +2,11 @@
 #include <stdlib.h>
 #include "files.h"
 
+/* (most programs end in the first second, and nothing is divided for them) */
 struct timespec file_time(void)
 {
-    return (struct timespec){.tv_sec = (time_t)(monitor.clock / SECOND) + dthreads_epoch, .tv_nsec = (long)(monitor.clock % SECOND)};
+    uint64_t seconds = monitor.clock < SECOND ? 0 : monitor.clock / SECOND;
+    return (struct timespec){.tv_sec = (time_t)seconds + dthreads_epoch, .tv_nsec = (long)(monitor.clock - seconds * SECOND)};
 }
 
 struct node *node_make(enum kind kind, mode_t mode)

@@ -68,12 +68,10 @@ int __cxa_guard_acquire(struct guard *guard)
     return is_first;
 }
 
-/* The compiler's own test of a guard is a plain access of an atomic object. */
 static void guard_end(struct guard *guard, bool is_made)
 {
     monitor_enter();
     dthreads_hint_release(guard);
-    dthreads_hint_release(ALL_OPERATIONS);
     guard->is_made = is_made;
     guard->is_begun = is_made;
     monitor_wake_all(&guards);

@@ -16,6 +16,8 @@ enum {
     LEAST_GROWTH = 16,
     /* Bytes that a thread takes or gives back at a time. */
     BATCH_BYTES = 4096,
+    /* The untouched blocks that a lone thread takes at a time: it needs no turn for others. */
+    FEW = 8,
     /* A freed block of so many pages goes back to the machine, as long as less than a quarter of the heap was given. */
     RELEASED_PAGES = 64,
     /* What a page belongs to, beside the small sizes 1 to SIZES. */
@@ -40,6 +42,12 @@ struct list {
     uint32_t count;
 };
 
+/* The lowest blocks of fresh pages, which nobody has touched. */
+struct fresh {
+    char *pages;
+    uint32_t count;
+};
+
 /* Free pages side by side; runs lie in the order of their addresses. */
 struct run {
     struct run *next;
@@ -48,6 +56,7 @@ struct run {
 
 static __thread struct list cache[SIZES];
 static struct list shared[SIZES];
+static struct fresh fresh[SIZES];
 static struct run *runs;
 /* Pages given so far. */
 static uint32_t given;
@@ -242,6 +251,7 @@ bool heap_unmap(void *address, uint32_t pages)
     bool is_range = is_mapped(first, pages);
     if (is_range) {
         memset(&page_size[first], 0, pages);
+        hint_dead(address, pages * DTHREADS_PAGE);
         pages_give(address, pages);
     }
     monitor_leave();
@@ -264,8 +274,8 @@ static uint32_t batch(uint32_t index)
     return count < 2 ? 2 : count;
 }
 
-/* Cuts fresh pages into blocks; false if out of memory. */
-static bool cut(uint32_t index)
+/* Takes pages for untouched blocks; false if out of memory. */
+static bool begin_pages(uint32_t index)
 {
     uint32_t pages = sizes[index] > 512 ? 2 : 1;
     char *address = pages_take(pages);
@@ -273,17 +283,28 @@ static bool cut(uint32_t index)
         return false;
     for (uint32_t i = 0; i < pages; i++)
         page_size[page_of(address) + i] = (uint8_t)(index + 1);
-    uint32_t count = pages * DTHREADS_PAGE / sizes[index];
-    for (uint32_t i = count; i > 0; i--)
-        push(&shared[index], (struct block *)(address + (size_t)(i - 1) * sizes[index]));
+    fresh[index] = (struct fresh){address, pages * DTHREADS_PAGE / sizes[index]};
     return true;
+}
+
+/* Links untouched blocks, the highest first. With a number they come before those of the list. */
+static void cut_some(uint32_t index, uint32_t count)
+{
+    for (; count > 0 && fresh[index].count > 0; count--) {
+        fresh[index].count--;
+        char *address = fresh[index].pages + (size_t)fresh[index].count * sizes[index];
+        (varies() ? push : append)(&cache[index], (struct block *)address);
+    }
 }
 
 static void refill(uint32_t index)
 {
+    uint32_t count = batch(index);
     monitor_enter();
-    if (shared[index].first || cut(index))
-        move_some(&shared[index], &cache[index], batch(index));
+    if (shared[index].first)
+        move_some(&shared[index], &cache[index], count);
+    else if (fresh[index].count > 0 || begin_pages(index))
+        cut_some(index, alone() && !varies() && count > FEW ? FEW : count);
     monitor_leave();
 }
 
@@ -303,7 +324,7 @@ static void *small(size_t size)
     return block;
 }
 
-/* The store to the block before, which another thread may have freed, is the library's own. */
+/* The store to the block before, which another thread may have freed, is the library's own. The block is dead once its link is stored. */
 static void small_free(void *address, uint32_t index)
 {
     struct list *list = &cache[index];
@@ -315,6 +336,7 @@ static void small_free(void *address, uint32_t index)
     } else {
         push(list, address);
     }
+    hint_dead(address, sizes[index]);
     if (list->count < 2 * batch(index))
         return;
     monitor_enter();
@@ -372,6 +394,7 @@ static void large_free(char *address)
     page_size[page] = 0;
     if (varies())
         memset(address, FREED, (size_t)large_pages[page] * DTHREADS_PAGE);
+    hint_dead(address, (uint32_t)large_pages[page] * DTHREADS_PAGE);
     pages_give(address, large_pages[page]);
     monitor_leave();
 }
@@ -397,15 +420,21 @@ static uint32_t kind_of(const void *address)
     abort();
 }
 
-void free(void *address)
+static inline void block_free(void *address)
 {
-    if (!address)
-        return;
     uint32_t kind = kind_of(address);
     if (kind == LARGE)
         large_free(address);
     else
         small_free(address, kind - 1);
+}
+
+void free(void *address)
+{
+    if (!address)
+        return;
+    hint_called();
+    block_free(address);
 }
 
 size_t malloc_usable_size(void *address)
@@ -429,7 +458,7 @@ void *calloc(size_t count, size_t size)
     return address;
 }
 
-void *realloc(void *address, size_t size)
+void *heap_resize(void *address, size_t size)
 {
     size_t old = malloc_usable_size(address);
     if (address && size <= old && size >= old / 2)
@@ -439,9 +468,15 @@ void *realloc(void *address, size_t size)
         return NULL;
     if (address) {
         memcpy(fresh, address, old < size ? old : size);
-        free(address);
+        block_free(address);
     }
     return fresh;
+}
+
+void *realloc(void *address, size_t size)
+{
+    hint_called();
+    return heap_resize(address, size);
 }
 
 void *reallocarray(void *address, size_t count, size_t size)
@@ -451,7 +486,8 @@ void *reallocarray(void *address, size_t count, size_t size)
         errno = ENOMEM;
         return NULL;
     }
-    return realloc(address, all);
+    hint_called();
+    return heap_resize(address, all);
 }
 
 /* A small block of a power of two lies at a multiple of its size, and a large one at a multiple of a page. */

@@ -4,6 +4,7 @@
 #include <stdarg.h>
 #include <stdlib.h>
 #include <string.h>
+#include <sys/auxv.h>
 #include <sys/prctl.h>
 #include <sys/random.h>
 #include <sys/syscall.h>
@@ -14,6 +15,7 @@
 #pragma weak gettid
 #pragma weak tgkill
 #pragma weak getcpu
+#pragma weak getauxval
 #pragma weak prctl
 #pragma weak syscall
 #pragma weak clearenv
@@ -46,6 +48,28 @@ int getcpu(unsigned *processor, unsigned *node)
     if (node)
         *node = 0;
     return 0;
+}
+
+/* Of what Linux tells a program at its start, the pages' size, the ticks of a second, and that it is root's. */
+unsigned long getauxval(unsigned long kind)
+{
+    switch (kind) {
+    case AT_PAGESZ:
+        return DTHREADS_PAGE;
+    case AT_CLKTCK:
+        return (unsigned long)sysconf(_SC_CLK_TCK);
+    case AT_UID:
+    case AT_EUID:
+    case AT_GID:
+    case AT_EGID:
+    case AT_HWCAP:
+    case AT_HWCAP2:
+    case AT_SECURE:
+        return 0;
+    default:
+        errno = ENOENT;
+        return 0;
+    }
 }
 
 static int set_name(const char *text)

@@ -36,12 +36,17 @@ int pthread_barrier_init(pthread_barrier_t *barrier, const pthread_barrierattr_t
 
 int pthread_barrier_destroy(pthread_barrier_t *barrier)
 {
-    return barrier->arrived ? EBUSY : 0;
+    if (!barrier->arrived)
+        return 0;
+    hint_called();
+    hint_object(HINT_DESTROY_OF_WAITED, barrier);
+    return EBUSY;
 }
 
 int pthread_barrier_wait(pthread_barrier_t *barrier)
 {
     bool is_last, wakes_others;
+    hint_called_on(barrier);
     monitor_enter();
     const char *round = round_of(barrier);
     dthreads_hint_release(round);

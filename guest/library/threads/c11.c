@@ -2,6 +2,7 @@
 #include <threads.h>
 #include <stdlib.h>
 #include <stdint.h>
+#include "monitor.h"
 
 static int result_of(int code)
 {
@@ -20,24 +21,24 @@ static int result_of(int code)
     }
 }
 
-struct beginning {
+struct thread_start {
     thrd_start_t start;
     void *argument;
 };
 
 static void *begin(void *place)
 {
-    struct beginning beginning = *(struct beginning *)place;
+    struct thread_start beginning = *(struct thread_start *)place;
     free(place);
-    return (void *)(intptr_t)beginning.start(beginning.argument);
+    thread_leave((const void *)(uintptr_t)beginning.start, (void *)(intptr_t)beginning.start(beginning.argument));
 }
 
 int thrd_create(thrd_t *thread, thrd_start_t start, void *argument)
 {
-    struct beginning *beginning = malloc(sizeof *beginning);
+    struct thread_start *beginning = malloc(sizeof *beginning);
     if (!beginning)
         return thrd_nomem;
-    *beginning = (struct beginning){start, argument};
+    *beginning = (struct thread_start){start, argument};
     int code = pthread_create(thread, NULL, begin, beginning);
     if (code != 0)
         free(beginning);
@@ -70,7 +71,7 @@ int thrd_equal(thrd_t one, thrd_t other)
 
 void thrd_exit(int result)
 {
-    pthread_exit((void *)(intptr_t)result);
+    thread_leave(CALL_PLACE, (void *)(intptr_t)result);
 }
 
 int thrd_sleep(const struct timespec *time, struct timespec *rest)
@@ -96,22 +97,26 @@ void mtx_destroy(mtx_t *mutex)
 
 int mtx_lock(mtx_t *mutex)
 {
-    return result_of(pthread_mutex_lock(mutex));
+    hint_called_on(mutex);
+    return result_of(mutex_lock(mutex));
 }
 
 int mtx_timedlock(mtx_t *restrict mutex, const struct timespec *restrict time)
 {
-    return result_of(pthread_mutex_timedlock(mutex, time));
+    hint_called_on(mutex);
+    return result_of(mutex_lock_by_clock(mutex, CLOCK_REALTIME, time));
 }
 
 int mtx_trylock(mtx_t *mutex)
 {
-    return result_of(pthread_mutex_trylock(mutex));
+    hint_called_on(mutex);
+    return result_of(mutex_try(mutex));
 }
 
 int mtx_unlock(mtx_t *mutex)
 {
-    return result_of(pthread_mutex_unlock(mutex));
+    hint_called_on(mutex);
+    return result_of(mutex_unlock(mutex));
 }
 
 int cnd_init(cnd_t *condition)
@@ -136,12 +141,16 @@ int cnd_broadcast(cnd_t *condition)
 
 int cnd_wait(cnd_t *condition, mtx_t *mutex)
 {
-    return result_of(pthread_cond_wait(condition, mutex));
+    hint_called_on(condition);
+    look_at(mutex);
+    return result_of(condition_wait(condition, mutex));
 }
 
 int cnd_timedwait(cnd_t *restrict condition, mtx_t *restrict mutex, const struct timespec *restrict time)
 {
-    return result_of(pthread_cond_timedwait(condition, mutex, time));
+    hint_called_on(condition);
+    look_at(mutex);
+    return result_of(condition_wait_by_clock(condition, mutex, condition->clock, time));
 }
 
 int tss_create(tss_t *key, tss_dtor_t destructor)

@@ -5,7 +5,7 @@
 void cancel_here(enum wake wake)
 {
     if (wake == CANCELLED)
-        pthread_exit(PTHREAD_CANCELED);
+        thread_leave(NULL, PTHREAD_CANCELED);
 }
 
 bool cancel_is_due(void)
@@ -19,14 +19,14 @@ void cancel_point(void)
         return;
     signal_point();
     if (cancel_is_due())
-        pthread_exit(PTHREAD_CANCELED);
+        thread_leave(NULL, PTHREAD_CANCELED);
 }
 
 /* A thread of the asynchronous type goes no further once it was cancelled. */
 static void cancel_at_once(void)
 {
     if (own.cancels_at_once && cancel_is_due())
-        pthread_exit(PTHREAD_CANCELED);
+        thread_leave(NULL, PTHREAD_CANCELED);
 }
 
 int pthread_cancel(pthread_t name)
@@ -70,11 +70,12 @@ void pthread_testcancel(void)
 {
     if (own.cancel_disabled || own.ending)
         return;
+    hint_called();
     monitor_enter();
     bool is_cancelled = self()->cancelled;
     monitor_finish();
     if (is_cancelled)
-        pthread_exit(PTHREAD_CANCELED);
+        thread_leave(NULL, PTHREAD_CANCELED);
 }
 
 void dthreads_cleanup_push(struct dthreads_cleanup *cleanup)

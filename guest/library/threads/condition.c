@@ -9,7 +9,7 @@ static int mutex_retake(pthread_mutex_t *mutex, unsigned count)
         monitor_sleep(&mutex->waiters, NEVER, false);
     if (mutex->robust == NOT_RECOVERABLE)
         return ENOTRECOVERABLE;
-    mutex_acquire(mutex);
+    mutex_acquire(mutex, HINT_LOCK);
     mutex->count = count;
     return mutex_code(mutex);
 }
@@ -25,11 +25,15 @@ static enum wake wait_for_nothing(void)
 static enum wake wait_here(pthread_cond_t *condition, pthread_mutex_t *mutex, uint64_t deadline, int *code)
 {
     unsigned count = mutex->count;
+    const struct dthreads_thread *other = condition->waiters.first;
+    if (other && other->waits_with != mutex)
+        hint_object(HINT_WAIT_WITH_ANOTHER, condition);
+    self()->waits_with = mutex;
     mutex_release(mutex);
     bool is_spurious = varies() && !cancel_is_due() && vary_one_in(SPURIOUS_WAITS);
     enum wake wake = is_spurious ? wait_for_nothing() : monitor_sleep_lightly(&condition->waiters, deadline, true);
     if (wake == WOKEN)
-        dthreads_hint_acquire(&self()->wake);
+        dthreads_hint_acquire(moment_of(self(), SIGNALLED));
     *code = mutex_retake(mutex, count);
     return wake;
 }
@@ -38,6 +42,7 @@ static int wait_until(pthread_cond_t *condition, pthread_mutex_t *mutex, uint64_
 {
     monitor_enter();
     if (mutex->owner != self()) {
+        hint_object(HINT_WAIT_WITHOUT_LOCK, condition);
         monitor_leave();
         return EPERM;
     }
@@ -48,12 +53,19 @@ static int wait_until(pthread_cond_t *condition, pthread_mutex_t *mutex, uint64_
     return code ? code : wake == TIMED_OUT ? ETIMEDOUT : 0;
 }
 
-int pthread_cond_wait(pthread_cond_t *condition, pthread_mutex_t *mutex)
+int condition_wait(pthread_cond_t *condition, pthread_mutex_t *mutex)
 {
     return wait_until(condition, mutex, NEVER);
 }
 
-int pthread_cond_clockwait(pthread_cond_t *condition, pthread_mutex_t *mutex, clockid_t clock, const struct timespec *time)
+int pthread_cond_wait(pthread_cond_t *condition, pthread_mutex_t *mutex)
+{
+    hint_called_on(condition);
+    look_at(mutex);
+    return wait_until(condition, mutex, NEVER);
+}
+
+int condition_wait_by_clock(pthread_cond_t *condition, pthread_mutex_t *mutex, clockid_t clock, const struct timespec *time)
 {
     uint64_t deadline;
     if (!deadline_of(clock, time, &deadline))
@@ -61,26 +73,37 @@ int pthread_cond_clockwait(pthread_cond_t *condition, pthread_mutex_t *mutex, cl
     return wait_until(condition, mutex, deadline);
 }
 
+int pthread_cond_clockwait(pthread_cond_t *condition, pthread_mutex_t *mutex, clockid_t clock, const struct timespec *time)
+{
+    hint_called_on(condition);
+    look_at(mutex);
+    return condition_wait_by_clock(condition, mutex, clock, time);
+}
+
 int pthread_cond_timedwait(pthread_cond_t *condition, pthread_mutex_t *mutex, const struct timespec *time)
 {
-    return pthread_cond_clockwait(condition, mutex, condition->clock, time);
+    hint_called_on(condition);
+    look_at(mutex);
+    return condition_wait_by_clock(condition, mutex, condition->clock, time);
 }
 
 int pthread_cond_signal(pthread_cond_t *condition)
 {
+    look_at(condition);
     monitor_enter();
     struct dthreads_thread *woken = monitor_wake_next(&condition->waiters);
     if (woken)
-        dthreads_hint_release(&woken->wake);
+        dthreads_hint_release(moment_of(woken, SIGNALLED));
     monitor_finish();
     return 0;
 }
 
 int pthread_cond_broadcast(pthread_cond_t *condition)
 {
+    look_at(condition);
     monitor_enter();
     for (struct dthreads_thread *each = condition->waiters.first; each; each = each->next)
-        dthreads_hint_release(&each->wake);
+        dthreads_hint_release(moment_of(each, SIGNALLED));
     monitor_wake_all(&condition->waiters);
     monitor_finish();
     return 0;
@@ -96,7 +119,11 @@ int pthread_cond_init(pthread_cond_t *condition, const pthread_condattr_t *attri
 
 int pthread_cond_destroy(pthread_cond_t *condition)
 {
-    return condition->waiters.first ? EBUSY : 0;
+    if (!condition->waiters.first)
+        return 0;
+    hint_called();
+    hint_object(HINT_DESTROY_OF_WAITED, condition);
+    return EBUSY;
 }
 
 int pthread_condattr_init(pthread_condattr_t *attributes)

@@ -27,7 +27,7 @@ static void take(struct __lock *lock)
 {
     lock->owner = self();
     if (lock->count++ == 0)
-        own.held++;
+        lock_hold(NULL);
 }
 
 void __retarget_lock_acquire_recursive(struct __lock *lock)
@@ -56,7 +56,7 @@ void __retarget_lock_release_recursive(struct __lock *lock)
 {
     monitor_enter();
     if (--lock->count == 0) {
-        own.held--;
+        lock_drop(&own, NULL);
         lock->owner = monitor_wake_first(&lock->waiters);
     }
     monitor_leave();

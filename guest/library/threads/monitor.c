@@ -1,7 +1,10 @@
 /* The monitor's data, the list of those that wait to go on, and leaving it. */
+#include <sys/single_threaded.h>
 #include "monitor.h"
+#include "plain_access.h"
 
 struct monitor monitor;
+char __libc_single_threaded = 1;
 struct dthreads_thread threads[DTHREADS_THREADS];
 __thread struct own own;
 
@@ -106,13 +109,15 @@ static __attribute__((noinline, cold)) void leave_with_mutex(void)
     hint_leave();
 }
 
+/* Whether it may: with a mutex, of a run with a number. */
+static inline bool may_leave_with_mutex(void)
+{
+    return own.held > 0 && varies();
+}
+
 /* Ends an operation. */
 static inline void leave(void)
 {
-    if (own.held > 0 && varies()) {
-        leave_with_mutex();
-        return;
-    }
     if (own.held == 0)
         leave_machine();
     hint_leave();
@@ -122,13 +127,35 @@ void monitor_leave(void)
 {
     if (--own.depth > 0)
         return;
-    leave();
+    if (may_leave_with_mutex())
+        leave_with_mutex();
+    else
+        leave();
 }
 
+static __attribute__((noinline)) void deliver_here(void)
+{
+    signal_point();
+}
+
+static __attribute__((noinline, cold)) void finish_with_mutex(void)
+{
+    leave_with_mutex();
+    signal_point();
+}
+
+/* Its calls are the last things that it does, so it needs no frame. */
 void monitor_finish(void)
 {
-    monitor_leave();
-    signal_point();
+    if (--own.depth == 0) {
+        if (may_leave_with_mutex()) {
+            finish_with_mutex();
+            return;
+        }
+        leave();
+    }
+    if (signals_deliver)
+        deliver_here();
 }
 
 void monitor_hold(void)
@@ -230,8 +257,8 @@ void monitor_wake_all(struct dthreads_queue *queue)
         conditions |= UINT64_C(1) << queue->first->condition;
         mark(queue->first, WOKEN);
     }
-    for (uint32_t i = 0; i < OWN_CONDITIONS + CROWD_CONDITIONS; i++)
-        if (conditions >> i & 1)
+    for (uint32_t i = 0; conditions; i++, conditions >>= 1)
+        if (conditions & 1)
             ring(i);
 }
 
@@ -406,36 +433,73 @@ enum wake monitor_sleep_in_crowd(struct dthreads_queue *queue, uint32_t crowd)
     return handled(thread->wake);
 }
 
-/* The access between two fences is no data of the library's. Its object isn't known, so it is ordered with all atomic objects. */
-static void fence_hints(void)
+void locks_mend(struct own *holder, const void *lock, uint32_t last)
 {
-    dthreads_hint_acquire(ALL_OPERATIONS);
-    dthreads_hint_acquire(ALL_ACCESSES);
-    dthreads_hint_release(ALL_ACCESSES);
+    for (uint32_t i = 0; i < last; i++)
+        if (holder->locks[i] == lock) {
+            holder->locks[i] = holder->locks[last];
+            return;
+        }
 }
 
-/* Compilers bracket each plain access of an atomic object by two fences: the first enters the monitor, the second leaves it.
- * After a lone fence the thread stays until its next call of the library. */
-void dthreads_fence(void)
+/* What a plain access of an atomic object orders: it is sequentially consistent. The access itself is done by the program's own code, up
+ * to the second fence, and this stands for it. */
+static void access_hints(const struct plain_access *access)
 {
-    if (own.depth > 0)
-        return;
+    hint_caller(access->place);
+    hint_word(HINT_LENGTH, access->size);
+    if (access->is_store) {
+        hint_object(HINT_ATOMIC_STORE, access->object);
+        dthreads_hint_release(access->object);
+    } else {
+        dthreads_hint_acquire(access->object);
+        hint_object(HINT_ATOMIC_LOAD, access->object);
+    }
+}
+
+/* A fence on its own: the thread stays until its next call of the library. */
+static void lone_fence(void)
+{
     if (own.by_fence) {
         hint_enter();
         own.by_fence = false;
-        fence_hints();
-        leave();
-        return;
+    } else {
+        monitor_enter();
+        own.depth--;
+        own.by_fence = true;
     }
-    monitor_enter();
-    own.depth--;
-    own.by_fence = true;
-    fence_hints();
-    hint_leave();
+    hint_word(HINT_FENCE_ACQUIRE, 0);
+    hint_word(HINT_FENCE_RELEASE, 0);
+    if (own.by_fence)
+        hint_leave();
+    else
+        leave();
+}
+
+/* Compilers bracket each plain access of an atomic object by two fences: the first enters the monitor, the second leaves it. `registers`
+ * are those of the program, and in the place of x0 the address to which the fence returns. */
+void dthreads_fence(const uint32_t *registers)
+{
+    struct plain_access access;
+    if (own.depth > 0)
+        return;
+    if (own.in_access) {
+        own.in_access = false;
+        leave();
+    } else if (plain_access_find(registers, &access)) {
+        monitor_enter();
+        own.depth--;
+        own.in_access = true;
+        access_hints(&access);
+    } else {
+        lone_fence();
+    }
 }
 
 void dthreads_synchronise(void)
 {
+    hint_word(HINT_FENCE_ACQUIRE, 0);
+    hint_word(HINT_FENCE_RELEASE, 0);
     if (own.inside)
         monitor_breathe();
     else if (!alone())

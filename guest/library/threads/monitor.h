@@ -32,7 +32,9 @@ enum {
     /* Threads that begin together at most. */
     BATCH = 64,
     /* Bytes of a thread's name, with the zero at its end. */
-    NAME_SIZE = 16
+    NAME_SIZE = 16,
+    /* Locks of which a thread remembers that it holds them. */
+    KEPT_LOCKS = 16
 };
 
 #define NEVER UINT64_MAX
@@ -104,6 +106,8 @@ struct dthreads_thread {
     uint64_t awaited;
     /* The robust mutexes that it holds. */
     pthread_mutex_t *robust;
+    /* With which mutex it waits for a condition. */
+    const pthread_mutex_t *waits_with;
     /* How many threads had been created with it, and what vary_delay said. */
     uint32_t created;
     uint32_t delay;
@@ -125,12 +129,17 @@ struct own {
     bool inside;
     /* Whether the machine's mutex is held: a lone thread needs none. */
     bool locked;
+    /* It stays after a fence. */
     bool by_fence;
+    /* It is between two fences, of which the first has entered the monitor. */
+    bool in_access;
     bool cancel_disabled;
     /* Of the asynchronous type. */
     bool cancels_at_once;
     bool ending;
     struct dthreads_cleanup *cleanup;
+    /* The locks that it holds, at the place of how many it held before, and NULL elsewhere. */
+    const void *locks[KEPT_LOCKS];
 };
 
 struct monitor {
@@ -166,6 +175,42 @@ extern __thread struct own own;
 static inline struct dthreads_thread *self(void)
 {
     return own.thread;
+}
+
+/* What hints name beside the program's objects: a thread's start, its end, and the signals of conditions that it gets. These are no
+ * addresses, and others for each pthread_create. */
+enum moment {
+    START,
+    END,
+    SIGNALLED
+};
+
+static inline const void *moment_of(const struct dthreads_thread *thread, enum moment moment)
+{
+    return (const void *)(uintptr_t)(UINT32_C(0x80000000) | thread->created << 2 | moment);
+}
+
+/* Nobody acquires it any more. */
+static inline void moment_forget(const struct dthreads_thread *thread, enum moment moment)
+{
+    dthreads_hint_fresh(moment_of(thread, moment), 1);
+}
+
+/* This thread holds one more lock, or NULL for one that isn't the program's. */
+static inline void lock_hold(const void *lock)
+{
+    own.locks[own.held++ % KEPT_LOCKS] = lock;
+}
+
+/* Takes a lock that isn't the last one out of those that a thread holds. */
+void locks_mend(struct own *holder, const void *lock, uint32_t last);
+/* A thread holds a lock no longer. */
+static inline void lock_drop(struct own *holder, const void *lock)
+{
+    uint32_t last = --holder->held % KEPT_LOCKS;
+    if (holder->locks[last] != lock)
+        locks_mend(holder, lock, last);
+    holder->locks[last] = NULL;
 }
 
 /* True if no other thread can run. */
@@ -266,13 +311,21 @@ static inline void signal_point(void)
         signals_deliver();
 }
 
-void mutex_acquire(pthread_mutex_t *mutex);
+void mutex_acquire(pthread_mutex_t *mutex, enum hint hint);
 void mutex_release(pthread_mutex_t *mutex);
 /* Whether another thread has it, so that this one has to wait. */
 static inline bool mutex_is_kept(const pthread_mutex_t *mutex)
 {
     return mutex->owner && mutex->owner != self() && mutex->robust != NOT_RECOVERABLE;
 }
+
+/* What pthread.h has, for other functions that a program calls: these say the place in the program themselves. */
+int mutex_lock(pthread_mutex_t *mutex);
+int mutex_lock_by_clock(pthread_mutex_t *mutex, clockid_t clock, const struct timespec *time);
+int mutex_try(pthread_mutex_t *mutex);
+int mutex_unlock(pthread_mutex_t *mutex);
+int condition_wait(pthread_cond_t *condition, pthread_mutex_t *mutex);
+int condition_wait_by_clock(pthread_cond_t *condition, pthread_mutex_t *mutex, clockid_t clock, const struct timespec *time);
 
 /* What the new owner of a mutex learns of the one before: 0, or EOWNERDEAD. */
 int mutex_code(const pthread_mutex_t *mutex);
@@ -282,6 +335,8 @@ __attribute__((weak)) void robust_leave(struct dthreads_thread *thread);
 __attribute__((weak)) void robust_hold(pthread_mutex_t *mutex);
 __attribute__((weak)) void robust_drop(pthread_mutex_t *mutex);
 
+/* As realloc, within another call of the library: the place in the program stays that of the other. */
+void *heap_resize(void *address, size_t size);
 /* Gives this thread's cached blocks back. */
 void heap_flush(void);
 /* Pages for a stack and the like, or NULL; they are never given back. */
@@ -294,12 +349,14 @@ void *heap_map(uint32_t pages);
 bool heap_unmap(void *address, uint32_t pages);
 
 void keys_destroy_values(void);
-/* What a thread that ends remembers of its read locks. */
-__attribute__((weak)) void readings_drop(void);
+/* What a thread that ends, by a call from this place, remembers of its read locks. */
+__attribute__((weak)) void readings_drop(const void *caller);
 void output_flush(void);
 /* Gives away the streams that this thread keeps. */
 void streams_give(void);
 void thread_begin(void);
+/* Ends this thread: `caller` is the place in the program that says so, or NULL for the one of the last call of the library. */
+void thread_leave(const void *caller, void *value) __attribute__((noreturn));
 /* The living or ended thread of a name, or NULL. */
 struct dthreads_thread *thread_of(pthread_t name);
 
@@ -308,6 +365,6 @@ char *block_below(char *top);
 void tls_fill(char *block);
 /* Gives a thread the stack that its attributes name; false if out of memory. */
 bool stack_attach(struct dthreads_thread *thread, const pthread_attr_t *attributes);
-void stack_give(struct stack *stack);
+void stack_give(struct dthreads_thread *thread);
 
 #endif

@@ -1,4 +1,5 @@
 /* Threads of dthreads.h, which the library doesn't manage. */
+#include <sys/single_threaded.h>
 #include "monitor.h"
 
 void dthreads_plain_entry(void);
@@ -14,6 +15,7 @@ static void count_others(uint32_t change)
 {
     hint_enter();
     bool is_taken = !alone() && dthreads_lock(MONITOR_MUTEX) == DTHREADS_DONE;
+    __libc_single_threaded = 0;
     monitor.others += change;
     if (is_taken)
         dthreads_unlock(MONITOR_MUTEX);

@@ -26,8 +26,9 @@ void robust_leave(struct dthreads_thread *thread)
         pthread_mutex_t *mutex = thread->robust;
         thread->robust = mutex->next;
         dthreads_hint_release(mutex);
+        hint_object(HINT_UNLOCK, mutex);
         mutex->robust = OWNER_DEAD;
-        own.held--;
+        lock_drop(&own, mutex);
         mutex->owner = monitor_hand(&mutex->waiters);
     }
 }

@@ -39,7 +39,7 @@ static bool readings_grow(void)
     uint32_t room = readings.all ? readings.room : FEW;
     if (readings.length < room)
         return true;
-    struct reading *larger = realloc(readings.all, 2 * room * sizeof *larger);
+    struct reading *larger = heap_resize(readings.all, 2 * room * sizeof *larger);
     if (!larger)
         return false;
     if (!readings.all)
@@ -68,8 +68,13 @@ static void reading_end(struct reading *reading)
         *reading = all[--readings.length];
 }
 
-void readings_drop(void)
+void readings_drop(const void *caller)
 {
+    const struct reading *all = readings.all ? readings.all : readings.few;
+    if (caller && readings.length > 0)
+        hint_caller(caller);
+    for (uint32_t i = 0; i < readings.length; i++)
+        hint_object(HINT_END_WITH_LOCK, all[i].lock);
     free(readings.all);
     readings.all = NULL;
     readings.length = 0;
@@ -153,9 +158,15 @@ static int read_until(pthread_rwlock_t *lock, uint64_t deadline)
         code = EAGAIN;
     else if (!take(lock, false))
         code = wait_for_turn(lock, false, deadline);
+    if (code == EDEADLK && deadline == NEVER)
+        hint_object(HINT_TAKEN_TWICE, lock);
     if (code == 0) {
         reading_begin(lock);
         dthreads_hint_acquire(&lock->writer);
+        if (deadline > 0)
+            hint_object(HINT_SHARE, lock);
+        else
+            hint_object(HINT_TRY_SHARE, lock);
     }
     monitor_finish();
     return code;
@@ -165,14 +176,22 @@ static int write_until(pthread_rwlock_t *lock, uint64_t deadline)
 {
     monitor_enter();
     int code = 0;
+    if (deadline == NEVER && reading_of(lock))
+        hint_object(HINT_WRITE_BY_READER, lock);
     if (lock->writer == self())
         code = EDEADLK;
     else if (!take(lock, true))
         code = wait_for_turn(lock, true, deadline);
+    if (code == EDEADLK && deadline == NEVER)
+        hint_object(HINT_TAKEN_TWICE, lock);
     if (code == 0) {
-        own.held++;
+        lock_hold(lock);
         dthreads_hint_acquire(&lock->writer);
         dthreads_hint_acquire(&lock->readers);
+        if (deadline > 0)
+            hint_object(HINT_LOCK, lock);
+        else
+            hint_object(HINT_TRY_LOCK, lock);
     }
     monitor_finish();
     return code;
@@ -180,46 +199,64 @@ static int write_until(pthread_rwlock_t *lock, uint64_t deadline)
 
 int pthread_rwlock_rdlock(pthread_rwlock_t *lock)
 {
+    hint_called_on(lock);
     return read_until(lock, NEVER);
 }
 
 int pthread_rwlock_tryrdlock(pthread_rwlock_t *lock)
 {
+    hint_called_on(lock);
     int code = read_until(lock, 0);
     return code == 0 || code == EAGAIN ? code : EBUSY;
 }
 
-int pthread_rwlock_clockrdlock(pthread_rwlock_t *lock, clockid_t clock, const struct timespec *time)
+static int read_by_clock(pthread_rwlock_t *lock, clockid_t clock, const struct timespec *time)
 {
     uint64_t deadline;
     return deadline_of(clock, time, &deadline) ? read_until(lock, deadline) : EINVAL;
 }
 
+int pthread_rwlock_clockrdlock(pthread_rwlock_t *lock, clockid_t clock, const struct timespec *time)
+{
+    hint_called_on(lock);
+    return read_by_clock(lock, clock, time);
+}
+
 int pthread_rwlock_timedrdlock(pthread_rwlock_t *lock, const struct timespec *time)
 {
-    return pthread_rwlock_clockrdlock(lock, CLOCK_REALTIME, time);
+    hint_called_on(lock);
+    return read_by_clock(lock, CLOCK_REALTIME, time);
 }
 
 int pthread_rwlock_wrlock(pthread_rwlock_t *lock)
 {
+    hint_called_on(lock);
     return write_until(lock, NEVER);
 }
 
 int pthread_rwlock_trywrlock(pthread_rwlock_t *lock)
 {
+    hint_called_on(lock);
     int code = write_until(lock, 0);
     return code == 0 ? 0 : EBUSY;
 }
 
-int pthread_rwlock_clockwrlock(pthread_rwlock_t *lock, clockid_t clock, const struct timespec *time)
+static int write_by_clock(pthread_rwlock_t *lock, clockid_t clock, const struct timespec *time)
 {
     uint64_t deadline;
     return deadline_of(clock, time, &deadline) ? write_until(lock, deadline) : EINVAL;
 }
 
+int pthread_rwlock_clockwrlock(pthread_rwlock_t *lock, clockid_t clock, const struct timespec *time)
+{
+    hint_called_on(lock);
+    return write_by_clock(lock, clock, time);
+}
+
 int pthread_rwlock_timedwrlock(pthread_rwlock_t *lock, const struct timespec *time)
 {
-    return pthread_rwlock_clockwrlock(lock, CLOCK_REALTIME, time);
+    hint_called_on(lock);
+    return write_by_clock(lock, CLOCK_REALTIME, time);
 }
 
 int dthreads_rwlock_downgrade(pthread_rwlock_t *lock);
@@ -227,12 +264,15 @@ int dthreads_rwlock_downgrade(pthread_rwlock_t *lock);
 /* The writer reads on, and no other writer comes between: for Rust's library. */
 int dthreads_rwlock_downgrade(pthread_rwlock_t *lock)
 {
+    hint_called();
     monitor_enter();
     int code = lock->writer != self() ? EPERM : readings_grow() ? 0 : EAGAIN;
     if (code == 0) {
         dthreads_hint_release(&lock->writer);
+        hint_object(HINT_UNLOCK, lock);
+        hint_object(HINT_TRY_SHARE, lock);
         lock->writer = NULL;
-        own.held--;
+        lock_drop(&own, lock);
         lock->readers++;
         reading_begin(lock);
         hand_over(lock);
@@ -241,26 +281,38 @@ int dthreads_rwlock_downgrade(pthread_rwlock_t *lock)
     return code;
 }
 
-int pthread_rwlock_unlock(pthread_rwlock_t *lock)
+static int unlock(pthread_rwlock_t *lock)
 {
     int code = 0;
     monitor_enter();
     struct reading *reading = reading_of(lock);
     if (lock->writer == self()) {
         dthreads_hint_release(&lock->writer);
+        hint_object(HINT_UNLOCK, lock);
         lock->writer = NULL;
-        own.held--;
+        lock_drop(&own, lock);
     } else if (reading) {
         dthreads_hint_release(&lock->readers);
+        hint_object(HINT_UNLOCK, lock);
         lock->readers--;
         reading_end(reading);
     } else {
+        if (lock->writer || lock->readers)
+            hint_object(HINT_UNLOCK_OF_ANOTHERS, lock);
+        else
+            hint_object(HINT_UNLOCK_OF_FREE, lock);
         code = EPERM;
     }
     if (code == 0)
         hand_over(lock);
     monitor_finish();
     return code;
+}
+
+int pthread_rwlock_unlock(pthread_rwlock_t *lock)
+{
+    hint_called_on(lock);
+    return unlock(lock);
 }
 
 int pthread_rwlock_init(pthread_rwlock_t *lock, const pthread_rwlockattr_t *attributes)
@@ -275,8 +327,12 @@ int pthread_rwlock_init(pthread_rwlock_t *lock, const pthread_rwlockattr_t *attr
 int pthread_rwlock_destroy(pthread_rwlock_t *lock)
 {
     int code = 0;
+    if (!lock->writer && !lock->readers)
+        return 0;
+    hint_called();
+    hint_object(HINT_DESTROY_OF_HELD, lock);
     while ((lock->writer || lock->readers) && code == 0)
-        code = pthread_rwlock_unlock(lock);
+        code = lock->writer == self() || reading_of(lock) ? unlock(lock) : EBUSY;
     return code == 0 ? 0 : EBUSY;
 }
 

@@ -20,7 +20,11 @@ int sem_init(sem_t *semaphore, int shared, unsigned value)
 
 int sem_destroy(sem_t *semaphore)
 {
-    return semaphore->waiters.first ? refuse(EBUSY) : 0;
+    if (!semaphore->waiters.first)
+        return 0;
+    hint_called();
+    hint_object(HINT_DESTROY_OF_WAITED, semaphore);
+    return refuse(EBUSY);
 }
 
 /* Waits for a post unless there is one. Who was woken without getting it tries again. */
@@ -48,6 +52,7 @@ static enum wake take(sem_t *semaphore, uint64_t deadline)
 static int wait_until(sem_t *semaphore, uint64_t deadline)
 {
     enum wake wake;
+    look_at(semaphore);
     do
         wake = take(semaphore, deadline);
     while (wake == INTERRUPTED && signals_deliver());
@@ -74,6 +79,7 @@ int sem_timedwait(sem_t *semaphore, const struct timespec *time)
 
 int sem_trywait(sem_t *semaphore)
 {
+    look_at(semaphore);
     monitor_enter();
     bool is_free = semaphore->value > 0;
     if (is_free) {
@@ -87,6 +93,7 @@ int sem_trywait(sem_t *semaphore)
 int sem_post(sem_t *semaphore)
 {
     int code = 0;
+    look_at(semaphore);
     monitor_enter();
     if (semaphore->value == SEM_VALUE_MAX)
         code = EOVERFLOW;

@@ -90,12 +90,16 @@ static struct stack *stack_take(size_t size)
     return stack ? stack : new_stack(pages);
 }
 
-void stack_give(struct stack *stack)
+/* The stack and the thread-local storage are dead then, though the thread goes on with them to its last call. */
+void stack_give(struct dthreads_thread *thread)
 {
-    if (stack) {
-        stack->next = monitor.stacks;
-        monitor.stacks = stack;
-    }
+    struct stack *stack = thread->stack;
+    if (!stack)
+        return;
+    hint_dead(thread->stack_base, (uint32_t)((char *)stack - thread->stack_base));
+    stack->next = monitor.stacks;
+    monitor.stacks = stack;
+    thread->stack = NULL;
 }
 
 bool stack_attach(struct dthreads_thread *thread, const pthread_attr_t *attributes)

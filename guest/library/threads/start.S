@@ -76,81 +76,100 @@
 
 # What the assembler is told to call in place of FENCE: all registers stay. The caller kept its ra 12 bytes above its sp, see
 # dthreads/prelude.h. So a debugger finds there what ra is in the caller; where the call returns to is column 64, which stands for
-# no register.
+# no register. The routine gets the registers of the caller, each at the place of its number, and in that of x0 where the call returns to.
     .macro kept routine
     .cfi_startproc
     .cfi_return_column 64
     .cfi_register 64, ra
     .cfi_offset ra, 12
-    addi sp, sp, -80
-    .cfi_adjust_cfa_offset 80
+    addi sp, sp, -128
+    .cfi_adjust_cfa_offset 128
     sw ra, 0(sp)
     .cfi_rel_offset 64, 0
+    sw t0, 20(sp)
+    .cfi_rel_offset t0, 20
+    sw t1, 24(sp)
+    .cfi_rel_offset t1, 24
+    sw t2, 28(sp)
+    .cfi_rel_offset t2, 28
+    sw a0, 40(sp)
+    .cfi_rel_offset a0, 40
+    sw a1, 44(sp)
+    .cfi_rel_offset a1, 44
+    sw a2, 48(sp)
+    .cfi_rel_offset a2, 48
+    sw a3, 52(sp)
+    .cfi_rel_offset a3, 52
+    sw a4, 56(sp)
+    .cfi_rel_offset a4, 56
+    sw a5, 60(sp)
+    .cfi_rel_offset a5, 60
+    sw a6, 64(sp)
+    .cfi_rel_offset a6, 64
+    sw a7, 68(sp)
+    .cfi_rel_offset a7, 68
+    sw t3, 112(sp)
+    .cfi_rel_offset t3, 112
+    sw t4, 116(sp)
+    .cfi_rel_offset t4, 116
+    sw t5, 120(sp)
+    .cfi_rel_offset t5, 120
+    sw t6, 124(sp)
+    .cfi_rel_offset t6, 124
+    sw gp, 12(sp)
+    sw tp, 16(sp)
+    sw s0, 32(sp)
+    sw s1, 36(sp)
+    sw s2, 72(sp)
+    sw s3, 76(sp)
+    sw s4, 80(sp)
+    sw s5, 84(sp)
+    sw s6, 88(sp)
+    sw s7, 92(sp)
+    sw s8, 96(sp)
+    sw s9, 100(sp)
+    sw s10, 104(sp)
+    sw s11, 108(sp)
+    lw t0, 140(sp)
     sw t0, 4(sp)
-    .cfi_rel_offset t0, 4
-    sw t1, 8(sp)
-    .cfi_rel_offset t1, 8
-    sw t2, 12(sp)
-    .cfi_rel_offset t2, 12
-    sw t3, 16(sp)
-    .cfi_rel_offset t3, 16
-    sw t4, 20(sp)
-    .cfi_rel_offset t4, 20
-    sw t5, 24(sp)
-    .cfi_rel_offset t5, 24
-    sw t6, 28(sp)
-    .cfi_rel_offset t6, 28
-    sw a0, 32(sp)
-    .cfi_rel_offset a0, 32
-    sw a1, 36(sp)
-    .cfi_rel_offset a1, 36
-    sw a2, 40(sp)
-    .cfi_rel_offset a2, 40
-    sw a3, 44(sp)
-    .cfi_rel_offset a3, 44
-    sw a4, 48(sp)
-    .cfi_rel_offset a4, 48
-    sw a5, 52(sp)
-    .cfi_rel_offset a5, 52
-    sw a6, 56(sp)
-    .cfi_rel_offset a6, 56
-    sw a7, 60(sp)
-    .cfi_rel_offset a7, 60
+    addi t0, sp, 144
+    sw t0, 8(sp)
+    mv a0, sp
     call \routine
     lw ra, 0(sp)
     .cfi_register 64, ra
-    lw t0, 4(sp)
+    lw t0, 20(sp)
     .cfi_restore t0
-    lw t1, 8(sp)
+    lw t1, 24(sp)
     .cfi_restore t1
-    lw t2, 12(sp)
+    lw t2, 28(sp)
     .cfi_restore t2
-    lw t3, 16(sp)
-    .cfi_restore t3
-    lw t4, 20(sp)
-    .cfi_restore t4
-    lw t5, 24(sp)
-    .cfi_restore t5
-    lw t6, 28(sp)
-    .cfi_restore t6
-    lw a0, 32(sp)
+    lw a0, 40(sp)
     .cfi_restore a0
-    lw a1, 36(sp)
+    lw a1, 44(sp)
     .cfi_restore a1
-    lw a2, 40(sp)
+    lw a2, 48(sp)
     .cfi_restore a2
-    lw a3, 44(sp)
+    lw a3, 52(sp)
     .cfi_restore a3
-    lw a4, 48(sp)
+    lw a4, 56(sp)
     .cfi_restore a4
-    lw a5, 52(sp)
+    lw a5, 60(sp)
     .cfi_restore a5
-    lw a6, 56(sp)
+    lw a6, 64(sp)
     .cfi_restore a6
-    lw a7, 60(sp)
+    lw a7, 68(sp)
     .cfi_restore a7
-    addi sp, sp, 80
-    .cfi_adjust_cfa_offset -80
+    lw t3, 112(sp)
+    .cfi_restore t3
+    lw t4, 116(sp)
+    .cfi_restore t4
+    lw t5, 120(sp)
+    .cfi_restore t5
+    lw t6, 124(sp)
+    .cfi_restore t6
+    addi sp, sp, 128
+    .cfi_adjust_cfa_offset -128
     ret
     .cfi_endproc
     .endm
@@ -171,3 +190,9 @@ __dthreads_sync:
     .asciz "dthreads"
     .balign 4
     .word 1, dthreads_start_packed
+
+# The linker takes the locks that the C library asks for from this library, and not from picolibc, where they do nothing: this word asks for
+# them first. Nothing needs the word itself, so it is in no program, and the locks are in those alone that use them.
+    .section .rodata.locks, "a"
+    .balign 4
+    .word __lock___libc_recursive_mutex

@@ -10,14 +10,14 @@ void dthreads_stay_on(void);
 void dthreads_stay_begin(void)
 {
     monitor_enter();
-    own.held++;
+    lock_hold(NULL);
     monitor_leave();
 }
 
 void dthreads_stay_end(void)
 {
     monitor_enter();
-    own.held--;
+    lock_drop(&own, NULL);
     monitor_leave();
 }
 
@@ -25,7 +25,7 @@ void dthreads_stay_end(void)
 void dthreads_stay_on(void)
 {
     monitor_enter();
-    own.held--;
+    lock_drop(&own, NULL);
     own.depth--;
     own.by_fence = own.held == 0;
     hint_leave();

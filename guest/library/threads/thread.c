@@ -1,6 +1,7 @@
 /* Making, joining and ending threads. */
 #include <stdlib.h>
 #include <string.h>
+#include <sys/single_threaded.h>
 #include "monitor.h"
 
 /* The end of the first thread's stack. */
@@ -77,8 +78,9 @@ static int thread_make(pthread_t *name, const pthread_attr_t *attributes, void *
     *name = name_of(thread);
     thread->created = ++monitor.created;
     thread->delay = vary_delay();
-    dthreads_hint_release(&thread->start);
+    dthreads_hint_release(moment_of(thread, START));
     monitor_hold();
+    __libc_single_threaded = 0;
     monitor.living++;
     if (is_new) {
         monitor.made++;
@@ -134,16 +136,19 @@ static void let_others_go(const struct dthreads_thread *thread)
     }
 }
 
-/* What start.S and pthread_exit entered is left when the start routine begins. */
+/* What start.S and thread_leave entered is left when the start routine begins. */
 void dthreads_thread_run(struct dthreads_thread *thread)
 {
     tls_fill(thread->block);
     own.thread = thread;
     thread->own = &own;
     let_others_go(thread);
-    dthreads_hint_acquire(&thread->start);
+    hint_word(HINT_BEGIN, thread->created);
+    dthreads_hint_acquire(moment_of(thread, START));
+    moment_forget(thread, START);
     hint_leave();
-    pthread_exit(thread->start(thread->argument));
+    void *(*start)(void *) = thread->start;
+    thread_leave((const void *)(uintptr_t)start, start(thread->argument));
 }
 
 static void run_cleanup(void)
@@ -158,8 +163,9 @@ static void run_cleanup(void)
 /* The thread's record after its end: a detached one can be used again at once. */
 static void retire(struct dthreads_thread *thread)
 {
-    stack_give(thread->stack);
-    thread->stack = NULL;
+    stack_give(thread);
+    if (thread->detached)
+        moment_forget(thread, END);
     thread->life = !thread->detached ? ENDED : thread->ended_with > 0 ? LOST : PARKED;
     if (thread->joiner)
         monitor_wake(thread->joiner, WOKEN);
@@ -168,33 +174,51 @@ static void retire(struct dthreads_thread *thread)
     thread->condition = (uint8_t)((uint32_t)(thread - threads) % OWN_CONDITIONS);
 }
 
-void pthread_exit(void *value)
+/* Tells of the locks that the thread ends with. */
+static void tell_locks(const void *caller)
+{
+    if (caller)
+        hint_caller(caller);
+    for (uint32_t i = 0; i < KEPT_LOCKS; i++)
+        if (own.locks[i])
+            hint_object(HINT_END_WITH_LOCK, own.locks[i]);
+}
+
+void thread_leave(const void *caller, void *value)
 {
     struct dthreads_thread *thread = self();
     own.ending = true;
     run_cleanup();
     keys_destroy_values();
     if (readings_drop)
-        readings_drop();
+        readings_drop(caller);
     monitor_enter();
     if (monitor.living == 1) {
         /* (what exit calls is the program's) */
         hint_leave();
         exit(0);
     }
-    dthreads_hint_release(&thread->result);
+    dthreads_hint_release(moment_of(thread, END));
+    moment_forget(thread, SIGNALLED);
     streams_give();
 
     heap_flush();
     if (robust_leave)
         robust_leave(thread);
     thread->ended_with = own.held;
+    if (own.held > 0)
+        tell_locks(caller);
     monitor_hold();
     thread->result = value;
     monitor.living--;
     retire(thread);
     monitor_one_less();
     dthreads_thread_park(thread, thread->condition, &monitor.waiting[thread->condition]);
+}
+
+void pthread_exit(void *value)
+{
+    thread_leave(CALL_PLACE, value);
 }
 
 /* What a joined thread leaves; its record can be used again. */
@@ -228,7 +252,8 @@ static int join(pthread_t name, void **value, uint64_t deadline)
         return EAGAIN;
     if (thread->life != ENDED)
         return ETIMEDOUT;
-    dthreads_hint_acquire(&thread->result);
+    dthreads_hint_acquire(moment_of(thread, END));
+    moment_forget(thread, END);
     reap(thread, value);
     return 0;
 }
@@ -249,26 +274,35 @@ static int join_until(pthread_t name, void **value, uint64_t deadline)
 
 int pthread_join(pthread_t name, void **value)
 {
+    hint_called();
     return join_until(name, value, NEVER);
 }
 
 int pthread_tryjoin_np(pthread_t name, void **value)
 {
+    hint_called();
     int code = join_until(name, value, 0);
     return code == ETIMEDOUT ? EBUSY : code;
 }
 
-int pthread_timedjoin_np(pthread_t name, void **value, const struct timespec *time)
-{
-    return pthread_clockjoin_np(name, value, CLOCK_REALTIME, time);
-}
-
-int pthread_clockjoin_np(pthread_t name, void **value, clockid_t clock, const struct timespec *time)
+static int join_by_clock(pthread_t name, void **value, clockid_t clock, const struct timespec *time)
 {
     uint64_t deadline = NEVER;
     if (time && !deadline_of(clock, time, &deadline))
         return EINVAL;
     return join_until(name, value, deadline);
+}
+
+int pthread_timedjoin_np(pthread_t name, void **value, const struct timespec *time)
+{
+    hint_called();
+    return join_by_clock(name, value, CLOCK_REALTIME, time);
+}
+
+int pthread_clockjoin_np(pthread_t name, void **value, clockid_t clock, const struct timespec *time)
+{
+    hint_called();
+    return join_by_clock(name, value, clock, time);
 }
 
 int pthread_detach(pthread_t name)

@@ -26,6 +26,8 @@
 #define once_made 18
 #define text_beside 19
 #define text_changed 20
+#define relaxed_flag 21
+#define accessed_flag 22
 
 static pthread_mutex_t mutex = PTHREAD_MUTEX_INITIALIZER;
 static pthread_cond_t condition = PTHREAD_COND_INITIALIZER;
@@ -72,6 +74,12 @@ __attribute__((noinline)) static void one(void)
 #elif CASE == atomic_flag
     counter = 1;
     atomic_store(&ready, 1);
+#elif CASE == relaxed_flag
+    counter = 1;
+    atomic_store_explicit(&ready, 1, memory_order_relaxed);
+#elif CASE == accessed_flag
+    counter = 1;
+    ready = 1;
 #elif CASE == phases_apart || CASE == joined
     counter = 1;
 #elif CASE == barrier_ends
@@ -130,6 +138,14 @@ __attribute__((noinline)) static void two(void)
     (void)counter;
 #elif CASE == atomic_flag
     while (!atomic_load(&ready))
+        ;
+    (void)counter;
+#elif CASE == relaxed_flag
+    while (!atomic_load_explicit(&ready, memory_order_relaxed))
+        ;
+    (void)counter;
+#elif CASE == accessed_flag
+    while (!ready)
         ;
     (void)counter;
 #elif CASE == phases_apart

@@ -22,7 +22,7 @@ Line = namedtuple("Line", "words reads")
 FILE, OLD, INPUT = "{file}", b"old", b"$?#3f"
 # Guests: without output, with output, and one that traps, whose line goes to standard error.
 GUESTS = ["race", "echo", "late-trap"]
-RECORDS = [["--races", FILE], ["--report", FILE], ["--trace", FILE], ["--races", "-"], ["--report", "-"], ["--trace", "-"], []]
+RECORDS = [["--check", FILE], ["--report", FILE], ["--trace", FILE], ["--check", "-"], ["--report", "-"], ["--trace", "-"], []]
 REDIRECTIONS = {0: "<&-", 1: ">&-", 2: "2>&-"}
 CLOSED = [it for count in (1, 2, 3) for it in itertools.combinations(REDIRECTIONS, count)]
 

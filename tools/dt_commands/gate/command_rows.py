@@ -15,7 +15,7 @@ from dt_commands.texts import contents, write_file
 
 FOLDER = f"{TOP}/guest/tests/rows/commands"
 PROGRAM, SCHEDULE = "a.elf", "schedule"
-WRITTEN = ["trace", "timeline", "report", "races", "core", "digest"]
+WRITTEN = ["trace", "timeline", "report", "findings", "core", "digest"]
 OLD = b"x" * 1000
 # What no file can have more of, so that each takes all, and its writes are interrupted all the same.
 ALL = str(2**40)

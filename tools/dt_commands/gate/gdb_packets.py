@@ -47,9 +47,9 @@ class Debugged:
             self.printed += bytes.fromhex(said[1:]).decode(errors="replace")
 
     def monitor(self, command):
-        """Returns what a command of the user's prints."""
-        self.ask(f"qRcmd,{command.encode().hex()}")
-        return self.printed
+        """Returns what a command of the user's says."""
+        said = self.ask(f"qRcmd,{command.encode().hex()}")
+        return self.printed if said == "OK" else bytes.fromhex(said).decode(errors="replace")
 
     def go(self, text):
         """Resumes up to a stop that isn't the creation of a thread, and returns the seconds that it took."""

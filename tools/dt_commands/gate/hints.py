@@ -24,16 +24,27 @@ BALANCED = ["aborts", "alarm_ends", "atomics", "barriers", "c11", "cancel", "can
             "robust", "semaphores", "signals", "threads"]
 TOOLS = "riscv64-unknown-elf"
 HEAP, STACK = 0x20000000, 0x7ffc0000
+# From here on the words are no addresses: what the library names of a thread, four words for each call of pthread_create.
+MOMENTS, MOMENT_NAMES = 0x80000000, ["start", "end", "signals"]
 # A hint that a thread executed: where, its kind, and the values of its two registers.
 Hint = namedtuple("Hint", "thread pc kind first second")
-ROW, FIELD, THREADS = "row_", "field_", "dthreads_own_threads"
+ROW = "row_"
+# Kinds of hints by the immediate of their instruction (guest/library/threads/hints.h).
+KINDS = {1: "caller", 2: "length", 3: "begin", 4: "dead", 5: "atomic_load", 6: "atomic_store", 7: "seen_acquire", 8: "fence_release",
+         9: "fence_acquire", 10: "relaxed_release", 16: "lock", 17: "share", 18: "try_lock", 19: "try_share", 20: "unlock",
+         32: "unlock_of_anothers", 33: "unlock_of_free", 34: "end_with_lock", 35: "destroy_of_held", 36: "destroy_of_waited",
+         37: "wait_without_lock", 38: "wait_with_another", 39: "taken_twice", 40: "write_by_reader"}
+# Those whose word is a number, and those that have none.
+NUMBERED, BARE = ("length", "begin"), ("enter", "leave", "fence_release", "fence_acquire")
 # Functions whose hints a thread executes outside of all rows, as it begins and ends. That of assembler has no size.
-LIVES = ("dthreads_thread_entry", "dthreads_thread_run", "dthreads_own_robust_leave", "pthread_exit")
+LIVES = ("dthreads_thread_entry", "dthreads_thread_run", "dthreads_own_robust_leave", "dthreads_own_readings_drop", "dthreads_own_thread_leave")
 
 
 def kind_of(word):
-    """Returns the kind of the hint that a word encodes, or None: SLT and SLTU with x0 as their target (ISA, section 2.9)."""
+    """Returns the kind of the hint that a word encodes, or None: SLT, SLTU and SLTI with x0 as their target (ISA, section 2.9)."""
     first, second, function = word >> 15 & 31, word >> 20 & 31, word >> 12 & 7
+    if word & 0x7fff == 0x2013:
+        return KINDS.get(word >> 20)
     if word & 0xfe000fff != 0x33 or function not in (2, 3):
         return None
     kinds = {(2, True, False): "acquire", (2, False, True): "release", (2, False, False): "leave", (3, False, False): "enter",
@@ -113,25 +124,16 @@ class Rows:
 
     def __init__(self, program):
         self.program, self.lines, self.open = program, [], {}
-        self.fields = {self.number_at(at): name[len(FIELD):] for at, _, name in program.symbols if name.startswith(FIELD)}
-
-    def number_at(self, address):
-        """Returns a constant of the program."""
-        said = self.program.said("objdump", "-s", f"--start-address={address}", f"--stop-address={address + 4}")
-        word = re.search(rf"(?m)^ {address:x} ([0-9a-f]{{8}}) ", said)[1]
-        return int.from_bytes(bytes.fromhex(word), "little")
 
     def name_of(self, address):
         """Returns how a line names an object."""
         found = self.program.symbol_at(address)
-        if address >= 0xfffffffe:
-            return {0xffffffff: "all operations", 0xfffffffe: "all accesses"}[address]
+        if address >= MOMENTS:
+            number, moment = divmod(address - MOMENTS, 4)
+            return f"{MOMENT_NAMES[moment]} of {number}"
         if not found:
             return "heap" if HEAP <= address < STACK else "stack" if address >= STACK else f"{address:x}"
-        start, size, name = found
-        if name == THREADS:
-            number, place = divmod(address - start, size // 256)
-            return f"thread {number}'s {self.fields.get(place, place)}"
+        start, _, name = found
         return name + (f"+{address - start}" if address != start else "")
 
     def row_of(self, hint):
@@ -156,11 +158,18 @@ class Rows:
         return found and found[2]
 
     def text_of(self, hint):
+        if hint.kind in BARE:
+            return hint.kind
         if hint.kind == "fresh":
             return f"fresh({self.name_of(hint.first)}, {hint.second})"
-        if hint.kind in ("acquire", "release"):
-            return f"{hint.kind}({self.name_of(hint.first if hint.kind == 'acquire' else hint.second)})"
-        return hint.kind
+        if hint.kind == "caller":
+            return f"caller({self.place_of(hint.first)})"
+        return f"{hint.kind}({hint.first if hint.kind in NUMBERED else self.name_of(hint.second if hint.kind == 'release' else hint.first)})"
+
+    def place_of(self, address):
+        """Returns how a line names a place in the program: by its function."""
+        found = self.program.symbol_at(address)
+        return found[2] if found else f"{address:x}"
 
 
 def built(name, room):

@@ -32,6 +32,7 @@ PARTS = [
     Part("guest programs", ["test", "guest"], 4, [CASES, "guest/tests/refused"]),
     Part("timelines", ["test", "timeline", "--brief"], 4, [CASES, "crates/test_guest_runs/data", "docs/pictures"]),
     Part("lists of races", ["test", "races"], 4, [CASES, "guest/tests/races"]),
+    Part("findings", ["test", "checks"], 4, ["guest/tests/checks"]),
     Part("core files", ["test", "core"], 1, []),
     Part("samples, built anew", ["check", "c-samples"], 1, []),
     Part("table of functions", ["check", "c-functions"], 1, ["docs/C-FUNCTIONS.md"]),

@@ -175,7 +175,7 @@ def sanitizers(room):
     told = [(it.returncode, it.stderr.count("\n"), it.stderr.startswith(f"dthreads-cc: {word}: ")) for it, word in
             zip(ran, ("-fsanitize=thread", "-fsanitize=address,undefined"))]
     trapped = status(room, "-O2", "-fsanitize=undefined", "-fsanitize-undefined-trap-on-error", "over.c")
-    return (told, "--races" in ran[0].stderr, trapped), ([(1, 1, True)] * 2, True, 120)
+    return (told, "--check" in ran[0].stderr, trapped), ([(1, 1, True)] * 2, True, 120)
 
 
 CASES = [preprocessed, main_in_archive, warns_once, visible, models, quantum, before, prepared, explored, clock, files, full, sanitizers]

@@ -43,6 +43,10 @@ HANDED_ON = {
     ("crates/explored_runs/src/shuffled.rt", "Interruption::OutOfMemory => AllocError,"),
     ("crates/small_schedules/src/walking.rt", "Err(TurnFault::OutOfMemory | TurnFault::WriteFailed) => Err(AllocError),"),
     ("crates/races/src/recorder.rt", "return Err(AllocError);"),
+    ("crates/races/src/lock_order.rt", "return Err(AllocError);"),
+    ("crates/races/src/finding_recorder.rt", "return Err(AllocError);"),
+    ("crates/races/src/freed_recorder.rt", "return Err(AllocError);"),
+    ("crates/races/src/misuse_recorder.rt", "return Err(AllocError);"),
     ("crates/trace_events/src/timeline_recorder.rt", "self.failure = Some(TurnFault::OutOfMemory);"),
 }
 

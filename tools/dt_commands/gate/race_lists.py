@@ -23,6 +23,8 @@ CASES = {
     "neighbouring_bytes": [],
     "plain_flag": ["flag: store one, load two", "flag: store one, load two", "counter: store one, load two"],
     "atomic_flag": [],
+    "relaxed_flag": ["counter: store one, load two"],
+    "accessed_flag": [],
     "phases_apart": ["counter: store one, store two"],
     "barrier_ends": [],
     "freed_block": [],
@@ -47,7 +49,7 @@ RACY = {
     "sleepers": ["slept: store sleeps, load deadlines", "stop: load computes, store main"],
 }
 LINE = re.compile(
-    r"race address=[0-9a-f]{8} bytes=\d (load|store) thread=\d+ turn=\d+ pc=[0-9a-f]{8} (load|store) thread=\d+ turn=\d+ pc=[0-9a-f]{8}"
+    r"race address=[0-9a-f]{8} bytes=\d (load|store) thread=\d+ turn=\d+\+\d+ pc=[0-9a-f]{8} (load|store) thread=\d+ turn=\d+\+\d+ pc=[0-9a-f]{8}"
     r" object=(\w+)\+\d+ in=([\w.]+)\+\d+ in=([\w.]+)\+\d+")
 
 
@@ -64,7 +66,7 @@ def list_of(elf, words=(), given=None):
     """Returns the list of a run, or what went wrong in its place."""
     with tempfile.TemporaryDirectory() as room, open(given or os.devnull, "rb") as it:
         races = f"{room}/races"
-        command = [guest_runs.program(), "run", elf, "--races", races, *words]
+        command = [guest_runs.program(), "run", elf, "--check", races, *words]
         ran = subprocess.run(command, stdin=it, stdout=subprocess.DEVNULL, stderr=subprocess.PIPE, timeout=SECONDS, check=False)
         if not os.path.exists(races):
             return f"no list: status {ran.returncode}, {ran.stderr[:200].decode(errors='replace')}"
@@ -110,7 +112,7 @@ def arguments(parser):
 
 
 def test(options):
-    """Runs programs in C with --races: the cases have the expected races, correct programs and samples none."""
+    """Runs programs in C with --check: the cases have the expected races, correct programs and samples none."""
     tasks = [(it, lambda tally, room, it=it: test_case(tally, room, it, CASES[it])) for it in CASES]
     tasks += [(it.name, lambda tally, room, it=it: test_right(tally, room, it)) for it in programs()]
     does = lambda tally, room, task: task[1](tally, room)

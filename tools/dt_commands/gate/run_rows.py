@@ -289,7 +289,7 @@ def compare_races(run, wanted):
     found = Differences()
     with tempfile.TemporaryDirectory(prefix="row-") as room:
         write_file(f"{room}/a.elf", run.file)
-        ran = performed(["run", "a.elf", "--races", "races", *run.limits], run.given, room)
+        ran = performed(["run", "a.elf", "--check", "races", *run.limits], run.given, room)
         found.expect(contents(f"{room}/races"), wanted, "races")
     found.expect(ran.returncode < 122 or not ran.stderr, True, "a run that ended")
     return found.texts

@@ -3,8 +3,9 @@
 They need guest/build-rust, and Debian's packages for it. --programs makes those of guest/tests/rust and samples/rust and the projects
 that cargo builds, as the gate does. A line of guest/tests/rust/list has a program, its status, and the words of dthreads-exec. A program marked
 `host` gave the output of the host's build; --host compares them anew. --std makes std's own tests from the package rust-web-src, and
---crates programs over crates of Debian's packages. All three take some ten minutes of a processor. Tests that are left out are named with
-the reason. DTHREADS names the program to run the others with, or else ./dthreads.
+--crates programs over crates of Debian's packages. All three take some ten minutes of a processor. --numbers explores each of std's tests of
+`sync` by so many numbers, which takes further minutes. Tests that are left out, and those that some numbers break, are named with the
+reason. DTHREADS names the program to run the others with, or else ./dthreads.
 """
 import hashlib
 import os
@@ -54,6 +55,7 @@ def arguments(parser):
     parser.add_argument("--host", action="store_true", help="compare the programs with the host's builds, too")
     for name, help_text in PARTS.items():
         parser.add_argument(f"--{name}", action="store_true", help=help_text)
+    parser.add_argument("--numbers", type=int, metavar="N", help="explore each of std's tests of `sync` by N numbers, too")
     guest_runs.with_share(parser)
 
 
@@ -84,7 +86,7 @@ def compiled(words, out, where):
 def races_of(elf, words, given, room):
     """Returns the races of a run, each as RACY writes it."""
     races = f"{room}/races"
-    command = [f"{guest_runs.KIT}/dthreads-exec", elf, "--races", races, *words]
+    command = [f"{guest_runs.KIT}/dthreads-exec", elf, "--check", races, *words]
     with open(given or os.devnull, "rb") as it:
         subprocess.run(command, stdin=it, stdout=subprocess.DEVNULL, stderr=subprocess.DEVNULL, env=environment())
     with open(races, "rb") as it:
@@ -211,7 +213,7 @@ def test_project(tally, room):
     where, said = f"{room}/project", ""
     shutil.copytree(f"{FOLDER}/project", where)
     before = sums_of(where)
-    for words in (["run", "--", "one", "two"], ["run", "--release", "--workers", "4", "--races", "-"], ["test", "--workers=2"], ["bench"]):
+    for words in (["run", "--", "one", "two"], ["run", "--release", "--workers", "4", "--check", "-"], ["test", "--workers=2"], ["bench"]):
         ran = called(where, words[0], "--offline", *words[1:])
         said += f"$ {' '.join(words)}\n{without_times(ran.stdout)}status {ran.returncode}\n"
         if "race " in ran.stderr or "error" in ran.stderr:

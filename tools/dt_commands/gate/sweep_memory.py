@@ -192,6 +192,7 @@ def runs(room, program):
     for guest, given, more in GUESTS:
         file = f"{TOP}/samples/{guest}.elf"
         yield f"disasm {guest}", Sweep(room, [program, "disasm", file], given)
+        yield f"info {guest}", Sweep(room, [program, "info", file], given)
         for workers in "124":
             words = [program, "run", file, "--workers", workers, *more]
             recorded = [*words, *(it for name in RECORDS for it in (f"--{name}", f"{room}/{name}"))]

@@ -5,10 +5,10 @@ each machine. All else measures large ones: most of them are built anew with mor
 the result out again. `large` is their trace and report. `times` says how long they take with 1, 2 and 4 workers, and four processes with 1
 worker each side by side, which is what the machine gives at best: as ratios of the least times of some rounds. Its last column is four
 processes' time over four times that of 4 workers, by medians. `races` says how long a run with one worker takes, how many times the
-processor time of that a run with `--races` takes, and the most memory that each has. `detectors` compares detectors of races for programs of
+processor time of that a run with `--check` takes, and the most memory that each has. `detectors` compares detectors of races for programs of
 this machine: each sample is built for it by gcc with -O2, -g and -pthread, and run as it is, with ThreadSanitizer, and under
 valgrind's helgrind and drd: how many times the processor time that takes, and how many different reports it gives; then the same of
-`--races`. DTHREADS names the program to run them with, or else ./dthreads.
+`--check`. DTHREADS names the program to run them with, or else ./dthreads.
 """
 import os
 import re
@@ -25,7 +25,7 @@ COLUMNS = {
     "times": ["Milliseconds with 1 worker", "Rate with 2", "Rate with 4", "Four processes", "Rate with 4 over that of four processes"],
     "races": ["Milliseconds without the list", "Times with it", "MiB without it", "MiB with it"],
     "detectors": ["Milliseconds natively", *(f"{how} {it}" for it in DETECTORS for how in ("times with", "reports of")),
-                  "Milliseconds of `dthreads run`", "times with `--races`", "races"],
+                  "Milliseconds of `dthreads run`", "times with `--check`", "races"],
 }
 # How many rounds there are by default.
 ROUNDS = {"times": 20, "races": 5, "detectors": 3}
@@ -85,7 +85,7 @@ def timed(prepared, _, rounds):
 def with_list(prepared, races, rounds):
     """Returns the processor seconds and the MiB of a run with one worker, and those of one that writes a list of races."""
     command = running(prepared.program, "--workers", "1")
-    return [least(rounds, lambda more=more: taken([*command, *more], prepared.given)[:2]) for more in ([], ["--races", races])]
+    return [least(rounds, lambda more=more: taken([*command, *more], prepared.given)[:2]) for more in ([], ["--check", races])]
 
 
 def listed(prepared, _, rounds):

@@ -20,7 +20,7 @@ CASES = [
     ("dthreads --version", b"dthreads 0.1.0\n"),
     (f"dthreads run {SHARE}/samples/race.elf --trace - | cmp - {SHARE}/samples/race.trace && echo same", b"same\n"),
     (f"dthreads-cc -O2 -g {SHARE}/samples/c/race.c -o race.elf && dthreads run race.elf", b"counter 1000 of 2000\n"),
-    ("dthreads run race.elf --races - | dthreads-lines race.elf | grep -c 'at=.*race.c:[0-9]* .*object=counter'", b"2\n"),
+    ("dthreads run race.elf --check - | dthreads-lines race.elf | grep -c 'at=.*race.c:[0-9]* .*object=counter'", b"2\n"),
     (f"dthreads-exec {SHARE}/samples/c/counter.elf --workers 4", b"counter 2000 of 2000\n"),
     (f"dthreads run {SHARE}/samples/race.elf --timeline t >/dev/null; dthreads-picture t | grep -q '<svg' && echo drawn", b"drawn\n"),
     (f"cp {SHARE}/guest/cmake-toolchain.cmake {SHARE}/guest/meson-cross.ini . && ls *.cmake *.ini", b"cmake-toolchain.cmake\nmeson-cross.ini\n"),

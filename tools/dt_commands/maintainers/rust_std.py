@@ -25,6 +25,11 @@ TESTS = {
     "alloc": Part(rust_alloc.BESIDE),
     "alloc_api": Part(None, rust_alloc.LEFT_OUT, ["--extern=alloc", "--cap-lints=allow"], "2021"),
 }
+# The tests that may be explored by numbers; and those of them that fail by some, and why.
+EXPLORED = "sync"
+FAILING = dict.fromkeys(["condvar::nonpoison_condvar::nonpoison_wait_timeout_wake", "condvar::poison_condvar::poison_wait_timeout_wake"],
+                        "after a wait that ends without a signal it joins a thread while it holds the mutex that the thread wants")
+OUTCOME = re.compile(r"^(\S+) +(\d+) of \d+ (pass|fail)(.*)$", re.M)
 # The crates that stand for those of others, with what each takes of them.
 CRATES = {"rand": [], "rand_xorshift": ["--extern=rand"]}
 PASSED = re.compile(r"^test result: ok\. (\d+) passed; 0 failed; (\d+) ignored; 0 measured; (\d+) filtered out", re.M)
@@ -50,8 +55,8 @@ def words_of(name, part, room):
     return file and ["--test", "--edition", part.edition, "-Awarnings", *own, f"-L{room}", *crates, file]
 
 
-def test_part(tally, room, name, part):
-    """Builds and runs some of the tests, and says what came of them."""
+def test_part(tally, room, name, part, count):
+    """Builds and runs some of the tests, explores them if a count of numbers is given, and says what came of them."""
     elf = f"{room}/{name}.elf"
     words = words_of(name, part, room)
     if not words:
@@ -71,6 +76,25 @@ def test_part(tally, room, name, part):
             tally.fail(f"{name}: another run with {workers} workers")
     print(f"{name}: {passed[1]} passed, {passed[2]} ignored by std, {passed[3]} left out"
           + "".join(f"; {it}: {why}" for it, why in part.left_out.items()), flush=True)
+    if count and name == EXPLORED:
+        explore(tally, elf, part, count, room)
+
+
+def explore(tally, elf, part, count, room):
+    """Explores each test by numbers from 1 on: none may fail but those of FAILING."""
+    settings = {"TOLD": f"{room}/told", "EXPLORE": f"--runs\n{count}", "RUN": "--workers\n2", "WORDS": ""}
+    environment = {**rust_tests.environment(), **{f"DTHREADS_CARGO_{name}": value for name, value in settings.items()}}
+    how = {"stdin": subprocess.DEVNULL, "stdout": subprocess.PIPE, "stderr": subprocess.STDOUT, "errors": "replace"}
+    skipped = [word for it in part.left_out for word in ("--skip", it)]
+    ran = subprocess.run([f"{guest_runs.KIT}/rust/explore", elf, *skipped], env=environment, **how)
+    outcomes = OUTCOME.findall(ran.stdout)
+    failed = {name: f"{runs} fail{rest}" for name, runs, kind, rest in outcomes if kind == "fail"}
+    if ran.returncode or not outcomes:
+        tally.fail(f"{EXPLORED}: can't be explored: {ran.stdout[-1500:]}")
+    for it in sorted(failed.keys() - FAILING.keys()):
+        tally.fail(f"{it}: {failed[it]}")
+    print(f"{EXPLORED}, explored: {len(outcomes) - len(failed)} of {len(outcomes)} pass by each of {count} numbers"
+          + "".join(f"; {it}: {failed[it]}: {FAILING.get(it, 'unknown')}" for it in sorted(failed)), flush=True)
 
 
 def build_crates(room):
@@ -90,5 +114,5 @@ def test(options):
     with tempfile.TemporaryDirectory() as room, Progress("parts of std's tests", len(chosen)) as progress:
         build_crates(room)
         for name, part in progress.each(chosen, lambda it: it[0]):
-            test_part(tally, room, name, part)
+            test_part(tally, room, name, part, options.numbers)
     return tally.status("parts of std's own tests", ": all of them passed, alike with 1 and 4 workers")

@@ -1,7 +1,7 @@
 //! The histories of the rows: small ones, whose races are worked out by hand.
 use crate::of_races::rows::Row;
 use crate::of_races::told::Told;
-use races::{Access, ByteSet, Site};
+use races::{Access, ByteSet, HintEvent, HintKind, HintSite, Site};
 
 const WHOLE: ByteSet = ByteSet {
     first: true,
@@ -31,8 +31,10 @@ macro_rules! access {
             site: Site {
                 thread: $thread,
                 turn: $turn,
+                instruction: $pc % 0x100 / 4,
                 pc: $pc,
                 is_store: $is_store,
+                is_atomic: false,
             },
             word: $address / 4,
             bytes: $bytes,
@@ -54,8 +56,24 @@ macro_rules! store {
     };
 }
 
+/// A hint that names an object.
+macro_rules! hint {
+    ($thread:expr, $turn:expr, $pc:expr, $kind:expr, $object:expr) => {
+        Told::Hint(HintEvent {
+            site: HintSite {
+                thread: $thread,
+                turn: $turn,
+                instruction: $pc % 0x100 / 4,
+                pc: $pc,
+            },
+            kind: $kind,
+            object: $object,
+        })
+    };
+}
+
 /// The rows.
-pub static ROWS: [Row; 16] = [
+pub static ROWS: [Row; 23] = [
     // Two threads add to a counter without a mutex.
     Row {
         name: "lost update",
@@ -67,7 +85,7 @@ pub static ROWS: [Row; 16] = [
             load!(2, 17, 0x1_0180, 0x1_6038),
             store!(2, 17, 0x1_0188, 0x1_6038),
         ],
-        text: "race address=00016038 bytes=4 store thread=1 turn=15 pc=00010188 load thread=2 turn=17 pc=00010180\nrace address=00016038 bytes=4 store thread=1 turn=15 pc=00010188 store thread=2 turn=17 pc=00010188\n",
+        text: "race address=00016038 bytes=4 store thread=1 turn=15+34 pc=00010188 load thread=2 turn=17+32 pc=00010180\nrace address=00016038 bytes=4 store thread=1 turn=15+34 pc=00010188 store thread=2 turn=17+34 pc=00010188\n",
     },
     // They do so under a mutex.
     Row {
@@ -93,7 +111,7 @@ pub static ROWS: [Row; 16] = [
             Told::Unlock(1, 7),
             load!(2, 4, 0x1_0200, 0x2_0000),
         ],
-        text: "race address=00020000 bytes=4 store thread=1 turn=3 pc=00010100 load thread=2 turn=4 pc=00010200\n",
+        text: "race address=00020000 bytes=4 store thread=1 turn=3+0 pc=00010100 load thread=2 turn=4+0 pc=00010200\n",
     },
     // Two threads write neighbouring bytes.
     Row {
@@ -113,7 +131,7 @@ pub static ROWS: [Row; 16] = [
             load!(2, 4, 0x1_0200, 0x2_0010),
             load!(2, 4, 0x1_0204, 0x2_0000),
         ],
-        text: "race address=00020010 bytes=4 store thread=1 turn=3 pc=00010104 load thread=2 turn=4 pc=00010200\nrace address=00020000 bytes=4 store thread=1 turn=3 pc=00010100 load thread=2 turn=4 pc=00010204\n",
+        text: "race address=00020010 bytes=4 store thread=1 turn=3+1 pc=00010104 load thread=2 turn=4+0 pc=00010200\nrace address=00020000 bytes=4 store thread=1 turn=3+0 pc=00010100 load thread=2 turn=4+1 pc=00010204\n",
     },
     // A flag in an object of hints publishes data.
     Row {
@@ -144,7 +162,7 @@ pub static ROWS: [Row; 16] = [
             Told::Unlock(2, 8),
             store!(2, 900, 0x1_0200, 0x2_0000),
         ],
-        text: "race address=00020000 bytes=4 store thread=1 turn=2 pc=00010100 store thread=2 turn=900 pc=00010200\n",
+        text: "race address=00020000 bytes=4 store thread=1 turn=2+0 pc=00010100 store thread=2 turn=900+0 pc=00010200\n",
     },
     // Two accesses before and after a barrier.
     Row {
@@ -158,7 +176,7 @@ pub static ROWS: [Row; 16] = [
             load!(2, 5, 0x1_0204, 0x2_0000),
             load!(2, 5, 0x1_0208, 0x2_0020),
         ],
-        text: "race address=00020020 bytes=4 store thread=3 turn=3 pc=00010200 load thread=2 turn=5 pc=00010208\n",
+        text: "race address=00020020 bytes=4 store thread=3 turn=3+0 pc=00010200 load thread=2 turn=5+2 pc=00010208\n",
     },
     // A block is freed by one thread and given to another.
     Row {
@@ -170,7 +188,7 @@ pub static ROWS: [Row; 16] = [
             store!(2, 3, 0x1_0200, 0x2_0000),
             store!(2, 3, 0x1_0204, 0x2_0008),
         ],
-        text: "race address=00020008 bytes=4 store thread=1 turn=2 pc=00010104 store thread=2 turn=3 pc=00010204\n",
+        text: "race address=00020008 bytes=4 store thread=1 turn=2+1 pc=00010104 store thread=2 turn=3+1 pc=00010204\n",
     },
     // A mutex is taken on one of two paths, and another mutex is taken by both.
     Row {
@@ -185,7 +203,7 @@ pub static ROWS: [Row; 16] = [
             store!(2, 3, 0x1_0200, 0x2_0000),
             Told::Unlock(2, 7),
         ],
-        text: "race address=00020000 bytes=4 store thread=1 turn=2 pc=00010100 store thread=2 turn=3 pc=00010200\n",
+        text: "race address=00020000 bytes=4 store thread=1 turn=2+0 pc=00010100 store thread=2 turn=3+0 pc=00010200\n",
     },
     // What the first thread does before and after it made another.
     Row {
@@ -197,7 +215,7 @@ pub static ROWS: [Row; 16] = [
             load!(1, 3, 0x1_0200, 0x2_0000),
             load!(1, 3, 0x1_0204, 0x2_0010),
         ],
-        text: "race address=00020010 bytes=4 store thread=0 turn=2 pc=00010104 load thread=1 turn=3 pc=00010204\n",
+        text: "race address=00020010 bytes=4 store thread=0 turn=2+1 pc=00010104 load thread=1 turn=3+1 pc=00010204\n",
     },
     // What a thread did before its end, seen by a join and by no join.
     Row {
@@ -209,7 +227,7 @@ pub static ROWS: [Row; 16] = [
             load!(0, 3, 0x1_0200, 0x2_0000),
             load!(2, 4, 0x1_0204, 0x2_0000),
         ],
-        text: "race address=00020000 bytes=4 store thread=1 turn=2 pc=00010100 load thread=2 turn=4 pc=00010204\n",
+        text: "race address=00020000 bytes=4 store thread=1 turn=2+0 pc=00010100 load thread=2 turn=4+1 pc=00010204\n",
     },
     // What a thread did before it let another go.
     Row {
@@ -221,7 +239,7 @@ pub static ROWS: [Row; 16] = [
             load!(2, 3, 0x1_0200, 0x2_0000),
             load!(2, 3, 0x1_0204, 0x2_0010),
         ],
-        text: "race address=00020010 bytes=4 store thread=1 turn=2 pc=00010104 load thread=2 turn=3 pc=00010204\n",
+        text: "race address=00020010 bytes=4 store thread=1 turn=2+1 pc=00010104 load thread=2 turn=3+1 pc=00010204\n",
     },
     // Accesses and calls of a library.
     Row {
@@ -238,7 +256,7 @@ pub static ROWS: [Row; 16] = [
             load!(2, 3, 0x1_0200, 0x2_0000),
             load!(2, 3, 0x1_0204, 0x2_0010),
         ],
-        text: "race address=00020000 bytes=4 store thread=1 turn=2 pc=00010100 load thread=2 turn=3 pc=00010200\n",
+        text: "race address=00020000 bytes=4 store thread=1 turn=2+0 pc=00010100 load thread=2 turn=3+0 pc=00010200\n",
     },
     // Two threads read, and a third one writes.
     Row {
@@ -251,7 +269,7 @@ pub static ROWS: [Row; 16] = [
             store!(3, 4, 0x1_0300, 0x2_0000),
             store!(3, 4, 0x1_0300, 0x2_0000),
         ],
-        text: "race address=00020000 bytes=4 load thread=1 turn=2 pc=00010100 store thread=3 turn=4 pc=00010300\n",
+        text: "race address=00020000 bytes=4 load thread=1 turn=2+0 pc=00010100 store thread=3 turn=4+0 pc=00010300\n",
     },
     // Two threads write bytes of a word, one after another.
     Row {
@@ -262,6 +280,103 @@ pub static ROWS: [Row; 16] = [
             access!(2, 3, 0x1_0200, 0x2_0000, FIRST, true),
             access!(2, 3, 0x1_0200, 0x2_0000, SECOND, true),
         ],
-        text: "race address=00020000 bytes=2 store thread=1 turn=2 pc=00010100 store thread=2 turn=3 pc=00010200\n",
+        text: "race address=00020000 bytes=2 store thread=1 turn=2+0 pc=00010100 store thread=2 turn=3+0 pc=00010200\n",
+    },
+    // Two threads store to an atomic object and load it.
+    Row {
+        name: "two atomic accesses",
+        history: &[
+            Told::Length(1, 4),
+            Told::Length(2, 4),
+            hint!(1, 2, 0x1_0100, HintKind::AtomicStore, 0x2_0000),
+            hint!(2, 3, 0x1_0200, HintKind::AtomicStore, 0x2_0000),
+            hint!(1, 4, 0x1_0104, HintKind::AtomicLoad, 0x2_0000),
+        ],
+        text: "",
+    },
+    // One thread stores to an atomic object, and another loads it by a plain load; both load it.
+    Row {
+        name: "an atomic access beside a plain one",
+        history: &[
+            Told::Length(1, 4),
+            hint!(1, 2, 0x1_0100, HintKind::AtomicLoad, 0x2_0000),
+            load!(2, 3, 0x1_0200, 0x2_0000),
+            hint!(1, 4, 0x1_0104, HintKind::AtomicStore, 0x2_0000),
+            load!(2, 5, 0x1_0204, 0x2_0000),
+        ],
+        text: "race address=00020000 bytes=4 load thread=2 turn=3+0 pc=00010200 store thread=1 turn=4+1 pc=00010104\nrace address=00020000 bytes=4 store thread=1 turn=4+1 pc=00010104 load thread=2 turn=5+1 pc=00010204\n",
+    },
+    // A flag that is stored and loaded in relaxed order publishes data.
+    Row {
+        name: "a relaxed flag",
+        history: &[
+            store!(1, 2, 0x1_0100, 0x2_0000),
+            Told::Length(1, 4),
+            hint!(1, 2, 0x1_0104, HintKind::RelaxedRelease, 0x2_0010),
+            hint!(1, 2, 0x1_0108, HintKind::AtomicStore, 0x2_0010),
+            Told::Length(2, 4),
+            hint!(2, 3, 0x1_0200, HintKind::AtomicLoad, 0x2_0010),
+            hint!(2, 3, 0x1_0204, HintKind::SeenAcquire, 0x2_0010),
+            load!(2, 3, 0x1_0208, 0x2_0000),
+        ],
+        text: "race address=00020000 bytes=4 store thread=1 turn=2+0 pc=00010100 load thread=2 turn=3+2 pc=00010208\n",
+    },
+    // The same with a release fence before the store and an acquire fence after the load.
+    Row {
+        name: "a relaxed flag between fences",
+        history: &[
+            store!(1, 2, 0x1_0100, 0x2_0000),
+            hint!(1, 2, 0x1_0104, HintKind::FenceRelease, 0),
+            store!(1, 2, 0x1_0108, 0x2_0020),
+            hint!(1, 2, 0x1_010c, HintKind::RelaxedRelease, 0x2_0010),
+            hint!(2, 3, 0x1_0200, HintKind::SeenAcquire, 0x2_0010),
+            hint!(2, 3, 0x1_0204, HintKind::FenceAcquire, 0),
+            load!(2, 3, 0x1_0208, 0x2_0000),
+            load!(2, 3, 0x1_020c, 0x2_0020),
+        ],
+        text: "race address=00020020 bytes=4 store thread=1 turn=2+2 pc=00010108 load thread=2 turn=3+3 pc=0001020c\n",
+    },
+    // An acquire fence before the relaxed load, or of another thread, takes over nothing.
+    Row {
+        name: "fences too early",
+        history: &[
+            store!(1, 2, 0x1_0100, 0x2_0000),
+            hint!(1, 2, 0x1_0104, HintKind::FenceRelease, 0),
+            hint!(1, 2, 0x1_0108, HintKind::RelaxedRelease, 0x2_0010),
+            hint!(2, 3, 0x1_0200, HintKind::FenceAcquire, 0),
+            hint!(2, 3, 0x1_0204, HintKind::SeenAcquire, 0x2_0010),
+            hint!(3, 4, 0x1_0300, HintKind::FenceAcquire, 0),
+            load!(2, 5, 0x1_0208, 0x2_0000),
+            load!(3, 6, 0x1_0304, 0x2_0000),
+        ],
+        text: "race address=00020000 bytes=4 store thread=1 turn=2+0 pc=00010100 load thread=2 turn=5+2 pc=00010208\nrace address=00020000 bytes=4 store thread=1 turn=2+0 pc=00010100 load thread=3 turn=6+1 pc=00010304\n",
+    },
+    // Eight bytes at most of an atomic object, over three words, by the place that called the library.
+    Row {
+        name: "an atomic access over three words",
+        history: &[
+            Told::Enter(1),
+            Told::Caller(1, 0x1_0080),
+            Told::Length(1, 0xffff_ffff),
+            hint!(1, 2, 0x1_0104, HintKind::AtomicStore, 0x2_0003),
+            Told::Leave(1),
+            load!(2, 3, 0x1_0200, 0x2_0000),
+            load!(2, 3, 0x1_0204, 0x2_0004),
+            load!(2, 3, 0x1_0208, 0x2_0008),
+            load!(2, 3, 0x1_020c, 0x2_000c),
+        ],
+        text: "race address=00020003 bytes=1 store thread=1 turn=2+1 pc=00010080 load thread=2 turn=3+0 pc=00010200\nrace address=00020004 bytes=4 store thread=1 turn=2+1 pc=00010080 load thread=2 turn=3+1 pc=00010204\nrace address=00020008 bytes=3 store thread=1 turn=2+1 pc=00010080 load thread=2 turn=3+2 pc=00010208\n",
+    },
+    // An atomic access and a plain one by the same place.
+    Row {
+        name: "an atomic access and a plain one at one place",
+        history: &[
+            Told::Length(1, 4),
+            store!(1, 2, 0x1_0100, 0x2_0000),
+            hint!(1, 2, 0x1_0100, HintKind::AtomicStore, 0x2_0000),
+            Told::Length(2, 4),
+            hint!(2, 3, 0x1_0200, HintKind::AtomicStore, 0x2_0000),
+        ],
+        text: "race address=00020000 bytes=4 store thread=1 turn=2+0 pc=00010100 store thread=2 turn=3+0 pc=00010200\n",
     },
 ];

@@ -115,11 +115,12 @@ fn add_races(
     Ok(())
 }
 
-/// Whether two accesses are of different threads and of one word, and one of them stores.
+/// Whether two accesses are of different threads and of one word, one of them stores, and one of them is not atomic.
 fn races_with(first: &Access, second: &Access) -> bool {
     first.site.thread != second.site.thread
         && first.word == second.word
         && (first.site.is_store || second.site.is_store)
+        && !(first.site.is_atomic && second.site.is_atomic)
 }
 
 /// The common bytes of two accesses that began no new life since the first one, the step of this index.
@@ -152,7 +153,7 @@ fn is_over(access: &Access, place: u32, steps: &[Step], index: usize) -> bool {
 }
 
 fn is_same(site: Site, other: Site) -> bool {
-    site.pc == other.pc && site.is_store == other.is_store
+    site.pc == other.pc && site.is_store == other.is_store && site.is_atomic == other.is_atomic
 }
 
 /// Notes a race: by its bytes where its instructions have one at the word, else as a new one.

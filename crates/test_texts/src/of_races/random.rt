@@ -1,11 +1,11 @@
 //! Random histories, told to a recorder and to the plain detector.
 use crate::of_races::dice::Dice;
 use crate::of_races::literal::{is_race, races_of};
-use crate::of_races::recorded::{recorded, text_of};
+use crate::of_races::recorded::{recorded, text_of_races};
 use crate::of_races::step::{Step, steps_of};
 use crate::of_races::told::Told;
 use anyhow::{Error, Result, anyhow};
-use races::{Access, ByteSet, Race, Site};
+use races::{Access, ByteSet, HintEvent, HintKind, HintSite, Race, Site};
 use std::alloc::{AllocError, Global};
 
 /// How many events a history has at most.
@@ -63,8 +63,8 @@ fn look_at(alloc: Global, history: &[Told], number: u32) -> Result<u64> {
 
 /// That a history has other races than the wanted ones.
 fn difference(alloc: Global, number: u32, races: &[Race], wanted: &[Race]) -> Result<Error> {
-    let text = text_of(alloc, races)?;
-    let wanted_text = text_of(alloc, wanted)?;
+    let text = text_of_races(alloc, races)?;
+    let wanted_text = text_of_races(alloc, wanted)?;
     Ok(anyhow!("history {number} has\n{wanted_text}and not\n{text}"))
 }
 
@@ -97,6 +97,7 @@ fn is_same_race(one: &Race, other: &Race) -> bool {
         && one.second == other.second
         && one.first.pc == other.first.pc
         && one.first.is_store == other.first.is_store
+        && one.first.is_atomic == other.first.is_atomic
 }
 
 /// A random history.
@@ -113,7 +114,7 @@ fn event(dice: &mut Dice, turns: u8) -> Told {
     let thread = dice.below(4);
     let object = u32::from(dice.below(2));
     let other = dice.below(4);
-    match dice.below(28) {
+    match dice.below(36) {
         0 => Told::Create(thread, other),
         1 => Told::End(thread),
         2 => Told::Join(thread, other),
@@ -126,7 +127,36 @@ fn event(dice: &mut Dice, turns: u8) -> Told {
         9 => Told::Enter(thread),
         10 => Told::Leave(thread),
         11 => Told::Fresh(u32::from(dice.below(12)), u32::from(dice.below(9))),
+        12 => Told::Caller(thread, u32::from(dice.below(4))),
+        13 | 14 => Told::Length(thread, u32::from(dice.below(12))),
+        15..=19 => Told::Hint(hint(thread, dice, turns)),
         _ => Told::Access(access(thread, dice, turns)),
+    }
+}
+
+/// A random hint of one of two objects, which are addresses in the first word.
+fn hint(thread: u8, dice: &mut Dice, turns: u8) -> HintEvent {
+    HintEvent {
+        site: HintSite {
+            thread,
+            turn: u64::from(dice.below(turns)),
+            instruction: u64::from(dice.below(3)),
+            pc: u32::from(dice.below(4)),
+        },
+        kind: random_kind(dice),
+        object: u32::from(dice.below(2)),
+    }
+}
+
+/// A random kind of hint that the recorder of races looks at.
+fn random_kind(dice: &mut Dice) -> HintKind {
+    match dice.below(8) {
+        0 | 1 => HintKind::AtomicLoad,
+        2 | 3 => HintKind::AtomicStore,
+        4 => HintKind::SeenAcquire,
+        5 => HintKind::RelaxedRelease,
+        6 => HintKind::FenceRelease,
+        _ => HintKind::FenceAcquire,
     }
 }
 
@@ -137,8 +167,10 @@ fn access(thread: u8, dice: &mut Dice, turns: u8) -> Access {
         site: Site {
             thread,
             turn: u64::from(dice.below(turns)),
+            instruction: u64::from(dice.below(3)),
             pc: u32::from(pc),
             is_store: pc < 2,
+            is_atomic: false,
         },
         word: u32::from(dice.below(3)),
         bytes: bytes(dice),

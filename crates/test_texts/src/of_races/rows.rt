@@ -1,6 +1,6 @@
 //! The rows: what a recorder says of histories, against texts that are worked out by hand.
 use crate::of_races::histories::ROWS;
-use crate::of_races::recorded::{recorded, text_of};
+use crate::of_races::recorded::{found, text_of};
 use crate::of_races::told::Told;
 use anyhow::Result;
 use races::{Access, ByteSet, Site};
@@ -53,9 +53,9 @@ where
     Ok(println!(rt; "more lines than are shown: {said}")?)
 }
 
-/// The text of a history's races.
+/// The text of what is found in a history.
 fn history_text(alloc: Global, history: &[Told]) -> Result<String, AllocError> {
-    text_of(alloc, &recorded(alloc, history)?)
+    text_of(alloc, &found(alloc, history)?)
 }
 
 /// Two threads store to 10,001 words.
@@ -73,8 +73,10 @@ fn store(thread: u8, pc: u32, word: u32) -> Told {
         site: Site {
             thread,
             turn: 1,
+            instruction: 0,
             pc,
             is_store: true,
+            is_atomic: false,
         },
         word,
         bytes: ByteSet {

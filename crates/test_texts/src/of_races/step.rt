@@ -1,7 +1,8 @@
 //! What is looked at of an event: what it takes over and what it passes on.
+use crate::of_races::atomic::atomic_accesses;
 use crate::of_races::regions::is_inside;
 use crate::of_races::told::Told;
-use races::Access;
+use races::{Access, HintEvent, HintKind};
 use std::alloc::{AllocError, Global};
 
 /// What order passes through.
@@ -15,6 +16,10 @@ enum Through {
     Mutex,
     /// The later acquisitions of an object.
     Object,
+    /// The later acquire fences of a thread.
+    Seen,
+    /// The later relaxed stores of a thread.
+    Fenced,
 }
 
 /// A way of order: through what, and the number of the thread, the mutex or the object.
@@ -42,11 +47,65 @@ pub fn steps_of(alloc: Global, history: &[Told]) -> Result<Vec<Step>, AllocError
     let mut steps = Vec::new(alloc);
     for (index, told) in history.iter().enumerate() {
         let (before, _) = history.split_at(index);
-        if !is_hidden(before, *told) {
+        if let Told::Hint(hint) = told {
+            push_hint(alloc, &mut steps, before, hint)?;
+        } else if !is_hidden(before, *told) && !is_silent(*told) {
             steps.push(step_of(before, *told))?;
         }
     }
     Ok(steps)
+}
+
+/// Whether an event only says something of later hints.
+fn is_silent(told: Told) -> bool {
+    matches!(told, Told::Caller(_, _) | Told::Length(_, _))
+}
+
+/// Appends the steps of a hint that names an object, after some events.
+fn push_hint(
+    alloc: Global,
+    steps: &mut Vec<Step>,
+    before: &[Told],
+    hint: &HintEvent,
+) -> Result<(), AllocError> {
+    let own = Some(thread_way(hint.site.thread));
+    let object = way_through(Through::Object, hint.object);
+    let seen = way_through(Through::Seen, u32::from(hint.site.thread));
+    let fenced = way_through(Through::Fenced, u32::from(hint.site.thread));
+    match hint.kind {
+        HintKind::AtomicLoad | HintKind::AtomicStore => {
+            for access in &atomic_accesses(alloc, before, hint)? {
+                steps.push(accessing(*access))?;
+            }
+        }
+        HintKind::SeenAcquire => steps.push(passing([object, None], [seen, None]))?,
+        HintKind::RelaxedRelease => steps.push(passing([fenced, None], [object, None]))?,
+        HintKind::FenceRelease => steps.push(passing([own, None], [own, fenced]))?,
+        HintKind::FenceAcquire => steps.push(passing([own, seen], [own, None]))?,
+        _ => {}
+    }
+    Ok(())
+}
+
+/// A step that takes over what comes by some ways, and passes it on to others.
+fn passing(from: [Option<Way>; 2], to: [Option<Way>; 2]) -> Step {
+    Step {
+        from,
+        to,
+        access: None,
+        fresh: None,
+    }
+}
+
+/// The step of an atomic access.
+fn accessing(access: Access) -> Step {
+    let own = Some(thread_way(access.site.thread));
+    Step {
+        from: [own, None],
+        to: [own, None],
+        access: Some(access),
+        fresh: None,
+    }
 }
 
 /// Whether a library region hides an event after others: its thread is in one, or it lets a thread go that waited in one.
@@ -113,7 +172,11 @@ fn own_way(told: Told) -> Option<Way> {
         | Told::Release(thread, _)
         | Told::Enter(thread)
         | Told::Leave(thread) => Some(thread_way(thread)),
-        Told::Round(_, _) | Told::Fresh(_, _) => None,
+        Told::Round(_, _)
+        | Told::Fresh(_, _)
+        | Told::Caller(_, _)
+        | Told::Length(_, _)
+        | Told::Hint(_) => None,
     }
 }
 
@@ -138,6 +201,11 @@ fn passed_on(told: Told) -> Option<Way> {
         Told::Release(_, object) => (Through::Object, object),
         _ => return None,
     };
+    Some(Way { through, number })
+}
+
+/// A way of order through something of this number.
+fn way_through(through: Through, number: u32) -> Option<Way> {
     Some(Way { through, number })
 }
 

@@ -1,5 +1,5 @@
 //! Events of small histories, as rows and random histories have them: without memory of their own.
-use races::{Access, ObservedEvent};
+use races::{Access, HintEvent, ObservedEvent};
 use std::alloc::{AllocError, Global};
 
 /// An event of a history. Its fields are those of the recorder's event of the same name, in their order.
@@ -31,6 +31,12 @@ pub enum Told {
     Leave(u8),
     /// Bytes from an address on begin a new life.
     Fresh(u32, u32),
+    /// A thread called a library from this place.
+    Caller(u8, u32),
+    /// A thread's next hint is about so many bytes.
+    Length(u8, u32),
+    /// A hint that names an object.
+    Hint(HintEvent),
 }
 
 /// The event that the recorder is told.
@@ -49,6 +55,9 @@ pub fn event_of(alloc: Global, told: Told) -> Result<ObservedEvent, AllocError> 
         Told::Enter(thread) => ObservedEvent::Enter { thread },
         Told::Leave(thread) => ObservedEvent::Leave { thread },
         Told::Fresh(address, length) => ObservedEvent::Fresh { address, length },
+        Told::Caller(thread, pc) => ObservedEvent::Caller { thread, pc },
+        Told::Length(thread, length) => ObservedEvent::Length { thread, length },
+        Told::Hint(hint) => ObservedEvent::Hint(hint),
     })
 }
 

@@ -10,6 +10,13 @@ concluded : {T : Type 0} (answer : Result T Failure) (status : ℕ) (Listed : Ty
 concluded (Ok done) status Listed Unlisted listed unlisted good failed = inl (good, listed)
 concluded (Err failure) status Listed Unlisted listed unlisted good failed = inr (failure, failed, unlisted)
 
+pub returns-in-Info-clause-performed : goal.returns-in-Info-clause-performed
+returns-in-Info-clause-performed g c =
+    rw c.in-Info.is (
+      concluded c.info.result c.conclude_listing.result _ _ c.info.ensures.printed c.info.ensures.failed c.conclude_listing.ensures.printed c.conclude_listing.ensures.failed,
+      refl,
+    )
+
 pub returns-in-Disasm-clause-performed : goal.returns-in-Disasm-clause-performed
 returns-in-Disasm-clause-performed g c =
     rw c.in-Disasm.is (

@@ -48,9 +48,9 @@ returns-clause-ended g c = elim c.match-result.branch [
   | in-Err w ↦ rw w.result-is tt
 ]
 
-pub returns-clause-races : goal.returns-clause-races
-returns-clause-races g c = elim c.match-result.branch [
-  | in-Ok+in-Ok-finish w ↦ rw w.result-is (rw w.in-Ok.is at c.run_wanted-run.ensures.races)
+pub returns-clause-findings : goal.returns-clause-findings
+returns-clause-findings g c = elim c.match-result.branch [
+  | in-Ok+in-Ok-finish w ↦ rw w.result-is (rw w.in-Ok.is at c.run_wanted-run.ensures.findings)
   | in-Ok+in-Err-finish w ↦ rw w.result-is tt
   | in-Err w ↦ rw w.result-is tt
 ]

@@ -4,8 +4,8 @@ use Rattle.races.specs.Bytes.{has}
 use Rattle.races.specs.Words.{found_at}
 use Rattle.races.specs.declared.byte_set.ByteSet.{ByteSet}
 use Rattle.races.specs.declared.found_race.FoundRace.{FoundRace}
-use Rattle.races.proofs.Finding.{finding_hit}
-use Rattle.races.proofs.Kept.{some_byte}
+use Rattle.races.proofs.Found.{finding_hit, finding_skip}
+use Rattle.races.proofs.Kept.{not_none, some_byte}
 use Rattle.races.proofs.race_search.find_race.Goals as goal
 
 both_true : (a b : Bool) → (a && b) ≡ true → (a ≡ true) × (b ≡ true)
@@ -30,3 +30,19 @@ returns-clause-own c =
     (λ at_place there here. c.common-bytes.ensures at_place ∙ and_true (has past.bytes at_place) (has access.bytes at_place) there here)
     place.0 place.1 noted finding)
     c.note.ensures.noted
+
+pub returns-then-not-is_hit-clause-own : goal.returns-then-not-is_hit-clause-own
+returns-then-not-is_hit-clause-own c steps latest done knows among times step finding =
+    let access = c.args.access.now in
+    finding_skip steps access c.args.clocks.now done c.args.past.now (found_at c.args.races.now.words access.word) (λ place hit there here. absurd (cc (c.if-not-is_hit.ensures.1 hit))) finding
+
+pub returns-then-is_empty-clause-own : goal.returns-then-is_empty-clause-own
+returns-then-is_empty-clause-own c steps latest done knows among times step finding =
+    let past = c.args.past.now in
+    let access = c.args.access.now in
+    let bytes : ByteSet = c.common-bytes.result in
+    finding_skip steps access c.args.clocks.now done past (found_at c.args.races.now.words access.word)
+    (λ place hit there here.
+    let some = not_none bytes place (c.common-bytes.ensures place ∙ and_true (has past.bytes place) (has access.bytes place) there here) in
+    absurd (cc (some, c.if-is_empty.ensures)))
+    finding

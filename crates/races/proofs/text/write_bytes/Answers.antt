@@ -20,10 +20,10 @@ pieces old pushed put done address_of_it size_of_it a b address size first secon
 pub returns : goal.returns
 unfolding bytes_text
 returns c =
-    on_ok_weaker c.write_count.result
+    on_ok_weaker c.write_number.result
     (λ counted.
-    pieces (string_bytes c.args.text.now) (string_bytes c.push_str.new.self) (string_bytes c.write_hexadecimal.new.text) (string_bytes c.write_count.new.text)
+    pieces (string_bytes c.args.text.now) (string_bytes c.push_str.new.self) (string_bytes c.write_hexadecimal.new.text) (string_bytes c.write_number.new.text)
     (hexadecimal 8 (address_of c.args.race.now)) (decimal (size_of c.args.race.now.bytes)) (codes "race address=") (codes " bytes=")
     (hexadecimal 8 c.address-address.result) (decimal c.from-size.result)
     c.in_ok-push_str.ensures.bytes c.in_ok-write_hexadecimal.ensures counted (ap (hexadecimal 8) c.address-address.ensures) (ap decimal (c.from-size.ensures ∙ c.size.ensures)))
-    c.write_count.ensures
+    c.write_number.ensures

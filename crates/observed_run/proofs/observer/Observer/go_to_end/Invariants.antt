@@ -9,6 +9,6 @@ invariant-loop g l = record {
   setup : (point_of l.serial).setup ≡ (point_of l.fn.serial).setup;
   sent : (start : Option (List ℕ)) → Appends start (g.S.Sink.taken l.fn.sink) (point_of l.fn.serial).state.output → Appends start (g.S.Sink.taken l.sink) (point_of l.serial).state.output;
   steady : g.S.Sink.failed l.sink ≡ g.S.Sink.failed l.fn.sink;
-  leads : Leads l.fn.serial l.serial l.fn.self.races l.self.races;
+  leads : Leads l.fn.serial l.serial l.fn.self.findings l.self.findings;
   legal : (point_of l.serial ≡ point_of l.fn.serial) ⊎ IsLegalPoint (point_of l.fn.serial);
 }

@@ -26,7 +26,7 @@ returns-clause-leads g c =
     let told = rw (c.as_ref.ensures.value, c.thread_by.ensures) at c.in_ok-turn.ensures.told in
     record {
       leads = λ start events are records.
-          by_need start point (point_of c.turn.new.serial) events told.0 c.args.self.now.races c.execute.new.self.races c.turn.new.self.races are records told.2
+          by_need start point (point_of c.turn.new.serial) events told.0 c.args.self.now.findings c.execute.new.self.findings c.turn.new.self.findings are records told.2
           needed end (sym c.need-need.ensures.need) c.in_ok-end.ensures.needed c.in_ok-end.ensures.told told.1 (rw c.as_ref.ensures.value at c.in_ok-turn.ensures.moved);
       legal = search rules;
     }

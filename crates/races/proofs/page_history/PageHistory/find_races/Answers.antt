@@ -3,7 +3,7 @@ use Rattle.std.specs.Prelude.{◌≢◌}
 use Rattle.races.specs.Linked.{IsAt, latest_in}
 use Rattle.races.specs.Words.{found_at}
 use Rattle.races.specs.declared.kept_access.KeptAccess.{KeptAccess}
-use Rattle.races.proofs.Finding.{finding_unhit}
+use Rattle.races.proofs.Found.{finding_unhit}
 use Rattle.races.proofs.Linked.{HasFound, IsOf, first_of, found_all, found_next, found_none, in_latest, next_of, same_at}
 use Rattle.races.proofs.page_history.PageHistory.find_races.Goals as goal
 

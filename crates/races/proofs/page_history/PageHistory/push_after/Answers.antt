@@ -32,10 +32,10 @@ returns c = λ entry is_at.
     let stays = latest_set (old ++ new ∷ []) index last now last.place at_more refl (λ here. refl) in
     let put : IsKept own (latest_in old last.place) (latest_in (set (old ++ new ∷ []) index now) last.place) = kept_same own _ _ _ _ refl (sym stays) (kept_push old new own refl) in
     let place_is = ap (λ (one : KeptAccess). one.place) (same_at old index entry last is_at there) in
-    let pushed = sym (c.set_hint.ensures ∙ changed old c.push.new.self.items index c.in_ok-number.number new last c.index_mut.result.now there c.in_ok-push.ensures.items c.index_mut.ensures.value) in
+    let pushed = sym (c.set_guess.ensures ∙ changed old c.push.new.self.items index c.in_ok-number.number new last c.index_mut.result.now there c.in_ok-push.ensures.items c.index_mut.ensures.value) in
     record {
       own =
-          subst (λ (one : KeptAccess). IsKept own (latest_in old one.place) (latest_in c.set_hint.new.self.entries.items one.place)) (same_at old index last entry there is_at)
+          subst (λ (one : KeptAccess). IsKept own (latest_in old one.place) (latest_in c.set_guess.new.self.entries.items one.place)) (same_at old index last entry there is_at)
           (subst (λ (all : List KeptAccess). IsKept own (latest_in old last.place) (latest_in all last.place)) pushed put);
       others = λ other apart.
           subst (λ (all : List KeptAccess). latest_in all other ≡ latest_in old other) pushed

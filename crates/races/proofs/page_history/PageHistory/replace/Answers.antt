@@ -15,9 +15,9 @@ returns c = λ entry is_at.
     let gives : GivesWay was.latest c.args.own = subst (λ (one : KeptAccess). GivesWay one.latest c.args.own) (same_at entries c.args.index wanted.0 was wanted.1 there) wanted.2 in
     record {
       own =
-          subst (λ (one : KeptAccess). IsKept c.args.own (latest_in entries one.place) (latest_in c.set_hint.new.self.entries.items one.place)) (same_at entries c.args.index was entry there is_at)
-          (subst (λ (all : List KeptAccess). IsKept c.args.own (latest_in entries was.place) (latest_in all was.place)) (sym c.set_hint.ensures) (kept_at entries c.args.index was now c.args.own there gives refl refl));
+          subst (λ (one : KeptAccess). IsKept c.args.own (latest_in entries one.place) (latest_in c.set_guess.new.self.entries.items one.place)) (same_at entries c.args.index was entry there is_at)
+          (subst (λ (all : List KeptAccess). IsKept c.args.own (latest_in entries was.place) (latest_in all was.place)) (sym c.set_guess.ensures) (kept_at entries c.args.index was now c.args.own there gives refl refl));
       others = λ other apart.
-          subst (λ (all : List KeptAccess). latest_in all other ≡ latest_in entries other) (sym c.set_hint.ensures)
+          subst (λ (all : List KeptAccess). latest_in all other ≡ latest_in entries other) (sym c.set_guess.ensures)
           (latest_set entries c.args.index was now other there refl (λ same. absurd (apart (ap (λ (one : KeptAccess). one.place) (same_at entries c.args.index entry was is_at there) ∙ same))));
     }

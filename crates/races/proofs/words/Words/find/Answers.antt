@@ -4,7 +4,7 @@ use Rattle.races.specs.Linked.{latest_in}
 use Rattle.races.specs.Words.{IsFinding, KnowsLatest, found_at, latest_at}
 use Rattle.races.specs.declared.latest.Latest.{Latest}
 use Rattle.races.specs.declared.page_history.PageHistory.{PageHistory}
-use Rattle.races.proofs.Finding.{finding_all, finding_none}
+use Rattle.races.proofs.Found.{finding_all, finding_none}
 use Rattle.races.proofs.words.Words.find.Goals as goal
 
 pub returns-in-Some-clause-own : goal.returns-in-Some-clause-own

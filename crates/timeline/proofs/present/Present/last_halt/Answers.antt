@@ -8,20 +8,6 @@ pub loop-self-preserved : goal.loop-self-preserved
 loop-self-preserved c =
     let invariant = c.loop-self.invariant in
     let pass = c.in_ok-found.ensures in
-    record {
-      stays = record { sound = c.pass.ensures.stays.sound; begins = λ start begins. c.pass.ensures.stays.begins start (invariant.stays.begins start begins) };
-      since = omega (arith, invariant.since, pass.further);
-      within = pass.within;
-      found = λ start begins.
-          rw c.or-last.ensures
-          (then_found (wanted_by c.args.stops.now) start (step_of c.args.self.now) (step_of c.loop-self.self) (step_of c.pass.new.self) c.loop-self.last c.in_ok-found.found invariant.since
-          (omega (arith, pass.further)) (invariant.found start begins) (pass.found start (invariant.stays.begins start begins)));
-    }
-
-pub loop-self-preserved-then-quiet-eq-QUIET : goal.loop-self-preserved-then-quiet-eq-QUIET
-loop-self-preserved-then-quiet-eq-QUIET c =
-    let invariant = c.loop-self.invariant in
-    let pass = c.in_ok-found.ensures in
     let skip = c.in_ok-skip.ensures in
     let wanted = wanted_by c.args.stops.now in
     record {

@@ -18,7 +18,7 @@ use Rattle.timeline.proofs.present_segment.PresentSegment.skip.Goals as goal
 pub run_to_mark-requires : goal.run_to_mark-requires
 run_to_mark-requires c =
     let view = c.args.self.now.view in
-    let code = subst (λ (memory : Memory). HasCode c.code.result.start c.code.result.entries.now memory) c.requires.can.underway.under c.code.ensures in
+    let code = subst (λ (memory : Memory). HasCode c.code-code.result.start c.code-code.result.entries.now memory) c.requires.can.underway.under c.code-code.ensures in
     rw c.replace-view.ensures.value
     (code_kept _ _ (snapshots.cells_of (views.base_of view)) (views.cells_of view) code (view_keeps (snapshots.pages_of (views.base_of view)) (views.private_of view) view.twins))
 

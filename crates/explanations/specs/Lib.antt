@@ -1,0 +1,4 @@
+pub mod Places
+pub mod Traps
+pub mod Waits
+pub mod Words
