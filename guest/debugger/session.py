@@ -157,9 +157,15 @@ def symbol_at(address):
 
 
 def line_of(pc):
-    """Returns file and line of an instruction, or None."""
+    """Returns file and line of an instruction, or None.
+
+    Of several lines that begin at one instruction, the last is that of its code. gdb shows the last at which a statement begins.
+    """
     found = gdb.find_pc_line(pc)
-    return f"{found.symtab.filename}:{found.line}" if found.symtab and found.line else None
+    if not (found.symtab and found.line):
+        return None
+    lines = [entry.line for entry in found.symtab.linetable() if found.pc <= entry.pc <= pc]
+    return f"{found.symtab.filename}:{lines[-1] if lines else found.line}"
 
 
 def place_of(pc):
