@@ -8,7 +8,7 @@
 enum { UNSEEN = 2 };
 
 static _Alignas(16) char stack[4096];
-static char seen = UNSEEN;
+static _Atomic char seen = UNSEEN;
 
 static void see(void *argument)
 {

@@ -117,7 +117,7 @@ static bool read_access(const struct walk *walk, const uint32_t *at, struct plai
     access->is_store = (word & 0x7f) == STORE;
     access->object = (const void *)(uintptr_t)(walk->values[base] + (access->is_store ? store_immediate(word) : immediate(word)));
     access->size = 1U << (kind_of(word) & 3);
-    return !(walk->unknown >> base & 1) && reaches_fence(at + 1);
+    return !(walk->unknown >> base & 1);
 }
 
 bool plain_access_find(const uint32_t *registers, struct plain_access *access)
@@ -131,11 +131,13 @@ bool plain_access_find(const uint32_t *registers, struct plain_access *access)
     walk.unknown = 0;
     for (uint32_t i = 0; i < REACH; i++) {
         uint32_t opcode = at[i] & 0x7f;
-        if (is_access(at[i]))
+        if (is_access(at[i]) && reaches_fence(&at[i + 1]))
             return read_access(&walk, &at[i], access);
-        if (opcode != LOAD_UPPER && opcode != ADD_IMMEDIATE && opcode != ADD)
+        /* What is stored may be loaded from an object that isn't atomic. */
+        if (!is_access(at[i]) && opcode != LOAD_UPPER && opcode != ADD_IMMEDIATE && opcode != ADD)
             return false;
-        step(&walk, at[i]);
+        if (opcode != STORE)
+            step(&walk, at[i]);
     }
     return false;
 }

@@ -40,8 +40,15 @@ CASES = {
     "text_beside": [],
     "text_changed": ["texts: load end_from, store two"],
 }
-# The programs with a race: the samples of one, and the tests of loops on plain flags.
+# The programs with findings: the samples of a race, the tests of loops on plain flags, and those of what the library answers to misuse.
 RACY = {
+    "mutexes": ["checked: taken-twice in main", "checked: unlock-of-anothers in tries", "recursive: unlock-of-anothers in tries",
+                "recursive: unlock-of-free in main", "normal: destroy-of-held in main", "checked: taken-twice in main"],
+    "rwlocks": ["lock: taken-twice in main", "lock: destroy-of-held in main", "lock: destroy-of-held in main"],
+    "rwlock_holders": ["first: unlock-of-anothers in frees", "first: unlock-of-free in main", *["many: unlock-of-free in main"] * 12,
+                       "no symbol: unlock-of-anothers in of_kind"],
+    "unlocks": ["careful: unlock-of-anothers in main", "mutex: unlock-of-anothers in main", "mutex: end-with-lock in ends_with_it",
+                "mutex: unlock-of-anothers in main"],
     "openmp_race": ["total: store main._omp_fn.0, load main._omp_fn.0", "total: store main._omp_fn.0, store main._omp_fn.0"],
     "race": ["counter: store add, load add", "counter: store add, store add"],
     "interrupts": ["inside: load main, store reads", "inside: store reads, load main"],
@@ -51,14 +58,18 @@ RACY = {
 LINE = re.compile(
     r"race address=[0-9a-f]{8} bytes=\d (load|store) thread=\d+ turn=\d+\+\d+ pc=[0-9a-f]{8} (load|store) thread=\d+ turn=\d+\+\d+ pc=[0-9a-f]{8}"
     r" object=(\w+)\+\d+ in=([\w.]+)\+\d+ in=([\w.]+)\+\d+")
+MISUSE = re.compile(r"misuse ([\w-]+) (?:object=(\w+)\+\d+|address=[0-9a-f]{8}) thread=\d+ turn=\d+\+\d+ in=([\w.]+)\+\d+(?: held-by .*)?")
 
 
 def shown(text):
-    """Returns the races of a list, as CASES writes them; a line of another form as it is."""
+    """Returns the findings of a list, as CASES and RACY write them; a line of another form as it is."""
     found = []
     for line in text.splitlines():
-        told = LINE.fullmatch(line)
-        found.append(f"{told[3]}: {told[1]} {told[4]}, {told[2]} {told[5]}" if told else line)
+        race, misuse = LINE.fullmatch(line), MISUSE.fullmatch(line)
+        if race:
+            found.append(f"{race[3]}: {race[1]} {race[4]}, {race[2]} {race[5]}")
+        else:
+            found.append(f"{misuse[2] or 'no symbol'}: {misuse[1]} in {misuse[3]}" if misuse else line)
     return found
 
 
@@ -98,7 +109,7 @@ def test_right(tally, room, program):
         return
     found = shown(list_of(elf, program.of_run, program.given))
     if found != RACY.get(program.name, []):
-        tally.fail(f"{program.name}: {found[:5]}")
+        tally.fail(f"{program.name}: {found}")
 
 
 def programs():
