@@ -1,4 +1,4 @@
-"""The lists of `dthreads run --check` and `--races`: what each line says of which accesses."""
+"""The lists of `dthreads run --check`: what each line says of which accesses."""
 import re
 from collections import namedtuple
 

@@ -1,7 +1,6 @@
 """The commands races and race: the findings of a run, and the way to their accesses."""
 import re
 import shlex
-import subprocess
 
 import gdb
 
@@ -10,17 +9,11 @@ from findings import findings_of, in_time
 from session import Words, fail, of_run, place_of, present, read, selected_guest, session, time_of
 
 
-def option_of_list(program):
-    """Returns the option by which this program writes its findings."""
-    ran = subprocess.run([*program, "run", "--help"], stdin=subprocess.DEVNULL, stdout=subprocess.PIPE, universal_newlines=True)
-    return "--check" if re.search(r"^ *--check ", ran.stdout, re.M) else "--races"
-
-
 def findings(path=None):
     """Returns the findings of the run: those of a file, those that were listed last, or those that the program finds."""
     it = session()
     if path or it.findings is None:
-        it.findings, it.others = findings_of(read(path) if path else of_run(it, it.words, option_of_list(it.program)))
+        it.findings, it.others = findings_of(read(path) if path else of_run(it, it.words, "--check"))
     return it.findings
 
 

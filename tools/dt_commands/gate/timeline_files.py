@@ -125,7 +125,7 @@ def test_guest(tally, room, guest):
 def test_picture(tally, room, name):
     """Compares the files that the picture of the pages is drawn of with what the program writes."""
     guest = Guest(name, f"{sample_pictures.SAMPLES}/{name}.elf", [], b"", ())
-    found = run(guest, guest.file, None, room, 1, ["timeline", "races"])
+    found = run(guest, guest.file, None, room, 1, ["timeline", "check"])
     for file, text in zip((sample_pictures.TIMELINE, sample_pictures.RACES), found.texts):
         if text is None or text != contents(file):
             tally.fail(f"{os.path.relpath(file, TOP)} isn't what the program writes: {found.errors[:200]}")
