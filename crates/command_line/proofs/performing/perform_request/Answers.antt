@@ -13,7 +13,7 @@ concluded (Err failure) status Listed Unlisted listed unlisted good failed = inr
 pub returns-in-Info-clause-performed : goal.returns-in-Info-clause-performed
 returns-in-Info-clause-performed g c =
     rw c.in-Info.is (
-      concluded c.info.result c.conclude_listing.result _ _ c.info.ensures.printed c.info.ensures.failed c.conclude_listing.ensures.printed c.conclude_listing.ensures.failed,
+      concluded c.info.result c.conclude_listing-in-Info.result _ _ c.info.ensures.printed c.info.ensures.failed c.conclude_listing-in-Info.ensures.printed c.conclude_listing-in-Info.ensures.failed,
       refl,
     )
 
