@@ -19,9 +19,9 @@ struct stream {
      * in these, and `place` is old. */
     struct dthreads_thread *keeper;
     char *next, *end;
-    /* Who used it last and how often in a row, and after how many calls it may be kept. */
+    /* Who used it last, how often in a row, how many buffers it went through, and after how many calls the stream may be kept. */
     struct dthreads_thread *user;
-    uint32_t uses, patience;
+    uint32_t uses, buffers, patience;
     /* Who is in a call on the stream, or has it by flockfile. */
     struct dthreads_thread *owner;
     uint32_t count;
