@@ -1,4 +1,5 @@
-/* Sleepers beside threads that compute without a call: the run has a quantum, and the sleepers move the clock. */
+/* Sleepers beside threads that compute without a call: the run has a quantum, and the sleepers move the clock. Beside a thread
+ * whose calls take no turn, these calls move it. */
 #include <pthread.h>
 #include <stdio.h>
 #include <time.h>
@@ -11,6 +12,26 @@ static void *computes(void *argument)
     while (!stop)
         ;
     return argument;
+}
+
+static void *writes(void *argument)
+{
+    FILE *file = fopen("/tmp/texts", "w");
+    while (!stop)
+        fputs("a text", file);
+    fclose(file);
+    return argument;
+}
+
+static void beside_texts(void)
+{
+    pthread_t writing;
+    stop = 0;
+    pthread_create(&writing, NULL, writes, NULL);
+    sleep(1);
+    stop = 1;
+    pthread_join(writing, NULL);
+    puts("slept beside texts");
 }
 
 static void *sleeps(void *argument)
@@ -52,5 +73,6 @@ int main(void)
     for (int i = 0; i < 2; i++)
         pthread_join(computing[i], NULL);
     printf("%ld seconds\n", (long)(after.tv_sec - before.tv_sec));
+    beside_texts();
     return 0;
 }

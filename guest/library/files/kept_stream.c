@@ -17,6 +17,7 @@ enum {
 
 __thread struct stream *kept_reading;
 __thread struct stream *kept_writing;
+__thread uint32_t kept_calls;
 
 /* Threads that asked for a kept stream. */
 static struct dthreads_queue askers;
@@ -78,6 +79,10 @@ bool stream_ask(struct stream *stream)
 __attribute__((noinline)) void stream_enter(struct stream *stream)
 {
     monitor_enter();
+    if (kept_calls > 0) {
+        monitor.clock += (uint64_t)kept_calls * DTHREADS_OPERATION_TIME;
+        kept_calls = 0;
+    }
     while (stream_ask(stream) || (stream->owner && stream->owner != self()))
         if (stream->owner && stream->owner != self())
             monitor_sleep(&stream->waiters, NEVER, false);

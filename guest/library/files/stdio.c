@@ -305,6 +305,7 @@ static bool put_kept(const char *bytes, size_t length, FILE *file)
     if (has_room) {
         memcpy(stream->next, bytes, length);
         stream->next += length;
+        kept_calls++;
     }
     hint_leave();
     return has_room;

@@ -32,6 +32,8 @@ struct stream {
 /* The streams that this thread keeps between its calls: variables of their own, which the compiler reaches by one instruction. */
 extern __thread struct stream *kept_reading;
 extern __thread struct stream *kept_writing;
+/* Calls that put a text into a kept stream since the thread's last call that entered one: they take time, too. */
+extern __thread uint32_t kept_calls;
 
 /* The stream over a descriptor that a FILE is, or NULL for those of sprintf and the like. */
 struct stream *stream_of(FILE *file);
