@@ -37,6 +37,7 @@
 #define files_add dthreads_own_files_add
 #define files_begin dthreads_own_files_begin
 #define files_console dthreads_own_files_console
+#define files_is_redirected dthreads_own_files_is_redirected
 #define files_deliver dthreads_own_files_deliver
 #define files_finish dthreads_own_files_finish
 #define files_here dthreads_own_files_here

@@ -30,6 +30,8 @@ __attribute__((weak)) void files_deliver(void);
 __attribute__((weak)) void files_receive(bool is_file, uint32_t name, uint32_t bytes);
 /* The standard stream of the console that a descriptor has open, or -1. */
 __attribute__((weak)) int files_console(int descriptor);
+/* Whether a descriptor is open, and over another file than the run's input and output. */
+__attribute__((weak)) bool files_is_redirected(int descriptor);
 __attribute__((weak)) ssize_t files_read(int descriptor, void *bytes, size_t length);
 __attribute__((weak)) ssize_t files_write(int descriptor, const void *bytes, size_t length);
 __attribute__((weak)) void streams_flush(void);

@@ -39,6 +39,12 @@ int files_console(int descriptor)
     return file && file->node->kind == CONSOLE ? file->node->stream : -1;
 }
 
+bool files_is_redirected(int descriptor)
+{
+    struct open_file *file = file_of(descriptor);
+    return file && file->node->kind != CONSOLE;
+}
+
 /* The lowest free descriptor from `least` on. */
 static int free_descriptor(int least)
 {

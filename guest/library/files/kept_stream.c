@@ -3,17 +3,21 @@
  * A thread that used a stream keeps it: as long as bytes are in the buffer, or room for some, getc and putc then need no turn. Each
  * thread keeps one stream that it reads and one that it writes. What it did with them is seen by others at its next turn alone, so a
  * thread that wants a kept stream takes it from a thread that sleeps, and else asks for it and waits until that thread is in the
- * monitor. A stream that was asked for is kept again after more calls of one thread than before. */
+ * monitor. A stream that was asked for is kept again after more calls of one thread than before, unless its keeper had gone through some
+ * buffers of it. */
 #include "stream.h"
 
 enum {
     /* How many calls of one thread come before it keeps a stream that had to be asked for, at first and at most. */
     FIRST_PATIENCE = 16,
-    GREATEST_PATIENCE = 1 << 20
+    GREATEST_PATIENCE = 1 << 20,
+    /* Buffers that its user went through, after which the wait for a stream is worth it. */
+    MANY_BUFFERS = 4
 };
 
 __thread struct stream *kept_reading;
 __thread struct stream *kept_writing;
+__thread uint32_t kept_calls;
 
 /* Threads that asked for a kept stream. */
 static struct dthreads_queue askers;
@@ -43,14 +47,14 @@ void stream_settle_place(struct stream *stream)
         let_go(stream);
 }
 
-/* One that was asked for needs more patience. */
+/* One that was asked for soon needs more patience. */
 static void give(struct stream *stream)
 {
     if (!stream)
         return;
     let_go(stream);
     stream->uses = 0;
-    if (askers.first && stream->patience < GREATEST_PATIENCE)
+    if (askers.first && stream->buffers < MANY_BUFFERS && stream->patience < GREATEST_PATIENCE)
         stream->patience = stream->patience < FIRST_PATIENCE ? FIRST_PATIENCE : stream->patience * 2;
 }
 
@@ -75,6 +79,10 @@ bool stream_ask(struct stream *stream)
 __attribute__((noinline)) void stream_enter(struct stream *stream)
 {
     monitor_enter();
+    if (kept_calls > 0) {
+        monitor.clock += (uint64_t)kept_calls * DTHREADS_OPERATION_TIME;
+        kept_calls = 0;
+    }
     while (stream_ask(stream) || (stream->owner && stream->owner != self()))
         if (stream->owner && stream->owner != self())
             monitor_sleep(&stream->waiters, NEVER, false);
@@ -112,7 +120,7 @@ static bool may_keep(struct stream *stream)
         return false;
     if (stream->user != self()) {
         stream->user = self();
-        stream->uses = 0;
+        stream->uses = stream->buffers = 0;
     }
     return stream->uses++ >= stream->patience;
 }

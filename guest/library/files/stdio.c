@@ -1,6 +1,6 @@
 /* The three standard streams, and the calls that all streams share. A call's text on a standard stream is written in one piece
  * when the call ends, so lines of threads stay whole. While one thread lives, text on stdout stays in a buffer up to the end of
- * its line. */
+ * its line. If the program put a file in the place of the run's output, stdout is a stream like those of fopen. */
 #include <stdarg.h>
 #include <string.h>
 #include <unistd.h>
@@ -124,10 +124,21 @@ static bool emit_in_turn(struct stream *stream, const char *bytes, uint32_t leng
     return is_done;
 }
 
+/* Writes what a stream that was over a file still has in its buffer, or moves back as far as nobody has read. */
+static bool settle(struct stream *stream)
+{
+    stream_enter(stream);
+    bool is_done = stream_settle(stream);
+    stream_leave(stream);
+    return is_done;
+}
+
 static __attribute__((noinline)) bool emit(struct stream *stream, const char *bytes, uint32_t length)
 {
     if (length == 0)
         return true;
+    if (stream->is_writing)
+        settle(stream);
     bool is_done = stream->file.flags & __SWR && emit_in_turn(stream, bytes, length);
     if (!is_done)
         fail(&stream->file);
@@ -138,15 +149,19 @@ static __attribute__((noinline)) bool emit(struct stream *stream, const char *by
     return is_done;
 }
 
-/* True for the standard streams of output. */
+/* True for the standard streams of output, but for a stdout that is over a file, if the program has streams over files. */
 static bool is_output(const FILE *file)
 {
-    return file == stdout || file == stderr;
+    return file == stderr || (file == stdout && !(stream_write && files_is_redirected && files_is_redirected(STDOUT_FILENO)));
 }
 
 static bool put_text(struct stream *stream, const char *bytes, uint32_t length)
 {
-    return is_output(&stream->file) ? emit(stream, bytes, length) : stream_write(stream, bytes, length);
+    if (is_output(&stream->file))
+        return emit(stream, bytes, length);
+    if (stream == &output_stream)
+        output_flush();
+    return stream_write(stream, bytes, length);
 }
 
 /* The text of a call, which is a cancellation point where it begins and where it ends. */
@@ -177,14 +192,12 @@ int stream_put(char character, FILE *file)
 int stream_flush(FILE *file)
 {
     struct stream *stream = (struct stream *)file;
-    if (is_output(file) || !stream_settle) {
+    bool is_console = is_output(file);
+    if (is_console || file == stdout || !stream_settle)
         output_flush();
-        return file->flags & __SERR && is_output(file) ? EOF : 0;
-    }
-    stream_enter(stream);
-    bool is_done = stream_settle(stream);
-    stream_leave(stream);
-    return is_done ? 0 : EOF;
+    if (!stream_settle || (is_console && !stream->is_writing))
+        return file->flags & __SERR && is_console ? EOF : 0;
+    return settle(stream) ? 0 : EOF;
 }
 
 static void piece_begin(struct piece *begun)
@@ -283,9 +296,26 @@ int putchar(int character)
     return fputc(character, stdout);
 }
 
+/* Puts bytes into a stream that the thread keeps, if there is room for all of them. */
+static bool put_kept(const char *bytes, size_t length, FILE *file)
+{
+    hint_enter();
+    struct stream *stream = kept_writing;
+    bool has_room = (FILE *)stream == file && length <= (size_t)(stream->end - stream->next);
+    if (has_room) {
+        memcpy(stream->next, bytes, length);
+        stream->next += length;
+        kept_calls++;
+    }
+    hint_leave();
+    return has_room;
+}
+
 /* How many bytes were put. */
 static size_t put_bytes(const char *bytes, size_t length, FILE *file)
 {
+    if (put_kept(bytes, length, file))
+        return length;
     struct stream *stream = stream_of(file);
     if (!(file->flags & __SWR)) {
         fail(file);
@@ -305,9 +335,20 @@ int fputs(const char *text, FILE *stream)
     return put_bytes(text, length, stream) == length ? 0 : EOF;
 }
 
+/* A line on a stdout that is over a file. */
+static int put_line(const char *text)
+{
+    shared_begin(stdout);
+    bool is_done = fputs(text, stdout) != EOF && fputc('\n', stdout) != EOF;
+    shared_end(stdout);
+    return is_done ? 0 : EOF;
+}
+
 int puts(const char *text)
 {
     struct piece here;
+    if (!is_output(stdout))
+        return put_line(text);
     cancel_point();
     piece_begin(&here);
     for (; *text; text++)
@@ -433,6 +474,7 @@ static bool fill(struct stream *stream)
     if (stream->is_writing)
         stream_settle(stream);
     stream->place = 0;
+    stream->buffers++;
     stream->length = fetch(stream, stream->buffer, stream->room);
     return stream->length > 0;
 }

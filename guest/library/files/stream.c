@@ -31,6 +31,7 @@ static bool drain(struct stream *stream)
 {
     uint32_t length = stream->place;
     stream->place = 0;
+    stream->buffers++;
     return write_whole(stream, stream->buffer, length);
 }
 
@@ -70,9 +71,22 @@ static bool put(struct stream *stream, const char *bytes, uint32_t length)
     return true;
 }
 
+/* stdout has a buffer from its first text for a file on, if there is memory for one. */
+static void adopt(struct stream *stream)
+{
+    stream->buffer = malloc(BUFFER);
+    if (!stream->buffer)
+        return;
+    stream->room = BUFFER;
+    stream->following = all;
+    all = stream;
+}
+
 bool stream_write(struct stream *stream, const char *bytes, uint32_t length)
 {
     stream_enter(stream);
+    if (!stream->buffer)
+        adopt(stream);
     if (!stream->is_writing) {
         step_back(stream);
         stream->is_writing = true;

@@ -19,9 +19,9 @@ struct stream {
      * in these, and `place` is old. */
     struct dthreads_thread *keeper;
     char *next, *end;
-    /* Who used it last and how often in a row, and after how many calls it may be kept. */
+    /* Who used it last, how often in a row, how many buffers it went through, and after how many calls the stream may be kept. */
     struct dthreads_thread *user;
-    uint32_t uses, patience;
+    uint32_t uses, buffers, patience;
     /* Who is in a call on the stream, or has it by flockfile. */
     struct dthreads_thread *owner;
     uint32_t count;
@@ -32,6 +32,8 @@ struct stream {
 /* The streams that this thread keeps between its calls: variables of their own, which the compiler reaches by one instruction. */
 extern __thread struct stream *kept_reading;
 extern __thread struct stream *kept_writing;
+/* Calls that put a text into a kept stream since the thread's last call that entered one: they take time, too. */
+extern __thread uint32_t kept_calls;
 
 /* The stream over a descriptor that a FILE is, or NULL for those of sprintf and the like. */
 struct stream *stream_of(FILE *file);

@@ -59,13 +59,15 @@ static __attribute__((noinline, cold)) int unlock_wrongly(pthread_mutex_t *mutex
     return 0;
 }
 
-/* Waits for a mutex that another thread owns; who frees it may make this thread its owner. */
+/* Waits for a mutex that is owned, by this thread as well; who frees it may make this thread its owner. */
 static int mutex_wait(pthread_mutex_t *mutex, uint64_t deadline)
 {
-    do
-        if (monitor_sleep_on(&mutex->waiters, deadline) == TIMED_OUT)
+    enum wake wake;
+    do {
+        wake = monitor_sleep_on(&mutex->waiters, deadline);
+        if (wake == TIMED_OUT)
             return ETIMEDOUT;
-    while (mutex_is_kept(mutex));
+    } while (mutex_is_kept(mutex) || (wake == INTERRUPTED && mutex->owner == self()));
     if (mutex->robust == NOT_RECOVERABLE)
         return ENOTRECOVERABLE;
     mutex_acquire(mutex, HINT_LOCK);

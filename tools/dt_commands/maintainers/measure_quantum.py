@@ -39,9 +39,10 @@ def counted(command, trace):
     return f"{told.instructions / told.path:.2f} ({told.turns:,} turns)"
 
 
-def timed(command, rounds):
-    """Returns the seconds with each number of workers."""
-    return ", ".join(f"{it:.2f}" for it in least(rounds, lambda: [seconds_of([*command, "--workers", it]) for it in "124"]))
+def timed(command, rounds, **how):
+    """Returns the seconds with each number of workers of a command, whose third word may be one of the run."""
+    once = lambda workers: seconds_of([*command[:2], "--workers", workers, *command[2:]], **how)
+    return ", ".join(f"{it:.2f}" for it in least(rounds, lambda: [once(it) for it in "124"]))
 
 
 def measure(options):

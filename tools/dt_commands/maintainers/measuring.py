@@ -48,13 +48,13 @@ def running(file, *words):
     return [guest_runs.program(), "run", file, "--bound", BOUND, *words]
 
 
-def seconds_of(*commands, given=None):
-    """Returns how long commands take that are started side by side, each with the input of a file. Each must end with status 0 or 1."""
+def seconds_of(*commands, given=None, statuses=(0, 1)):
+    """Returns how long commands take that are started side by side, each with the input of a file. Each must end with one of the statuses."""
     begun, processes = time.perf_counter(), []
     for command in commands:
         with open(given or "/dev/null", "rb") as source:
             processes.append(subprocess.Popen(command, stdin=source, stdout=subprocess.DEVNULL))
-    if max([it.wait() for it in processes]) > 1:
+    if not {it.wait() for it in processes} <= set(statuses):
         raise SystemExit(f"a run failed: {' '.join(commands[0])}")
     return time.perf_counter() - begun
 

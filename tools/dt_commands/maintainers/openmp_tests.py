@@ -31,6 +31,7 @@ FOLDERS = [("c", "libgomp.c", ".c"), ("c", "libgomp.c-c++-common", ".c"), ("c++"
 # The tests that fail, and why.
 FAILING = {
     "libgomp.c/pr52547.c": "the address of a nested function is code on the stack, where the machine executes none",
+    "libgomp.c-c++-common/pr106449.c": "its arrays take more than the first thread's stack of 256 KiB",
 }
 
 Program = namedtuple("Program", "name language folder file directives")

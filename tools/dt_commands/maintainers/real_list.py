@@ -8,6 +8,8 @@ from dt_commands.texts import contents, read_text
 
 FOLDER = f"{TOP}/tools/guests/real"
 INPUT_BYTES = 1300000
+# Of the formula for a solver.
+HOLES = 7
 
 
 def own_text():
@@ -25,8 +27,30 @@ def numbers():
     return b"".join(b"%d\n" % (number * 7919 % 40009) for number in range(40009))
 
 
+def pictures():
+    """Sixteen pictures of 176 to 144 points in YUV, in which squares move over a slope."""
+    made = bytearray()
+    for number in range(16):
+        for y in range(144):
+            made += bytes((x + 2 * y + (80 if (x - 7 * number) % 44 < 16 and (y + 3 * number) % 36 < 16 else 0)) % 256 for x in range(176))
+        made += bytes((128 + (number + at // 88) % 32) % 256 for at in range(2 * 88 * 72))
+    return bytes(made)
+
+
+def clauses():
+    """A formula that nothing satisfies: HOLES + 1 pigeons, each in a hole, and no two in one."""
+    pigeons = [[HOLES * pigeon + hole + 1 for hole in range(HOLES)] for pigeon in range(HOLES + 1)]
+    pairs = [(-one, -other) for at, first in enumerate(pigeons) for second in pigeons[:at] for one, other in zip(first, second)]
+    lines = [f"p cnf {HOLES * (HOLES + 1)} {len(pigeons) + len(pairs)}", *(f"{' '.join(map(str, it))} 0" for it in [*pigeons, *pairs])]
+    return ("\n".join(lines) + "\n").encode()
+
+
 def nothing():
     return b""
+
+
+# The inputs that a line of the list names.
+GIVEN = {"nothing": nothing, "numbers": numbers, "pictures": pictures, "clauses": clauses}
 
 
 def of_file(name):
@@ -76,7 +100,7 @@ def programs():
         if head == "program":
             found.append(Program(rest))
         elif head == "given":
-            given = {"nothing": nothing, "numbers": numbers}.get(rest) or of_file(rest)
+            given = GIVEN.get(rest) or of_file(rest)
         elif head == "file":
             files[rest] = of_file(rest)
         else:
