@@ -41,6 +41,9 @@ DEBUGGED = [
 # What `dthreads-cargo explore` finds by 100 numbers in the project of samples/rust: of each test how it fails, None if by no number.
 EXPLORED = {"tests::left_out": "ignored", "tests::lost_wakeup": "deadlock", "tests::two_locks": "deadlock", "tests::limit": "panic",
             "tests::flag": None, "tests::refused": None, "plain": None}
+# Words with which `dthreads-cargo explore` explores nothing, and what it says.
+REFUSED = [(["--runs", "2", "--lib", "--", "none"], "no test was explored"), (["--shuffle", "7"], "--shuffle is of one run, and explore has many"),
+           (["--check", "-"], "--check is of one run, and explore has many")]
 # The line of a test, with the commands below it, and a command.
 TOLD = re.compile(r"^(\S+) +(?:\d+ of \d+ pass|\d+ of \d+ fail, first --shuffle \d+ \((\w+)\).*|(ignored))\n((?:    .*\n)*)", re.M)
 COMMAND = re.compile(r"^    dthreads-cargo (test|debug) (.*)$", re.M)
@@ -200,9 +203,9 @@ def test_explored(tally, room):
     for _, kind, _, commands in told:
         if kind in SEEN:
             test_shown(tally, where, kind, COMMAND.findall(commands))
-    others = [called(where, "explore", "--offline", *it) for it in (["--runs", "2", "--lib", "--", "none"], ["--shuffle", "7"])]
+    others = [called(where, "explore", "--offline", *it) for it, _ in REFUSED]
     said = [(it.returncode, it.stdout, it.stderr.splitlines()[-1:]) for it in others]
-    if said != [(1, "", [f"dthreads-cargo: {it}"]) for it in ("no test was explored", "--shuffle is of one run, and explore has many")]:
+    if said != [(1, "", [f"dthreads-cargo: {it}"]) for _, it in REFUSED]:
         tally.fail(f"explored: {said}")
     if sums_of(where) != before:
         tally.fail("explored: files were changed")

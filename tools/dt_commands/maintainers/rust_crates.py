@@ -15,7 +15,7 @@ from dt_commands.texts import contents
 
 FOLDER = f"{guest_runs.KIT}/tests/rust/crates"
 REGISTRY = "/usr/share/cargo/registry"
-PACKAGES = ["arc-swap", "async-channel", "crossbeam", "dashmap", "flume", "futures", "parking-lot", "rayon", "serde-json", "sharded-slab",
+PACKAGES = ["arc-swap", "async-channel", "crossbeam", "dashmap", "flume", "futures", "parking-lot", "rand", "rayon", "serde-json", "sharded-slab",
             "thread-local", "threadpool", "tokio"]
 
 
