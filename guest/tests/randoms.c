@@ -1,4 +1,4 @@
-/* Random numbers as the BSDs have them, and errno by its function. */
+/* Random numbers as the BSDs and Rust's crate getrandom have them, and errno by its function. */
 #include <errno.h>
 #include <pthread.h>
 #include <stdint.h>
@@ -7,6 +7,8 @@
 #include <string.h>
 
 int *__errno(void);
+uint32_t __getrandom_custom(unsigned char *bytes, size_t length);
+uint32_t __getrandom_v03_custom(unsigned char *bytes, size_t length);
 
 static int *elsewhere;
 static uint32_t numbers[3];
@@ -28,6 +30,13 @@ static int differing_bytes(const unsigned char *bytes, int length)
     return differ;
 }
 
+static void ask_as_rust(uint32_t ask(unsigned char *, size_t))
+{
+    unsigned char bytes[1000] = {0};
+    unsigned code = ask(bytes + 1, 998);
+    printf("code %u, bytes %d, ends %d %d\n", code, differing_bytes(bytes + 1, 998) > 900, bytes[0], bytes[999]);
+}
+
 int main(void)
 {
     pthread_t threads[3];
@@ -42,6 +51,9 @@ int main(void)
     unsigned char bytes[1000] = {0};
     arc4random_buf(bytes + 1, 998);
     printf("bytes %d, ends %d %d\n", differing_bytes(bytes + 1, 998) > 900, bytes[0], bytes[999]);
+
+    ask_as_rust(__getrandom_custom);
+    ask_as_rust(__getrandom_v03_custom);
 
     int counts[3] = {0}, beyond = 0;
     for (int i = 0; i < 3000; i++)

@@ -44,6 +44,13 @@ class Lines(WithRoom):
         self.assertEqual((ran.returncode, ran.stderr), (0, ""))
         self.assertEqual(ran.stdout, race.format(" at=one.c:7", " at=/other/two words.c:12", " at=below/three.c:1") + rest)
 
+    def test_an_inlined_place_of_rusts_library_has_the_line_of_the_program(self):
+        self.write("riscv64-unknown-elf-addr2line", ANSWERS, 0o755)
+        self.write("a.elf", "")
+        race = "race address=00018300 bytes=4 load thread=0 turn=1 pc=00010200{} store thread=1 turn=2 pc=00010204{} object=a+0\n"
+        ran = self.lines(race.format("", ""), "a.elf")
+        self.assertEqual(ran.stdout, race.format(" at=one.c:8", " at=/rustc/library/std/src/io/mod.rs:3"))
+
     def as_told(self, *words):
         """Returns what becomes of a list of each other kind of finding, with the symbols of a script that stands for nm."""
         self.write("riscv64-unknown-elf-addr2line", ANSWERS, 0o755)

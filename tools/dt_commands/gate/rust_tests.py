@@ -24,11 +24,14 @@ PACKAGES = {"rustc-web": "/usr/bin/rustc", "cargo-web": "/usr/bin/cargo", "rust-
 EDITION = ["--edition", "2021"]
 # What is made, each part by an option that leaves the others out.
 PARTS = {"programs": "the programs and the projects alone", "std": "std's own tests alone", "crates": "programs over Debian's crates alone"}
-# The programs whose list of races isn't empty: of each access its kind and its line.
-RACY = {
+# The programs whose list of findings isn't empty: of each access its kind and its line, of misuse its kind and the line of the call.
+FOUND = {
     "races": ["store races.rs:15 load races.rs:15", "store races.rs:15 store races.rs:15", "store races.rs:20 store races.rs:20",
               "store races.rs:25 store races.rs:25"],
     "channel_races": ["store channel_races.rs:18 store channel_races.rs:14"],
+    # (LLVM begins fetch_max by a plain load)
+    "no_std": ["store no_std.rs:68 load no_std.rs:68"],
+    "self_locks": ["misuse taken-twice self_locks.rs:9"],
     "lost_update": ["store lost_update.rs:14 load lost_update.rs:14", "store lost_update.rs:14 store lost_update.rs:14"],
 }
 # What `dthreads-cargo debug` is asked for in the project, with words of gdb, and what it says.
@@ -38,16 +41,23 @@ DEBUGGED = [
     ("s", [], r"s: more than one test has this name or part:\n  project: tests::panics\n  project: tests::sums\n"),
     ("other", [], r"other: no test has this name:\n  project: tests::panics\n"),
 ]
+# What `dthreads-cargo test --check -` says of the project's test whose threads race.
+UNORDERED = re.compile(r"^race of 4 bytes, project::tests::COUNT.*\n  store by thread \d+ in turn \S+ +project::tests::count src/lib\.rs:(\d+)"
+                       r"\n  (?:load|store) by thread \d+ in turn \S+ +project::tests::count src/lib\.rs:\1$", re.M)
 # What `dthreads-cargo explore` finds by 100 numbers in the project of samples/rust: of each test how it fails, None if by no number.
 EXPLORED = {"tests::left_out": "ignored", "tests::lost_wakeup": "deadlock", "tests::two_locks": "deadlock", "tests::limit": "panic",
             "tests::flag": None, "tests::refused": None, "plain": None}
+# Words with which `dthreads-cargo explore` explores nothing, and what it says.
+REFUSED = [(["--runs", "2", "--lib", "--", "none"], "no test was explored"),
+           (["--shuffle", "7"], "--shuffle is of one run, and explore has many"),
+           (["--check", "-"], "--check is of one run, and explore has many")]
 # The line of a test, with the commands below it, and a command.
 TOLD = re.compile(r"^(\S+) +(?:\d+ of \d+ pass|\d+ of \d+ fail, first --shuffle \d+ \((\w+)\).*|(ignored))\n((?:    .*\n)*)", re.M)
 COMMAND = re.compile(r"^    dthreads-cargo (test|debug) (.*)$", re.M)
 # What a command says of a test that fails so: by itself, and in gdb.
 SEEN = {"deadlock": ("^deadlock$", "the run ends here: deadlock"), "panic": (r"^test \S+ \.\.\. FAILED$", "the run ends here: exit 101")}
 ACCESS = r"(load|store) \S+ \S+ pc=\S+ at=\S*?([^/\s]+:\d+)"
-RACE = re.compile(rf"race address=\S+ bytes=\d {ACCESS} {ACCESS}")
+FINDING = re.compile(rf"race address=\S+ bytes=\d {ACCESS} {ACCESS}|(misuse \S+) .* in=\S+ at=\S*?([^/\s]+:\d+)")
 
 
 def arguments(parser):
@@ -83,15 +93,21 @@ def compiled(words, out, where):
     return ran.stdout if ran.returncode else None
 
 
-def races_of(elf, words, given, room):
-    """Returns the races of a run, each as RACY writes it."""
-    races = f"{room}/races"
-    command = [f"{guest_runs.KIT}/dthreads-exec", elf, "--check", races, *words]
+def short(line):
+    """Returns a line of a list of findings as FOUND writes it, or whole if it is of another kind."""
+    found = FINDING.match(line)
+    return " ".join(filter(None, found.groups())) if found else line
+
+
+def findings_of(elf, words, given, room):
+    """Returns the findings of a run, each as FOUND writes it."""
+    findings = f"{room}/findings"
+    command = [f"{guest_runs.KIT}/dthreads-exec", elf, "--check", findings, *words]
     with open(given or os.devnull, "rb") as it:
         subprocess.run(command, stdin=it, stdout=subprocess.DEVNULL, stderr=subprocess.DEVNULL, env=environment())
-    with open(races, "rb") as it:
+    with open(findings, "rb") as it:
         told = subprocess.run([f"{guest_runs.KIT}/dthreads-lines", elf], stdin=it, stdout=subprocess.PIPE, errors="replace").stdout
-    return [" ".join(RACE.match(line).groups()) if RACE.match(line) else line for line in told.splitlines()]
+    return [short(it) for it in told.splitlines()]
 
 
 def environment():
@@ -122,7 +138,7 @@ class Case:
 
 
 def test_program(tally, room, case, with_host):
-    """Builds and runs a program: output, status, one trace, and its races."""
+    """Builds and runs a program: output, status, one trace, and its findings."""
     elf = f"{room}/{case.name}.elf"
     said = compiled([*EDITION, *case.of_compiler, f"{case.name}.rs"], elf, case.where)
     if said is not None:
@@ -130,9 +146,9 @@ def test_program(tally, room, case, with_host):
         return
     guest = guest_runs.Guest([f"{guest_runs.KIT}/dthreads-exec", elf], case.words, case.given, environment=environment())
     guest_runs.agree(tally, case.name, guest, room, case.wanted, case.status)
-    found, wanted = races_of(elf, case.words, case.given, room), RACY.get(case.name, [])
+    found, wanted = findings_of(elf, case.words, case.given, room), FOUND.get(case.name, [])
     if found != wanted:
-        tally.fail(f"{case.name}: the races {found[:5]}, wanted {wanted}")
+        tally.fail(f"{case.name}: the findings {found[:5]}, wanted {wanted}")
     if with_host and case.is_like_host:
         output, status = of_host(f"{case.where}/{case.name}.rs", case.words, case.given, room)
         if (output, status) != (case.wanted, case.status):
@@ -200,9 +216,9 @@ def test_explored(tally, room):
     for _, kind, _, commands in told:
         if kind in SEEN:
             test_shown(tally, where, kind, COMMAND.findall(commands))
-    others = [called(where, "explore", "--offline", *it) for it in (["--runs", "2", "--lib", "--", "none"], ["--shuffle", "7"])]
+    others = [called(where, "explore", "--offline", *it) for it, _ in REFUSED]
     said = [(it.returncode, it.stdout, it.stderr.splitlines()[-1:]) for it in others]
-    if said != [(1, "", [f"dthreads-cargo: {it}"]) for it in ("no test was explored", "--shuffle is of one run, and explore has many")]:
+    if said != [(1, "", [f"dthreads-cargo: {it}"]) for _, it in REFUSED]:
         tally.fail(f"explored: {said}")
     if sums_of(where) != before:
         tally.fail("explored: files were changed")
@@ -216,10 +232,13 @@ def test_project(tally, room):
     for words in (["run", "--", "one", "two"], ["run", "--release", "--workers", "4", "--check", "-"], ["test", "--workers=2"], ["bench"]):
         ran = called(where, words[0], "--offline", *words[1:])
         said += f"$ {' '.join(words)}\n{without_times(ran.stdout)}status {ran.returncode}\n"
-        if "race " in ran.stderr or "error" in ran.stderr:
+        if re.search(r"^(race|freed|order|misuse) |error", ran.stderr, re.M):
             tally.fail(f"project: {ran.stderr[-600:]}")
     if said.encode() != contents(f"{FOLDER}/project.out"):
         tally.fail(f"project: {first_difference(said.encode(), contents(f'{FOLDER}/project.out'))}")
+    ran = called(where, "test", "--offline", "--lib", "--check", "-", "unordered")
+    if ran.returncode or not UNORDERED.search(ran.stderr):
+        tally.fail(f"project: test --check -: status {ran.returncode}: {ran.stdout[-300:]}{ran.stderr[-600:]}")
     test_debugger(tally, where)
     after = sums_of(where)
     if after != before:
@@ -227,7 +246,7 @@ def test_project(tally, room):
 
 
 def test_stealing(tally, room):
-    """Builds and runs the sample whose sum rayon's threads share: it prints stealing.out, in one trace, without a race."""
+    """Builds and runs the sample whose sum rayon's threads share: it prints stealing.out, in one trace, without a finding."""
     if rust_crates.missing(["rayon"]):
         print("stealing: left out, librust-rayon-dev is missing: apt-get install librust-rayon-dev")
         return
@@ -240,9 +259,9 @@ def test_stealing(tally, room):
     elf = f"{where}/target/riscv32im-dthreads/release/stealing"
     guest = guest_runs.Guest([f"{guest_runs.KIT}/dthreads-exec", elf], environment=environment())
     guest_runs.agree(tally, "stealing", guest, room, contents(f"{SAMPLES}/stealing.out"), 0)
-    found = races_of(elf, [], None, room)
+    found = findings_of(elf, [], None, room)
     if found:
-        tally.fail(f"stealing: races {found[:3]}")
+        tally.fail(f"stealing: findings {found[:3]}")
 
 
 def test_page(tally, room):
@@ -262,7 +281,7 @@ def tasks(options):
 def test_programs(options):
     """Makes the programs and the project."""
     return guest_runs.all_tried("programs in Rust", guest_runs.share(options.share, tasks(options)), lambda tally, room, it: it[1](tally, room),
-                                ", each with 1, 2, 4 and 64 workers: the wanted output and races, and one trace")
+                                ", each with 1, 2, 4 and 64 workers: the wanted output and findings, and one trace")
 
 
 def has_any(part, options):

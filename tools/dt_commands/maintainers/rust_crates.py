@@ -15,7 +15,7 @@ from dt_commands.texts import contents
 
 FOLDER = f"{guest_runs.KIT}/tests/rust/crates"
 REGISTRY = "/usr/share/cargo/registry"
-PACKAGES = ["arc-swap", "async-channel", "crossbeam", "dashmap", "flume", "futures", "parking-lot", "rayon", "serde-json", "sharded-slab",
+PACKAGES = ["arc-swap", "async-channel", "crossbeam", "dashmap", "flume", "futures", "parking-lot", "rand", "rayon", "serde-json", "sharded-slab",
             "thread-local", "threadpool", "tokio"]
 
 
@@ -49,7 +49,7 @@ def test(options):
             elf = f"{where}/target/riscv32im-dthreads/debug/{name}"
             guest = guest_runs.Guest([f"{guest_runs.KIT}/dthreads-exec", elf], environment=rust_tests.environment())
             guest_runs.agree(tally, name, guest, room, contents(f"{FOLDER}/{name}.out"), 0)
-            found = rust_tests.races_of(elf, [], None, room)
+            found = rust_tests.findings_of(elf, [], None, room)
             if found:
-                tally.fail(f"{name}: races {found[:3]}")
-    return tally.status("programs over Debian's crates", ", each with 1, 2, 4 and 64 workers: the wanted output and one trace, no race")
+                tally.fail(f"{name}: findings {found[:3]}")
+    return tally.status("programs over Debian's crates", ", each with 1, 2, 4 and 64 workers: the wanted output and one trace, no finding")

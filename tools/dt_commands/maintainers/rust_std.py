@@ -34,7 +34,7 @@ OUTCOME = re.compile(r"^(\S+) +(\d+) of \d+ (pass|fail)(.*)$", re.M)
 CRATES = {"rand": [], "rand_xorshift": ["--extern=rand"]}
 PASSED = re.compile(r"^test result: ok\. (\d+) passed; 0 failed; (\d+) ignored; 0 measured; (\d+) filtered out", re.M)
 # A part is run with each of these numbers of workers, and with as many tests at a time.
-WORKERS, AT_A_TIME = (4, 1), 4
+WORKERS, AT_A_TIME = (4, 1, 2, 64), 4
 
 
 def run(elf, part, workers, room):
@@ -115,4 +115,4 @@ def test(options):
         build_crates(room)
         for name, part in progress.each(chosen, lambda it: it[0]):
             test_part(tally, room, name, part, options.numbers)
-    return tally.status("parts of std's own tests", ": all of them passed, alike with 1 and 4 workers")
+    return tally.status("parts of std's own tests", ": all of them passed, alike with 1, 2, 4 and 64 workers")

@@ -39,4 +39,19 @@ mod tests {
     fn target() {
         assert_eq!(TARGET, "riscv32im-dthreads");
     }
+
+    static mut COUNT: u32 = 0;
+
+    fn count() {
+        unsafe { COUNT += 1 }
+    }
+
+    /// Nothing orders the two threads.
+    #[test]
+    fn unordered() {
+        thread::scope(|s| {
+            s.spawn(count);
+            s.spawn(count);
+        });
+    }
 }

@@ -1,8 +1,8 @@
-//! rayon: a pool that steals work, sorting, maps that are joined, and a panic in a job.
+//! rayon: a pool that steals work, with a thread for each processor, sorting, maps that are joined, and a panic in a job.
 
 use rayon::prelude::*;
 fn main() {
-    rayon::ThreadPoolBuilder::new().num_threads(4).build_global().unwrap();
+    rayon::ThreadPoolBuilder::new().build_global().unwrap();
     let s: u64 = (0..20_000u64).into_par_iter().map(|x| x * x % 7).sum();
     println!("sum {s} threads {}", rayon::current_num_threads());
     let mut v: Vec<u32> = (0..5000u32).map(|x| x.wrapping_mul(2654435761) % 10007).collect();
