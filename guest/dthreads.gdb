@@ -3,6 +3,11 @@
 # How many seconds gdb waits for an answer: a busy host may take longer than gdb's two to start the program.
 set remotetimeout 30
 
+# A run is read-only: gdb says so itself, without asking.
+set may-write-memory off
+set may-write-registers off
+set may-call-functions off
+
 define turn
   if $argc == 1
     pipe monitor turn $arg0 | { ! grep "no such position"; }

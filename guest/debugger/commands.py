@@ -18,11 +18,12 @@ from diff import Diff
 from origin import Origin
 from races import Race, Races
 from session import end_session
-from threads import Ends, Tls, name_threads, note_stop
+from threads import Ends, Tls, hook_back, name_threads, note_stop
 
 gdb.execute(f"source {os.path.dirname(HERE)}/dthreads.gdb")
 for command in (Dthreads, Races, Race, Origin, Diff, Ends, Tls):
     command(command.__name__.lower())
+hook_back()
 gdb.events.exited.connect(end_session)
 gdb.events.stop.connect(note_stop)
 gdb.events.before_prompt.connect(name_threads)

@@ -128,3 +128,20 @@ def name_threads():
         told = name_of(guest, data[guest * size :], created, name)
         if thread.name != told:
             thread.name = told
+
+
+# The commands that go back. gdb names no thread for a step back, and `thread apply` asks for other threads than the selected one.
+BACK = ["reverse-step", "reverse-next", "reverse-stepi", "reverse-continue", "reverse-finish"]
+
+
+def ask_for_selected():
+    """Asks for the selected thread, so that it is the one that a step back means."""
+    thread, connection = gdb.selected_thread(), gdb.selected_inferior().connection
+    if thread is not None and isinstance(connection, gdb.RemoteTargetConnection):
+        connection.send_packet(f"T{thread.ptid[1]:x}")
+
+
+def hook_back():
+    """Has each command that goes back ask for the selected thread first."""
+    for name in BACK:
+        gdb.execute(f"define hook-{name}\npython import threads; threads.ask_for_selected()\nend")

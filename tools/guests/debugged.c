@@ -1,5 +1,6 @@
 /* What tools/dt measure debugger debugs: one thread that executes 100 million instructions, or four that take a million turns, or as many
- * as SECTIONS says; with LARGE there are 512 KiB of code beside it, which nobody calls. */
+ * as SECTIONS says; with LARGE there are 512 KiB of code beside it, which nobody calls. With ROUNDS it is one thread that calls a function
+ * so often, and with LINE one that executes so many rounds of some five instructions in one line. */
 #include <pthread.h>
 #include <stdint.h>
 
@@ -12,13 +13,14 @@ __asm__(".section .text.unused, \"axR\"\n.rept 131072\nnop\n.endr\n.previous");
 #endif
 
 volatile uint32_t word;
+volatile uint32_t idle = 1;
 uint32_t many[1024];
 static pthread_mutex_t mutex = PTHREAD_MUTEX_INITIALIZER;
 static volatile uint32_t counter;
 
 __attribute__((noinline)) void never(void)
 {
-    word = 7;
+    word = 7 * idle;
 }
 
 /* It stores to the page of the word all the time. */
@@ -34,6 +36,26 @@ __attribute__((noinline)) void compute(void)
     word = x;
 }
 
+#ifdef ROUNDS
+__attribute__((noinline)) void visit(uint32_t round)
+{
+    word = round;
+}
+#endif
+
+#ifdef LINE
+__attribute__((noinline)) void after(void)
+{
+    word = 0;
+}
+
+__attribute__((noinline)) void one_line(void)
+{
+    for (uint32_t i = 0; i < LINE; i++) word += i;
+    after();
+}
+#endif
+
 static void *take_turns(void *argument)
 {
     for (int i = 0; i < SECTIONS; i++) {
@@ -48,7 +70,14 @@ static void *take_turns(void *argument)
 
 int main(void)
 {
-#ifdef TURNS
+#if defined ROUNDS
+    for (uint32_t i = 0; i < ROUNDS; i++)
+        visit(i);
+    return 0;
+#elif defined LINE
+    one_line();
+    return 0;
+#elif defined TURNS
     pthread_t threads[4];
     for (int i = 0; i < 4; i++)
         pthread_create(&threads[i], NULL, take_turns, NULL);
