@@ -53,7 +53,8 @@ RACY = {
     "race": ["counter: store add, load add", "counter: store add, store add"],
     "interrupts": ["inside: load main, store reads", "inside: store reads, load main"],
     "spins": ["flag: load main, store sets"],
-    "sleepers": ["slept: store sleeps, load deadlines", "stop: load computes, store main"],
+    "sleepers": ["slept: store sleeps, load deadlines", "stop: load computes, store main", *["stop: load writes, store main"] * 2],
+    "relocks": ["m: taken-twice in main", "came: store handler, load sends"],
 }
 LINE = re.compile(
     r"race address=[0-9a-f]{8} bytes=\d (load|store) thread=\d+ turn=\d+\+\d+ pc=[0-9a-f]{8} (load|store) thread=\d+ turn=\d+\+\d+ pc=[0-9a-f]{8}"
