@@ -1,13 +1,11 @@
 /* Sleepers beside threads that compute without a call: the run has a quantum, and the sleepers move the clock. Beside a thread
  * whose calls take no turn, these calls move it. */
 #include <pthread.h>
-#include <stdbool.h>
 #include <stdio.h>
 #include <time.h>
 #include <unistd.h>
 
 static volatile int stop, slept;
-static pthread_mutex_t lock = PTHREAD_MUTEX_INITIALIZER;
 
 static void *computes(void *argument)
 {
@@ -34,34 +32,6 @@ static void beside_texts(void)
     stop = 1;
     pthread_join(writing, NULL);
     puts("slept beside texts");
-}
-
-/* Computes in rounds, after each of which it asks whether to go on. */
-static void *rounds(void *argument)
-{
-    for (bool is_last = false; !is_last;) {
-        for (volatile int i = 0; i < 12000; i++)
-            ;
-        pthread_mutex_lock(&lock);
-        is_last = stop;
-        pthread_mutex_unlock(&lock);
-    }
-    return argument;
-}
-
-static void beside_rounds(void)
-{
-    pthread_t computing[3];
-    stop = 0;
-    for (int i = 0; i < 3; i++)
-        pthread_create(&computing[i], NULL, rounds, NULL);
-    sleep(1);
-    pthread_mutex_lock(&lock);
-    stop = 1;
-    pthread_mutex_unlock(&lock);
-    for (int i = 0; i < 3; i++)
-        pthread_join(computing[i], NULL);
-    puts("slept beside rounds");
 }
 
 static void *sleeps(void *argument)
@@ -104,6 +74,5 @@ int main(void)
         pthread_join(computing[i], NULL);
     printf("%ld seconds\n", (long)(after.tv_sec - before.tv_sec));
     beside_texts();
-    beside_rounds();
     return 0;
 }

@@ -288,23 +288,15 @@ static bool is_watcher(const struct dthreads_thread *thread)
            (!monitor.watcher || monitor.watcher == thread || monitor.watcher->deadline > thread->deadline);
 }
 
-/* By how much the watcher moves the clock after a phase: more from phase to phase, and far more if no operation moved it in this one. In a
- * run with a number, operations keep it from doing so. */
-static uint64_t next_step(uint64_t step, bool has_moved)
-{
-    if (!has_moved)
-        return step ? step * 4 : DTHREADS_OPERATION_TIME;
-    return varies() ? 0 : step + DTHREADS_OPERATION_TIME;
-}
-
-/* Lets a phase pass, in which the others have their turns, and moves the clock by `step`, which grows. */
+/* Lets a phase pass, in which the others have their turns. If no operation moved the clock in it, the watcher does, by `step`, which
+ * grows from phase to phase. */
 static void watch(struct dthreads_thread *thread, uint64_t *step)
 {
     uint64_t moves = monitor.moves;
     monitor.watcher = thread;
     dthreads_unlock(MONITOR_MUTEX);
     dthreads_lock(MONITOR_MUTEX);
-    *step = next_step(*step, monitor.moves != moves);
+    *step = monitor.moves != moves ? 0 : *step ? *step * 4 : DTHREADS_OPERATION_TIME;
     if (thread->woken || *step == 0)
         return;
     monitor.clock = monitor.earliest - monitor.clock > *step ? monitor.clock + *step : monitor.earliest;

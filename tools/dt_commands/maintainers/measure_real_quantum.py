@@ -34,7 +34,7 @@ def lines():
 MEASURED = {
     "pigz": (["-p4", "-n", "-c"], own_text),
     "lbzip2": (["-n", "4", "-1", "-c"], lambda: own_text()[:600000]),
-    "7zz": (["a", "-txz", "-mx1", "-mmt4", "-si", "-so", "text"], lambda: (own_text() * 4)[:4 << 20]),
+    "7zz": (["a", "-txz", "-mx1", "-mmt4", "-si", "-so", "text"], lambda: own_text() * 4),
     "sort of coreutils": (["--parallel=4", "-S", "40M", "-o", "/tmp/sorted"], lines),
     "cryptominisat": (["--threads", "4", "--verb", "0"], clauses),
     "x264": (["--threads", "4", "--qp", "26", "--demuxer", "raw", "--input-res", "176x144", "--muxer", "raw", "-o", "-", "-"], pictures),
