@@ -1,9 +1,11 @@
 pub mod Accesses
 pub mod Arithmetic
 pub mod Cause
+pub mod Does
 pub mod Executes
 pub mod Flows
 pub mod HartState
+pub mod Moves
 pub mod Nears
 pub mod Next
 pub mod Places

@@ -1,19 +1,29 @@
 //! A hart of RV32IM: its registers and pc, one instruction, and a segment up to a stop, over any guest memory.
 #![tactic(auto)]
 
+mod access_steps;
 mod arithmetic;
+mod block_run;
 mod cause;
 mod control;
+mod done;
 mod execute;
 mod flow;
+mod forms;
 mod instruction;
 mod instruction_place;
+mod jump_steps;
+mod kind_step;
 mod memory_access;
+mod moved;
+mod moving;
 mod near;
 mod near_run;
 mod one_step;
+mod operation_steps;
 mod reached;
 mod segment;
+mod single_run;
 mod slice_end;
 mod state;
 mod stepped;
