@@ -32,7 +32,7 @@ impl Actor {
         ensures { result ≡ spec.load_site self pc }
     {
         Site {
-            thread: self.thread,
+            thread: u32::from(self.thread),
             turn: self.turn,
             instruction: self.instruction,
             pc,
@@ -46,7 +46,7 @@ impl Actor {
         ensures { result ≡ spec.store_site self pc }
     {
         Site {
-            thread: self.thread,
+            thread: u32::from(self.thread),
             turn: self.turn,
             instruction: self.instruction,
             pc,

@@ -60,12 +60,12 @@ module _ (old new : BTreeMap ℕ Clock) (key : ℕ) (clock : Clock) (puts : (oth
 
 -- ---- a clock in a list
 
--- clocks without times, and one more
-pub zeros_more : (clocks : List Clock) (clock : Clock) → ((thread : ℕ) → time clock thread ≡ 0) → ((key thread : ℕ) → time_of clocks key thread ≡ 0) → (key thread : ℕ) → time_of (clocks ++ clock ∷ []) key thread ≡ 0
-zeros_more [] clock zeros none zero thread = zeros thread
-zeros_more [] clock zeros none (suc key) thread = refl
-zeros_more (first ∷ clocks) clock zeros none zero thread = none zero thread
-zeros_more (first ∷ clocks) clock zeros none (suc key) thread = zeros_more clocks clock zeros (λ k t. none (suc k) t) key thread
+-- one more clock, without times
+pub zeros_more : (clocks : List Clock) (clock : Clock) → ((thread : ℕ) → time clock thread ≡ 0) → (key thread : ℕ) → time_of (clocks ++ clock ∷ []) key thread ≡ time_of clocks key thread
+zeros_more [] clock zeros zero thread = zeros thread
+zeros_more [] clock zeros (suc key) thread = refl
+zeros_more (first ∷ clocks) clock zeros zero thread = refl
+zeros_more (first ∷ clocks) clock zeros (suc key) thread = zeros_more clocks clock zeros key thread
 
 pub get_set : {X : Type 0} (xs : List X) (key : ℕ) (x : X) → key < length xs → slice_get (set xs key x) key ≡ Some x
 get_set [] key x inside = absurd (omega arith)
@@ -103,6 +103,11 @@ IsKeyJoined old new key past = (other thread index : ℕ) → (index < time_in n
 -- and to the clock of a thread
 abbrev pub IsThreadJoined : (old new : List Clock) (key : ℕ) (past : ℕ → ℕ) → Type 0
 IsThreadJoined old new key past = (other thread index : ℕ) → (index < time_of new other thread) ↔ ((index < time_of old other thread) ⊎ ((key ≡ other) × (index < past thread)))
+
+-- joined after a change by which no time changed
+pub joined_same : (old mid new : List Clock) (key : ℕ) (past : ℕ → ℕ) → ((other thread : ℕ) → time_of mid other thread ≡ time_of old other thread) → IsThreadJoined mid new key past → IsThreadJoined old new key past
+joined_same old mid new key past same joined other thread index =
+    subst (λ (n : ℕ). (index < time_of new other thread) ↔ ((index < n) ⊎ ((key ≡ other) × (index < past thread)))) (same other thread) (joined other thread index)
 
 -- and to the clock of a place
 abbrev pub IsPlaceJoined : (old new : ClockOwner → ℕ → ℕ) (place : ClockOwner) (past : ℕ → ℕ) → Type 0

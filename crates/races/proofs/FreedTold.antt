@@ -1,15 +1,17 @@
 -- What a recorder of accesses of dead bytes has recorded with one event more.
-use Rattle.std.proofs.Common.{◌≡◌, ℕ, zero, suc, ◌+◌, ◌/◌, ◌≤◌, ◌<◌, Bool, true, false, cond, List, [], ◌∷◌, ◌++◌, refl, sym, ◌∙◌, ap, subst, arith, append_assoc, ⊎_elim}
-use Rattle.std.specs.Prelude.{◌⊎◌, ◌↔◌, ◌==◌, Contains, Result, Ok, Err, OnOk}
+use Rattle.std.proofs.Common.{◌≡◌, ℕ, zero, suc, ◌+◌, ◌*◌, ◌/◌, ◌≤◌, ◌<◌, Bool, true, false, cond, Option, Some, List, [], ◌∷◌, ◌++◌, length, refl, sym, ◌∙◌, ap, subst, arith, append_assoc, ⊎_elim}
+use Rattle.std.specs.Prelude.{◌⊎◌, ◌↔◌, ◌==◌, ◌&&◌, if◌then◌else◌, Contains, Result, Ok, Err, OnOk}
 use Rattle.std.proofs.lemmas.List.{append-nil}
 use Rattle.races.specs.Bytes.{has}
 use Rattle.races.specs.Freed.{AreFreed, Tells}
 use Rattle.races.specs.FreedParts.{Holds, IsCut, IsKilled, Parts}
 use Rattle.races.specs.FreedRecording.{AddsLives, AreListed, AreLive, IsLiveIn, KnowsLives, RecordsFreed, said_by}
-use Rattle.races.specs.Recording.{IsSaid, said_from, said_in}
+use Rattle.races.specs.Recording.{IsSaid}
 use Rattle.races.specs.Lives.{IsDead, Life, byte_at, lives_by, lives_from, lives_in, lives_of, use_of, uses, uses_in}
 use Rattle.races.specs.Ranges as ranges
-use Rattle.races.specs.Steps.{Said, said_after, unsaid}
+use Rattle.races.specs.Actors.{IsHeard}
+use Rattle.races.specs.LibraryUsers.{begins}
+use Rattle.races.specs.Steps.{Said, acted, said_after, said_from, said_in, unsaid}
 use Rattle.races.specs.Lives.Life.{Use, Die, Live}
 use Rattle.races.specs.declared.byte_set.ByteSet.{ByteSet}
 use Rattle.races.specs.declared.freed_access.FreedAccess.{FreedAccess}
@@ -26,6 +28,7 @@ use Rattle.races.specs.declared.observed_event.ObservedEvent.{ObservedEvent}
 use Rattle.races.specs.declared.observed_event.ObservedEvent.TheVariants as event
 use Rattle.races.specs.declared.site.Access.{Access}
 use Rattle.races.specs.declared.site.Site.{Site}
+use Rattle.races.proofs.Telling.{same_said}
 use Rattle.races.proofs.Freeing.{IsCovered, freed_covered, freed_new, freed_other, knows_killed, knows_revived, knows_used}
 
 pub both_ok : {T E : Type 0} (P Q : Type 0) (result : Result T E) → OnOk result P → OnOk result Q → OnOk result (P × Q)
@@ -196,20 +199,41 @@ pub records_same : (recorder : FreedRecorder) (history : List ObservedEvent) (is
 records_same recorder history is_broken records = record { said = records.said; lives = records.lives }
 
 -- what is looked at of an access
-pub uses_outside : (said : Said) (access : Access) → (said.depth access.site.thread == 0) ≡ true → lives_of said (event.Access access) ≡ uses access
-uses_outside said access is = ap (λ (b : Bool). cond b (uses access) []) is
+pub uses_outside : (said : Said) (access : Access) → (said.depth access.site.thread == 0) ≡ true → lives_of said (event.Access access) ≡ uses (acted said access)
+uses_outside said access is = ap (λ (b : Bool). cond b (uses (acted said access)) []) is
 
 pub uses_inside : (said : Said) (access : Access) → (said.depth access.site.thread == 0) ≡ false → lives_of said (event.Access access) ≡ []
-uses_inside said access is = ap (λ (b : Bool). cond b (uses access) []) is
+uses_inside said access is = ap (λ (b : Bool). cond b (uses (acted said access)) []) is
 
-adds_seen : (kept : FreedLives) (said : Said) (access : Access) → AddsLives kept (uses access) kept → (is_outside : Bool) → (said.depth access.site.thread == 0) ≡ is_outside → AddsLives kept (lives_of said (event.Access access)) kept
+adds_seen : (kept : FreedLives) (said : Said) (access : Access) → AddsLives kept (uses (acted said access)) kept → (is_outside : Bool) → (said.depth access.site.thread == 0) ≡ is_outside → AddsLives kept (lives_of said (event.Access access)) kept
 adds_seen kept said access adds true is = subst (λ (more : List Life). AddsLives kept more kept) (sym (uses_outside said access is)) adds
 adds_seen kept said access adds false is = subst (λ (more : List Life). AddsLives kept more kept) (sym (uses_inside said access is)) (adds_nothing kept)
 
+-- what was said stays after a hint by which nobody begins
+pub says_plain : (kept said : Said) (hint : HintEvent) → begins hint.kind ≡ false → IsSaid kept said → IsSaid kept (said_after said (event.Hint hint))
+says_plain kept said hint none is = record {
+  depth = is.depth;
+  caller = is.caller;
+  length = is.length;
+  began = λ thread. is.began thread ∙ sym (ap (λ (b : Bool). if b && (hint.site.thread == thread) then Some (length said.numbers * 2 + 1) else said.began thread) none);
+  numbers = is.numbers ∙ sym (ap (λ (b : Bool). if b then said.numbers ++ hint.object ∷ [] else said.numbers) none);
+}
+
+-- and after each hint
+pub says_hint : (kept said : Said) (new : ℕ → Option ℕ) (more : List ℕ) (hint : HintEvent) → IsSaid kept said → IsHeard kept.began kept.numbers (event.Hint hint) new more
+    → IsSaid (record kept { began = new; numbers = more }) (said_after said (event.Hint hint))
+says_hint kept said new more hint is heard =
+    subst (λ (one : Said). IsSaid (record kept { began = new; numbers = more }) (said_after one (event.Hint hint))) (same_said kept said is)
+    (record { depth = λ thread. refl; caller = λ thread. refl; length = λ thread. refl; began = heard.began_is; numbers = heard.numbers_are })
+
+-- who makes an access
+pub acted_same : (kept said : Said) (access : Access) → IsSaid kept said → acted kept access ≡ acted said access
+acted_same kept said access is = ap (λ (one : Said). acted one access) (same_said kept said is)
+
 -- an access that changes nothing, in a library region or not
-pub records_seen : (recorder : FreedRecorder) (access : Access) → AddsLives recorder.lives (uses access) recorder.lives → (history : List ObservedEvent) → RecordsFreed recorder history → RecordsFreed recorder (history ++ event.Access access ∷ [])
-records_seen recorder access adds history = records_more recorder recorder history (event.Access access) (λ said is. record { depth = is.depth; caller = is.caller; length = is.length })
-    (λ said is. adds_seen recorder.lives said access adds (said.depth access.site.thread == 0) refl)
+pub records_seen : (recorder : FreedRecorder) (access : Access) → ((said : Said) → AddsLives recorder.lives (uses (acted said access)) recorder.lives) → (history : List ObservedEvent) → RecordsFreed recorder history → RecordsFreed recorder (history ++ event.Access access ∷ [])
+records_seen recorder access adds history = records_more recorder recorder history (event.Access access) (λ said is. record { depth = is.depth; caller = is.caller; length = is.length; began = is.began; numbers = is.numbers })
+    (λ said is. adds_seen recorder.lives said access (adds said) (said.depth access.site.thread == 0) refl)
 
 pub lives_none : (said : Said) (next : ObservedEvent) → ((access : Access) → next ≡ event.Access access → ⊥) → ((address long : ℕ) → next ≡ event.Fresh address long → ⊥) → ((hint : HintEvent) → next ≡ event.Hint hint → ⊥) → lives_of said next ≡ []
 lives_none said (event.Access access) no_access no_fresh no_hint = absurd (no_access access refl)

@@ -12,6 +12,7 @@ pub mod Kept
 pub mod Linked
 pub mod Locking
 pub mod Mapped
+pub mod Named
 pub mod Noting
 pub mod Order
 pub mod Paged

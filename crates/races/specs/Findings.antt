@@ -1,17 +1,14 @@
 -- What is found in a run.
 use Rattle.std.specs.Prelude.{◌≡◌, ℕ, ◌+◌, ◌*◌, ◌^◌, List, [], ◌∷◌, ◌++◌, IsPermutation, map}
 use Rattle.std.specs.List.Sorted.{IsNonDecreasingBy}
-use Rattle.races.specs.Freed.{AreFreed}
 use Rattle.races.specs.FreedRecording.{RecordsFreed}
 use Rattle.races.specs.LibraryUsers.{hints_in}
-use Rattle.races.specs.Lives.{lives_in}
 use Rattle.races.specs.LockOrder.{AreFaults, acquired_in}
 use Rattle.races.specs.LockRecording.{OrderRecords}
 use Rattle.races.specs.MisuseRecording.{MisuseRecords}
 use Rattle.races.specs.Misuses.{misuses_in}
-use Rattle.races.specs.Races.{AreRaces}
+use Rattle.races.specs.Names.{AreNamedFreed, AreNamedRaces}
 use Rattle.races.specs.Recording.{Records}
-use Rattle.races.specs.Steps.{steps_in}
 use Rattle.races.specs.declared.finding.Finding.{Finding}
 use Rattle.races.specs.declared.finding.Finding.TheVariants as found
 use Rattle.races.specs.declared.finding_recorder.FindingRecorder.{FindingRecorder}
@@ -43,8 +40,8 @@ pub record AreFindings (history : List ObservedEvent) (findings : List Finding) 
   pub freed : List FreedAccess
   pub faults : List OrderFault
   pub misuses : List Misuse
-  pub are_races : AreRaces (steps_in history) races
-  pub are_freed : AreFreed (lives_in history) freed
+  pub are_races : AreNamedRaces history races
+  pub are_freed : AreNamedFreed history freed
   pub are_faults : AreFaults (acquired_in (hints_in history)) faults
   pub are_misuses : misuses ≡ misuses_in (hints_in history)
   pub all : IsPermutation (found_in races freed faults misuses) findings

@@ -6,8 +6,9 @@ use Rattle.std.specs.declared.alloc.Global.{Global}
 use Rattle.races.specs.Freed.{AreFreed}
 use Rattle.races.specs.FreedParts.{Holds, Parts}
 use Rattle.races.specs.Lives.{IsDead, Life, byte_at, lives_in}
-use Rattle.races.specs.Recording.{IsSaid, caller_of, depth_of, length_of, said_in}
-use Rattle.races.specs.Steps.{Said}
+use Rattle.races.specs.Actors.{began_of}
+use Rattle.races.specs.Recording.{IsSaid, caller_of, depth_of, length_of}
+use Rattle.races.specs.Steps.{Said, said_in}
 use Rattle.races.specs.declared.freed_access.FreedAccess.{FreedAccess}
 use Rattle.races.specs.declared.freed_block.FreedBlock.{FreedBlock}
 use Rattle.races.specs.declared.freed_lives.FreedLives.{FreedLives}
@@ -57,7 +58,7 @@ AddsLives old more new = (lives : List Life) → KnowsLives old lives → KnowsL
 
 -- what is kept of what was said
 abbrev pub said_by : FreedSaid → Said
-said_by kept = record { depth = depth_of kept.depths; caller = caller_of kept.callers; length = length_of kept.lengths }
+said_by kept = record { depth = depth_of kept.depths; caller = caller_of kept.callers; length = length_of kept.lengths; began = began_of kept.actors; numbers = kept.actors.numbers.items }
 
 -- A recorder was told a history.
 pub record RecordsFreed (recorder : FreedRecorder) (history : List ObservedEvent) : Type 0 where

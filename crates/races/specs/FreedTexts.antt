@@ -7,7 +7,7 @@ use Rattle.races.specs.LockTexts.{place_or_text}
 use Rattle.races.specs.Texts.{lowest, place_text, site_text, size_of}
 use Rattle.races.specs.declared.freed_access.FreedAccess.{FreedAccess}
 use Rattle.races.specs.declared.freed_block.FreedBlock.{FreedBlock}
-use Rattle.races.specs.declared.hint_event.HintSite.{HintSite}
+use Rattle.races.specs.declared.library_call.LibraryCall.{LibraryCall}
 
 -- the address of the lowest of its bytes
 abbrev pub address_of : FreedAccess → ℕ
@@ -18,11 +18,11 @@ unfoldable pub dead_text : FreedAccess → List ℕ
 dead_text freed = codes "freed address=" ++ hexadecimal 8 (address_of freed) ++ codes " bytes=" ++ decimal (size_of freed.bytes)
 
 -- when they died: the turn, and how many instructions the thread executed in it before
-unfoldable pub death_text : HintSite → List ℕ
+unfoldable pub death_text : LibraryCall → List ℕ
 death_text site = codes " turn=" ++ decimal site.turn ++ codes "+" ++ decimal site.instruction
 
 -- who let them die
-unfoldable pub freer_text : HintSite → List ℕ
+unfoldable pub freer_text : LibraryCall → List ℕ
 freer_text site = codes " freed-by thread=" ++ decimal site.thread ++ death_text site
 
 -- the object of the lowest byte, and the functions of the access and of who let it die; if none covers the latter, the place itself

@@ -1,3 +1,4 @@
+pub mod Actors
 pub mod Before
 pub mod Blocks
 pub mod Bytes
@@ -19,6 +20,7 @@ pub mod LockRecording
 pub mod LockTexts
 pub mod MisuseRecording
 pub mod Misuses
+pub mod Names
 pub mod Races
 pub mod Ranges
 pub mod Recent

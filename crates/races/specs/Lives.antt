@@ -2,12 +2,13 @@
 use Rattle.std.specs.Prelude.{◌≡◌, ℕ, ◌+◌, ◌*◌, ◌/◌, ◌<◌, ◌≤◌, ◌==◌, Bool, true, false, if◌then◌else◌, min, Option, unwrap_or, List, [], ◌∷◌, ◌++◌, slice_index_or}
 use Rattle.races.specs.Bytes.{has}
 use Rattle.races.specs.Ranges as ranges
-use Rattle.races.specs.Steps.{Said, atomic_site, said_after, unsaid}
+use Rattle.races.specs.Steps.{Said, acted, actor_in, atomic_site, said_after, unsaid}
 use Rattle.races.specs.declared.freed_block.FreedBlock.{FreedBlock}
 use Rattle.races.specs.declared.hint_event.HintEvent.{HintEvent}
 use Rattle.races.specs.declared.hint_event.HintSite.{HintSite}
 use Rattle.races.specs.declared.hint_kind.HintKind.{HintKind}
 use Rattle.races.specs.declared.hint_kind.HintKind.TheVariants as kind
+use Rattle.races.specs.declared.library_call.LibraryCall.{LibraryCall}
 use Rattle.races.specs.declared.observed_event.ObservedEvent.{ObservedEvent}
 use Rattle.races.specs.declared.observed_event.ObservedEvent.TheVariants as event
 use Rattle.races.specs.declared.site.Access.{Access}
@@ -19,13 +20,13 @@ pub data Life : Type 0 where
   Die : FreedBlock → Life
   Live : (address length : ℕ) → Life
 
--- who gives a hint: at the place in the program that called the library, else at that of the hint itself
-abbrev pub called_from : Option ℕ → HintSite → HintSite
-called_from caller site = record { turn = site.turn; instruction = site.instruction; pc = unwrap_or caller site.pc; thread = site.thread }
+-- the actor that gives a hint: at the place in the program that called the library, else at that of the hint itself
+abbrev pub called_from : Said → HintSite → LibraryCall
+called_from said site = record { turn = site.turn; instruction = site.instruction; pc = unwrap_or (said.caller site.thread) site.pc; thread = actor_in said site.thread }
 
 -- the block of a hint
 abbrev pub block_of : Said → HintEvent → FreedBlock
-block_of said hint = record { freed_by = called_from (said.caller hint.site.thread) hint.site; address = hint.object; length = said.length hint.site.thread }
+block_of said hint = record { freed_by = called_from said hint.site; address = hint.object; length = said.length hint.site.thread }
 
 -- an access of a byte, if it is of this byte
 abbrev pub use_of : Access → (place : ℕ) → List Life
@@ -54,7 +55,7 @@ lives_by said hint kind = []
 -- What is looked at of an event: the accesses of threads that are in no library region, and of whomever in any case the atomic ones, *dead*
 -- and *fresh*.
 abbrev pub lives_of : Said → ObservedEvent → List Life
-lives_of said (event.Access access) = if said.depth access.site.thread == 0 then uses access else []
+lives_of said (event.Access access) = if said.depth access.site.thread == 0 then uses (acted said access) else []
 lives_of said (event.Fresh address length) = Live address length ∷ []
 lives_of said (event.Hint hint) = lives_by said hint hint.kind
 lives_of said event = []

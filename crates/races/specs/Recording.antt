@@ -2,7 +2,8 @@
 use Rattle.std.specs.Prelude.{◌≡◌, ℕ, Option, None, Result, OnOk, OnErr, true, false, List, [], ◌∷◌, ◌++◌, length, slice_index_or}
 use Rattle.std.specs.declared.alloc.AllocError.{AllocError}
 use Rattle.races.specs.Recent.{KnowsRecent}
-use Rattle.races.specs.Steps.{Said, Step, said_after, steps_in, unsaid}
+use Rattle.races.specs.Actors.{began_of}
+use Rattle.races.specs.Steps.{Said, Step, said_in, steps_in}
 use Rattle.races.specs.Words.{KnowsWords, Times}
 use Rattle.races.specs.declared.callers.Callers.{Callers}
 use Rattle.races.specs.declared.depths.Depths.{Depths}
@@ -25,21 +26,15 @@ length_of lengths thread = slice_index_or lengths.lengths.items thread 0
 
 -- what a recorder knows of what was said
 abbrev pub said_of : RaceRecorder → Said
-said_of recorder = record { depth = depth_of recorder.depths; caller = caller_of recorder.callers; length = length_of recorder.lengths }
-
--- what was said after some events
-abbrev pub said_from : Said → List ObservedEvent → Said
-said_from said [] = said
-said_from said (event ∷ events) = said_from (said_after said event) events
-
-abbrev pub said_in : List ObservedEvent → Said
-said_in history = said_from unsaid history
+said_of recorder = record { depth = depth_of recorder.depths; caller = caller_of recorder.callers; length = length_of recorder.lengths; began = began_of recorder.actors; numbers = recorder.actors.numbers.items }
 
 -- the same was said of each thread
 pub record IsSaid (one other : Said) : Type 0 where
   pub depth : (thread : ℕ) → one.depth thread ≡ other.depth thread
   pub caller : (thread : ℕ) → one.caller thread ≡ other.caller thread
   pub length : (thread : ℕ) → one.length thread ≡ other.length thread
+  pub began : (thread : ℕ) → one.began thread ≡ other.began thread
+  pub numbers : one.numbers ≡ other.numbers
 
 -- the clocks and the words are those of the steps
 pub record KnowsSteps (kept : Steps) (steps : List Step) : Type 0 where

@@ -16,11 +16,11 @@ pub(crate) struct Block {
     /// Whether there was an access at all.
     is_used: bool,
     /// The thread of the latest access.
-    owner: u8,
+    owner: u32,
     /// Whether another thread had accesses before.
     has_other: bool,
     /// That thread.
-    other: u8,
+    other: u32,
     /// Whether several other threads had accesses before.
     is_shared: bool,
     /// Accesses of other threads than the owner are of this step or of earlier ones.
@@ -44,7 +44,7 @@ impl Block {
     }
 
     /// Whether all accesses of other threads are known to be in the past of a thread.
-    pub(crate) fn is_past(self, thread: u8, clocks: &Clocks) -> bool
+    pub(crate) fn is_past(self, thread: u32, clocks: &Clocks) -> bool
         ensures { IsTrue result → (past : Latest) → IsKnown self past → past.site.thread ≢ thread
             → past.step < time_of clocks.now.threads.clocks.items thread past.site.thread }
     {
@@ -55,7 +55,7 @@ impl Block {
     }
 
     /// A thread accesses it, in the step of this index.
-    pub(crate) fn take(&mut self, thread: u8, step: u64)
+    pub(crate) fn take(&mut self, thread: u32, step: u64)
         ensures kept { (past : Latest) → IsKnown self.old past → IsKnown self.new past }
         ensures own { (past : Latest) → past.site.thread ≡ thread → past.step ≡ step → IsKnown self.new past }
     {
@@ -66,7 +66,7 @@ impl Block {
     }
 
     /// The block with a thread as its owner, which it was not.
-    fn given_to(self, thread: u8) -> Block
+    fn given_to(self, thread: u32) -> Block
         requires { (self.is_used ≡ false) ⊎ (self.owner ≢ thread) }
         ensures kept { (past : Latest) → IsKnown self past → IsKnown result past }
         ensures used { result.is_used ≡ true }

@@ -21,10 +21,10 @@ impl Clock {
     }
 
     /// A thread's time.
-    pub(crate) fn time(&self, thread: u8) -> u64
+    pub(crate) fn time(&self, thread: u32) -> u64
         ensures { result ≡ time self.now thread }
     {
-        match self.times.get(usize::from(thread)) {
+        match self.times.get(thread as usize) {
             Some(time) => *time,
             None => 0,
         }

@@ -31,22 +31,22 @@ pub(crate) struct Clocks {
 
 impl Clocks {
     /// No times.
-    pub(crate) fn new(alloc: Global) -> Result<Self, AllocError>
-        ensures { IfOk result (λ clocks. (place : ClockPlace) (thread : ℕ) → time_kept clocks place thread ≡ 0) }
+    pub(crate) fn new(alloc: Global) -> Self
+        ensures { (place : ClockPlace) (thread : ℕ) → time_kept result place thread ≡ 0 }
     {
-        Ok(Clocks {
+        Clocks {
             alloc,
-            threads: ThreadClocks::new(alloc)?,
+            threads: ThreadClocks::new(alloc),
             ended: BTreeMap::new(alloc),
             mutexes: BTreeMap::new(alloc),
             objects: BTreeMap::new(alloc),
             seen: BTreeMap::new(alloc),
             fenced: BTreeMap::new(alloc),
-        })
+        }
     }
 
     /// A time that is kept of a thread's past.
-    pub(crate) fn time(&self, of: u8, thread: u8) -> u64
+    pub(crate) fn time(&self, of: u32, thread: u32) -> u64
         ensures { result ≡ time_of self.now.threads.clocks.items of thread }
     {
         self.threads.time(of, thread)
@@ -87,20 +87,20 @@ impl Clocks {
     {
         match place {
             ClockOwner::Thread(thread) => self.add_thread(step, thread, past),
-            ClockOwner::Ended(thread) => add_in(&self.ended, u32::from(thread), past),
+            ClockOwner::Ended(thread) => add_in(&self.ended, thread, past),
             ClockOwner::Mutex(mutex) => add_in(&self.mutexes, mutex, past),
             ClockOwner::Object(object) => add_in(&self.objects, object, past),
-            ClockOwner::Seen(thread) => add_in(&self.seen, u32::from(thread), past),
-            ClockOwner::Fenced(thread) => add_in(&self.fenced, u32::from(thread), past),
+            ClockOwner::Seen(thread) => add_in(&self.seen, thread, past),
+            ClockOwner::Fenced(thread) => add_in(&self.fenced, thread, past),
         }
     }
 
     /// Adds a thread's past at a step to a clock, with all that the thread did.
-    fn add_thread(&self, step: u64, thread: u8, past: &mut Clock) -> Result<(), AllocError>
+    fn add_thread(&self, step: u64, thread: u32, past: &mut Clock) -> Result<(), AllocError>
         ensures { OnOk result (IsJoined (time past.old) (time past.new) (time_at self.now step (Thread thread))) }
     {
         self.threads.add(thread, past)?;
-        past.raise(usize::from(thread), step)
+        past.raise(thread as usize, step)
     }
 
     /// Adds a past to a place's clock.
@@ -110,11 +110,11 @@ impl Clocks {
         let alloc = self.alloc;
         match place {
             ClockOwner::Thread(thread) => self.threads.join(thread, past),
-            ClockOwner::Ended(thread) => join_in(alloc, &mut self.ended, u32::from(thread), past),
+            ClockOwner::Ended(thread) => join_in(alloc, &mut self.ended, thread, past),
             ClockOwner::Mutex(mutex) => join_in(alloc, &mut self.mutexes, mutex, past),
             ClockOwner::Object(object) => join_in(alloc, &mut self.objects, object, past),
-            ClockOwner::Seen(thread) => join_in(alloc, &mut self.seen, u32::from(thread), past),
-            ClockOwner::Fenced(thread) => join_in(alloc, &mut self.fenced, u32::from(thread), past),
+            ClockOwner::Seen(thread) => join_in(alloc, &mut self.seen, thread, past),
+            ClockOwner::Fenced(thread) => join_in(alloc, &mut self.fenced, thread, past),
         }
     }
 }

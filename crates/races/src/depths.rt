@@ -26,10 +26,13 @@ impl Depths {
     }
 
     /// Whether a thread is in none.
-    pub(crate) fn is_outside(&self, thread: u8) -> bool
+    pub(crate) fn is_outside(&self, thread: u32) -> bool
         ensures { result ≡ (depth_of self.now thread == 0) }
     {
-        self.depths[usize::from(thread)] == 0
+        match self.depths.get(thread as usize) {
+            Some(depth) => *depth == 0,
+            None => true,
+        }
     }
 
     /// A thread enters one.

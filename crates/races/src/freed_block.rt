@@ -2,13 +2,13 @@
 ghost use Rattle.std.specs.Prelude.{◌≡◌, ◌↔◌, IsTrue};
 ghost use Rattle.races.specs.Freed.{IsSamePlace};
 
-use crate::hint_event::HintSite;
+use crate::library_call::LibraryCall;
 
 /// Bytes that a thread let die together, by a hint.
 #[derive(Clone, Copy, Debug, PartialEq, Eq)]
 pub struct FreedBlock {
-    /// Who let them die. The pc is that of the library's caller, if the thread said it, else that of the hint.
-    pub freed_by: HintSite,
+    /// Who let them die: the place that called the library, if the thread said it, else that of the hint.
+    pub freed_by: LibraryCall,
     /// The address of the first of them.
     pub address: u32,
     /// How many they are. What would be past the end of memory is no byte: a block doesn't wrap.

@@ -1,9 +1,11 @@
 //! The accesses of dead bytes that are told.
-ghost use Rattle.std.specs.Prelude.{◌≡◌, [], ◌∷◌, ◌++◌, Contains, IfOk, IsFalse, IsTrue, OnOk, length};
+ghost use Rattle.std.specs.Prelude.{◌≡◌, [], ◌∷◌, ◌++◌, Contains, IfOk, IsFalse, IsTrue, OnOk, length, map};
 ghost use Rattle.races.specs.Freed.{Tells};
 ghost use Rattle.races.specs.FreedRecording.{AreListed, IsListed, IsNumbered, numbers_at};
+ghost use Rattle.races.specs.Names.{named_freed};
 ghost use Rattle.races.specs.declared.freed_access.FreedAccess.{FreedAccess as One};
 
+use crate::actors::Actors;
 use crate::freed_access::FreedAccess;
 use crate::freed_block::FreedBlock;
 use crate::site::Access;
@@ -85,11 +87,14 @@ impl FreedList {
         Ok(())
     }
 
-    /// All that is told.
-    pub(crate) fn all(&self) -> Result<Vec<FreedAccess>, AllocError>
-        ensures { IfOk result (λ all. all.items ≡ self.now.told.items) }
+    /// All that is told, with the program's numbers of its actors.
+    pub(crate) fn all(&self, actors: &Actors) -> Result<Vec<FreedAccess>, AllocError>
+        ensures { IfOk result (λ all. all.items ≡ map (named_freed actors.now.numbers.items) self.now.told.items) }
     {
-        self.told.iter().copied().collect(self.alloc)
+        self.told
+            .iter()
+            .map(|one| actors.named_freed(one))
+            .collect(self.alloc)
     }
 }
 

@@ -1,12 +1,14 @@
 //! What is kept of which bytes are dead, and of the accesses of dead ones.
-ghost use Rattle.std.specs.Prelude.{◌≡◌, ℕ, ◌<◌, ◌↔◌, List, [], ◌∷◌, true, IfOk, IsTrue, OnOk};
+ghost use Rattle.std.specs.Prelude.{◌≡◌, ℕ, ◌<◌, ◌↔◌, List, [], ◌∷◌, true, IfOk, IsTrue, OnOk, map};
 ghost use Rattle.races.specs.Bytes.{has};
 ghost use Rattle.races.specs.FreedParts.{Holds};
 ghost use Rattle.races.specs.FreedRecording.{AddsLives, KnowsLives};
 ghost use Rattle.races.specs.Lives.{Life, byte_at, use_of, uses, uses_in};
 ghost use Rattle.races.specs.Lives.Life.{Die, Live};
+ghost use Rattle.races.specs.Names.{named_freed};
 ghost use Rattle.races.specs.declared.freed_block.FreedBlock.{FreedBlock as Block};
 
+use crate::actors::Actors;
 use crate::byte_set::ByteSet;
 use crate::freed_access::FreedAccess;
 use crate::freed_block::FreedBlock;
@@ -149,11 +151,11 @@ impl FreedLives {
         self.parts.revive(address, length)
     }
 
-    /// All that is told.
-    pub(crate) fn told(&self) -> Result<Vec<FreedAccess>, AllocError>
-        ensures { IfOk result (λ told. told.items ≡ self.now.list.told.items) }
+    /// All that is told, with the program's numbers of its actors.
+    pub(crate) fn told(&self, actors: &Actors) -> Result<Vec<FreedAccess>, AllocError>
+        ensures { IfOk result (λ told. told.items ≡ map (named_freed actors.now.numbers.items) self.now.list.told.items) }
     {
-        self.list.all()
+        self.list.all(actors)
     }
 }
 

@@ -1,8 +1,8 @@
 //! The recorder of accesses of dead bytes: it is told a run's events one after another, and says which accesses are of dead bytes.
 ghost use Rattle.std.specs.Prelude.{◌≡◌, List, [], ◌∷◌, ◌++◌, IfOk, OnOk, OnErr, true, false};
-ghost use Rattle.races.specs.Freed.{AreFreed};
 ghost use Rattle.races.specs.FreedRecording.{AddsLives, RecordsFreed, RecordsFreedMore, said_by};
-ghost use Rattle.races.specs.Lives.{atomic_uses, lives_in};
+ghost use Rattle.races.specs.Lives.{atomic_uses};
+ghost use Rattle.races.specs.Names.{AreNamedFreed};
 ghost use Rattle.races.specs.Recording.{IsSaid};
 ghost use Rattle.races.specs.Steps.{Said as AllSaid};
 ghost use Rattle.races.specs.declared.observed_event.ObservedEvent.{ObservedEvent as RunEvent};
@@ -51,8 +51,8 @@ impl FreedRecorder {
     ///
     /// # Errors
     ///
-    /// Out of memory. Then the recorder is broken: each later call fails in the same way. A library region inside 2^64 others counts as
-    /// out of memory too.
+    /// Out of memory. Then the recorder is broken: each later call fails in the same way. A library region inside 2^64 others and
+    /// an actor past 2^30 of them count as out of memory too.
     pub fn record(&mut self, event: &ObservedEvent) -> Result<(), AllocError>
         ensures recorded { OnOk result
             ((history : List RunEvent) → RecordsFreed self.old history → RecordsFreed self.new (history ++ event.now ∷ [])) }
@@ -96,13 +96,13 @@ impl FreedRecorder {
     /// Out of memory, or the recorder is broken.
     pub fn found(&self) -> Result<Vec<FreedAccess>, AllocError>
         ensures found { IfOk result (λ found.
-            (history : List RunEvent) → RecordsFreed self.now history → AreFreed (lives_in history) found.items) }
+            (history : List RunEvent) → RecordsFreed self.now history → AreNamedFreed history found.items) }
         ensures whole { OnOk result (self.now.is_broken ≡ false) }
     {
         if self.is_broken {
             return Err(AllocError);
         }
-        self.lives.told()
+        self.lives.told(self.said.actors())
     }
 
     /// Records an access of a word that is not known to have no dead byte.
@@ -133,7 +133,8 @@ impl FreedRecorder {
         ensures { OnOk result (RecordsFreedMore self.old (Accessed access.now) self.new) }
     {
         if self.said.is_outside(access.site.thread) {
-            self.lives.touch(access)
+            let own = self.said.actors().acted(access);
+            self.lives.touch(&own)
         } else {
             Ok(())
         }
@@ -147,7 +148,7 @@ impl FreedRecorder {
             HintKind::Dead => self.lives.kill(self.said.block_of(hint)),
             HintKind::AtomicLoad => self.atomic(hint, false),
             HintKind::AtomicStore => self.atomic(hint, true),
-            _ => Ok(()),
+            _ => self.said.note(hint),
         }
     }
 

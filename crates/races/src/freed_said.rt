@@ -1,9 +1,11 @@
 //! What the threads' events leave for their next hints.
+use crate::actors::Actors;
 use crate::callers::Callers;
 use crate::depths::Depths;
 use crate::freed_block::FreedBlock;
 use crate::hint_event::{HintEvent, HintSite};
 use crate::lengths::Lengths;
+use crate::library_call::LibraryCall;
 use crate::observed_event::ObservedEvent;
 use crate::site::Site;
 use std::alloc::{AllocError, Global};
@@ -20,6 +22,8 @@ pub(crate) struct FreedSaid {
     callers: Callers,
     /// How many bytes each thread's next hint is about.
     lengths: Lengths,
+    /// Who acts in each thread.
+    actors: Actors,
 }
 
 impl FreedSaid {
@@ -27,6 +31,7 @@ impl FreedSaid {
     ghost use Rattle.races.specs.FreedRecording.{said_by};
     ghost use Rattle.races.specs.Lives.{block_of};
     ghost use Rattle.races.specs.Recording.{IsSaid};
+    ghost use Rattle.races.specs.declared.observed_event.ObservedEvent.TheVariants.{Hint};
     ghost use Rattle.races.specs.Steps.{Said as AllSaid, atomic_site, said_after, unsaid};
 
     /// Nothing was said.
@@ -37,11 +42,12 @@ impl FreedSaid {
             depths: Depths::new(alloc)?,
             callers: Callers::new(alloc)?,
             lengths: Lengths::new(alloc)?,
+            actors: Actors::new(alloc)?,
         })
     }
 
     /// Whether a thread is in no library region.
-    pub(crate) fn is_outside(&self, thread: u8) -> bool
+    pub(crate) fn is_outside(&self, thread: u32) -> bool
         ensures { (said : AllSaid) → IsSaid (said_by self.now) said → result ≡ (said.depth thread == 0) }
     {
         self.depths.is_outside(thread)
@@ -58,11 +64,11 @@ impl FreedSaid {
             thread,
         } = hint.site;
         FreedBlock {
-            freed_by: HintSite {
+            freed_by: LibraryCall {
                 turn,
                 instruction,
                 pc: self.callers.of(thread).unwrap_or(pc),
-                thread,
+                thread: self.actors.of(u32::from(thread)),
             },
             address: hint.object,
             length: self.lengths.of(thread),
@@ -78,7 +84,7 @@ impl FreedSaid {
             turn: hint.site.turn,
             instruction: hint.site.instruction,
             pc: self.callers.of(thread).unwrap_or(hint.site.pc),
-            thread,
+            thread: self.actors.of(u32::from(thread)),
             is_store,
             is_atomic: true,
         }
@@ -109,7 +115,23 @@ impl FreedSaid {
                 self.lengths.set(*thread, *length);
                 Ok(())
             }
+            ObservedEvent::Hint(hint) => self.note(hint),
             _ => Ok(()),
         }
+    }
+
+    /// What a hint that names an object says is taken down.
+    pub(crate) fn note(&mut self, hint: &HintEvent) -> Result<(), AllocError>
+        ensures { OnOk result ((said : AllSaid)
+            → IsSaid (said_by self.old) said → IsSaid (said_by self.new) (said_after said (Hint hint.now))) }
+    {
+        self.actors.note(hint)
+    }
+
+    /// Who acts in each thread.
+    pub(crate) fn actors(&self) -> &Actors
+        ensures { result.now ≡ self.now.actors }
+    {
+        &self.actors
     }
 }

@@ -5,7 +5,7 @@ ghost use Rattle.races.specs.FreedTexts.{block_text, dead_text, death_text, free
 
 use crate::freed_access::FreedAccess;
 use crate::freed_block::FreedBlock;
-use crate::hint_event::HintSite;
+use crate::library_call::LibraryCall;
 use crate::place_text::{write_number, write_place_or};
 use crate::text::{write_place, write_site};
 use std::alloc::AllocError;
@@ -47,7 +47,7 @@ fn write_dead(text: &mut String, freed: &FreedAccess) -> Result<(), AllocError>
 
 /// Appends who let them die, as ` freed-by thread=1 turn=28+3`.
 #[tactic(auto, unfolding(crate::specs::FreedTexts::freer_text))]
-fn write_freer(text: &mut String, site: HintSite) -> Result<(), AllocError>
+fn write_freer(text: &mut String, site: LibraryCall) -> Result<(), AllocError>
     ensures { OnOk result (string_bytes text.new ≡ string_bytes text.old ++ freer_text site) }
 {
     write_number(text, " freed-by thread=", u64::from(site.thread))?;
@@ -56,7 +56,7 @@ fn write_freer(text: &mut String, site: HintSite) -> Result<(), AllocError>
 
 /// Appends when they died, as ` turn=28+3`.
 #[tactic(auto, unfolding(crate::specs::FreedTexts::death_text))]
-fn write_death(text: &mut String, site: HintSite) -> Result<(), AllocError>
+fn write_death(text: &mut String, site: LibraryCall) -> Result<(), AllocError>
     ensures { OnOk result (string_bytes text.new ≡ string_bytes text.old ++ death_text site) }
 {
     write_number(text, " turn=", site.turn)?;

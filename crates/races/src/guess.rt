@@ -59,7 +59,7 @@ impl Guess {
 /// The bit of an instruction with its bytes.
 fn bit(site: Site, bytes: ByteSet) -> u64 {
     let place = bytes.mixed().wrapping_mul(11);
-    let thread = u32::from(site.thread).wrapping_mul(23);
+    let thread = site.thread.wrapping_mul(23);
     let mixed = (site.pc / 4).wrapping_add(place).wrapping_add(thread);
     1 << (mixed % 64)
 }

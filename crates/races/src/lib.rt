@@ -2,6 +2,7 @@
 #![tactic(auto)]
 
 mod acquisition;
+mod actors;
 mod block;
 mod byte_set;
 mod call_text;

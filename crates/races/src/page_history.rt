@@ -128,7 +128,7 @@ impl PageHistory {
     }
 
     /// Whether all accesses of other threads that are kept of the word at a place are known to be in the past of a thread.
-    fn is_past(&self, place: usize, thread: u8, clocks: &Clocks) -> bool
+    fn is_past(&self, place: usize, thread: u32, clocks: &Clocks) -> bool
         ensures { IsTrue result → (past : Past) → Contains (latest_in self.now.entries.items place) past → past.site.thread ≢ thread
             → past.step < time_of clocks.now.threads.clocks.items thread past.site.thread }
     {

@@ -1,13 +1,15 @@
 //! The recorder of races: it is told a run's events one after another, and says where they race.
 ghost use Rattle.std.specs.Prelude.{◌≡◌, List, [], ◌∷◌, ◌++◌, IfOk, IsFalse, IsTrue, OnOk, OnErr, true, false, map};
-ghost use Rattle.races.specs.Races.{AreRaces};
+ghost use Rattle.races.specs.Actors.{number_of};
+ghost use Rattle.races.specs.Names.{AreNamedRaces, named_race};
 ghost use Rattle.races.specs.Recording.{Records, RecordsMore, RecordsOrBreaks, Takes, depth_of, said_of};
-ghost use Rattle.races.specs.Steps.{atomic, both_outside, meeting, outside, passing, steps_in, steps_of_hint, taking, threads_outside};
+ghost use Rattle.races.specs.Steps.{acted, actor_in, atomic, both_outside, meeting, outside, passing, steps_of_hint, taking, threads_outside};
 ghost use Rattle.races.specs.Steps.Step.{Order, Touch};
 ghost use Rattle.races.specs.declared.observed_event.ObservedEvent.{ObservedEvent as RunEvent};
-ghost use Rattle.races.specs.declared.observed_event.ObservedEvent.TheVariants.{Access as Accessed};
+ghost use Rattle.races.specs.declared.observed_event.ObservedEvent.TheVariants.{Access as Accessed, Hint};
 ghost use Rattle.races.specs.declared.clock_owner.ClockOwner.TheVariants.{Thread};
 
+use crate::actors::Actors;
 use crate::callers::Callers;
 use crate::clock_owner::ClockOwner;
 use crate::depths::Depths;
@@ -26,8 +28,8 @@ const MOST_ATOMIC_BYTES: u32 = 8;
 
 /// Is told the events of a run in the order of its turns, and finds the races.
 ///
-/// It keeps a clock for each thread, mutex and object; for each word that was ever accessed the latest access of the same bytes by
-/// each instruction of a thread; and the races found. Words stand on pages of 4,096. An access that is found among the recent ones
+/// It keeps a clock for each actor, mutex and object; for each word that was ever accessed the latest access of the same bytes by
+/// each instruction of an actor; and the races found. Words stand on pages of 4,096. An access that is found among the recent ones
 /// is made again, and changes nothing.
 #[derive(Drop)]
 pub struct RaceRecorder {
@@ -38,6 +40,8 @@ pub struct RaceRecorder {
     callers: Callers,
     /// How many bytes each thread's next hint is about.
     lengths: Lengths,
+    /// Who acts in each thread.
+    actors: Actors,
     /// What is kept of the steps.
     steps: Steps,
     /// Whether an event could not be recorded.
@@ -58,7 +62,8 @@ impl RaceRecorder {
             depths: Depths::new(alloc)?,
             callers: Callers::new(alloc)?,
             lengths: Lengths::new(alloc)?,
-            steps: Steps::new(alloc)?,
+            actors: Actors::new(alloc)?,
+            steps: Steps::new(alloc),
             is_broken: false,
         })
     }
@@ -67,8 +72,8 @@ impl RaceRecorder {
     ///
     /// # Errors
     ///
-    /// Out of memory. Then the recorder is broken: each later call fails in the same way. An event past 2^62 of them, and
-    /// a library region inside 2^64 others, count as out of memory too.
+    /// Out of memory. Then the recorder is broken: each later call fails in the same way. An event past 2^62 of them,
+    /// a library region inside 2^64 others, and an actor past 2^30 of them count as out of memory too.
     pub fn record(&mut self, event: &ObservedEvent) -> Result<(), AllocError>
         ensures recorded { OnOk result
             ((history : List RunEvent) → Records self.old history → Records self.new (history ++ event.now ∷ [])) }
@@ -107,7 +112,7 @@ impl RaceRecorder {
     /// Out of memory, or the recorder is broken.
     pub fn races(&self) -> Result<Vec<Race>, AllocError>
         ensures races { IfOk result (λ races.
-            (history : List RunEvent) → Records self.now history → AreRaces (steps_in history) races.items) }
+            (history : List RunEvent) → Records self.now history → AreNamedRaces history races.items) }
         ensures whole { OnOk result (self.now.is_broken ≡ false) }
     {
         if self.is_broken {
@@ -115,7 +120,7 @@ impl RaceRecorder {
         }
         let mut told = self.steps.told()?;
         told.sort_by_key(|one| one.step)?;
-        races_of(self.alloc, &told)
+        races_of(self.alloc, &self.actors, &told)
     }
 
     /// Whether an access is made again. Then it is recorded, and nothing is kept of it.
@@ -129,7 +134,7 @@ impl RaceRecorder {
         if self.is_broken || !self.depths.is_outside(access.site.thread) {
             return false;
         }
-        self.steps.is_repeated(access)
+        self.steps.is_repeated(&self.actors.acted(access))
     }
 
     /// Records an access that is not known to be made again.
@@ -170,12 +175,15 @@ impl RaceRecorder {
             ObservedEvent::Access(access) => self.access(access),
             ObservedEvent::Create { thread, created } => self.pass(
                 *thread,
-                ClockOwner::Thread(*created),
+                ClockOwner::Thread(self.actor(*created)),
             ),
-            ObservedEvent::End { thread } => self.pass_outside(*thread, ClockOwner::Ended(*thread)),
+            ObservedEvent::End { thread } => self.pass_outside(
+                *thread,
+                ClockOwner::Ended(self.actor(*thread)),
+            ),
             ObservedEvent::Join { thread, ended } => self.take_outside(
                 *thread,
-                ClockOwner::Ended(*ended),
+                ClockOwner::Ended(self.actor(*ended)),
             ),
             ObservedEvent::Unlock { thread, mutex } => self.pass_outside(
                 *thread,
@@ -209,19 +217,35 @@ impl RaceRecorder {
                 self.lengths.set(*thread, *length);
                 Ok(())
             }
-            ObservedEvent::Hint(hint) => self.hint(hint),
+            ObservedEvent::Hint(hint) => self.hear(hint),
         }
+    }
+
+    /// Who acts in a thread.
+    fn actor(&self, thread: u8) -> u32
+        ensures { result ≡ actor_in (said_of self.now) thread }
+    {
+        self.actors.of(u32::from(thread))
     }
 
     /// An access.
     fn access(&mut self, access: &Access) -> Result<(), AllocError>
-        ensures { Takes self.old (outside (depth_of self.old.depths) access.now.site.thread (Touch access.now)) self.new result }
+        ensures { Takes self.old
+            (outside (depth_of self.old.depths) access.now.site.thread (Touch (acted (said_of self.old) access.now))) self.new result }
     {
         if self.depths.is_outside(access.site.thread) {
-            self.steps.touch(access)
+            self.steps.touch(&self.actors.acted(access))
         } else {
             Ok(())
         }
+    }
+
+    /// A hint that names an object, and what it says.
+    fn hear(&mut self, hint: &HintEvent) -> Result<(), AllocError>
+        ensures { OnOk result (RecordsMore self.old (Hint hint.now) self.new) }
+    {
+        self.hint(hint)?;
+        self.actors.note(hint)
     }
 
     /// A hint that names an object.
@@ -229,14 +253,15 @@ impl RaceRecorder {
         ensures { Takes self.old (steps_of_hint (said_of self.old) hint.now.site hint.now.object hint.now.kind) self.new result }
     {
         let thread = hint.site.thread;
+        let actor = self.actor(thread);
         let object = ClockOwner::Object(hint.object);
         match hint.kind {
             HintKind::AtomicLoad => self.atomic(hint, false),
             HintKind::AtomicStore => self.atomic(hint, true),
-            HintKind::SeenAcquire => self.bring(object, ClockOwner::Seen(thread)),
-            HintKind::FenceRelease => self.pass(thread, ClockOwner::Fenced(thread)),
-            HintKind::FenceAcquire => self.take(thread, ClockOwner::Seen(thread)),
-            HintKind::RelaxedRelease => self.bring(ClockOwner::Fenced(thread), object),
+            HintKind::SeenAcquire => self.bring(object, ClockOwner::Seen(actor)),
+            HintKind::FenceRelease => self.pass(thread, ClockOwner::Fenced(actor)),
+            HintKind::FenceAcquire => self.take(thread, ClockOwner::Seen(actor)),
+            HintKind::RelaxedRelease => self.bring(ClockOwner::Fenced(actor), object),
             HintKind::Begin
             | HintKind::Dead
             | HintKind::Lock
@@ -265,7 +290,7 @@ impl RaceRecorder {
             turn: hint.site.turn,
             instruction: hint.site.instruction,
             pc: self.callers.of(thread).unwrap_or(hint.site.pc),
-            thread,
+            thread: self.actor(thread),
             is_store,
             is_atomic: true,
         };
@@ -280,38 +305,40 @@ impl RaceRecorder {
         self.steps.order(&[from], &[to])
     }
 
-    /// A thread passes its past on to a place.
+    /// A thread's actor passes its past on to a place.
     fn pass(&mut self, thread: u8, place: ClockOwner) -> Result<(), AllocError>
-        ensures { Takes self.old (passing thread place ∷ []) self.new result }
+        ensures { Takes self.old (passing (actor_in (said_of self.old) thread) place ∷ []) self.new result }
     {
-        let own = ClockOwner::Thread(thread);
+        let own = ClockOwner::Thread(self.actor(thread));
         self.steps.order(&[own], &[own, place])
     }
 
-    /// A thread takes over a place's past.
+    /// A thread's actor takes over a place's past.
     fn take(&mut self, thread: u8, place: ClockOwner) -> Result<(), AllocError>
-        ensures { Takes self.old (taking thread place ∷ []) self.new result }
+        ensures { Takes self.old (taking (actor_in (said_of self.old) thread) place ∷ []) self.new result }
     {
-        let own = ClockOwner::Thread(thread);
+        let own = ClockOwner::Thread(self.actor(thread));
         self.steps.order(&[own, place], &[own])
     }
 
-    /// A thread passes its past on to a place, if it is in no library region.
+    /// A thread's actor passes its past on to a place, if the thread is in no library region.
     fn pass_outside(&mut self, thread: u8, place: ClockOwner) -> Result<(), AllocError>
-        ensures { Takes self.old (outside (depth_of self.old.depths) thread (passing thread place)) self.new result }
+        ensures { Takes self.old
+            (outside (depth_of self.old.depths) thread (passing (actor_in (said_of self.old) thread) place)) self.new result }
     {
-        if self.depths.is_outside(thread) {
+        if self.depths.is_outside(u32::from(thread)) {
             self.pass(thread, place)
         } else {
             Ok(())
         }
     }
 
-    /// A thread takes over a place's past, if it is in no library region.
+    /// A thread's actor takes over a place's past, if the thread is in no library region.
     fn take_outside(&mut self, thread: u8, place: ClockOwner) -> Result<(), AllocError>
-        ensures { Takes self.old (outside (depth_of self.old.depths) thread (taking thread place)) self.new result }
+        ensures { Takes self.old
+            (outside (depth_of self.old.depths) thread (taking (actor_in (said_of self.old) thread) place)) self.new result }
     {
-        if self.depths.is_outside(thread) {
+        if self.depths.is_outside(u32::from(thread)) {
             self.take(thread, place)
         } else {
             Ok(())
@@ -320,10 +347,11 @@ impl RaceRecorder {
 
     /// A signal or broadcast lets a thread go, if neither is in a library region.
     fn let_go(&mut self, thread: u8, waiter: u8) -> Result<(), AllocError>
-        ensures { Takes self.old (both_outside (depth_of self.old.depths) thread waiter (passing thread (Thread waiter))) self.new result }
+        ensures { Takes self.old (both_outside (depth_of self.old.depths) thread waiter
+            (passing (actor_in (said_of self.old) thread) (Thread (actor_in (said_of self.old) waiter)))) self.new result }
     {
-        if self.depths.is_outside(waiter) {
-            self.pass_outside(thread, ClockOwner::Thread(waiter))
+        if self.depths.is_outside(u32::from(waiter)) {
+            self.pass_outside(thread, ClockOwner::Thread(self.actor(waiter)))
         } else {
             Ok(())
         }
@@ -331,31 +359,29 @@ impl RaceRecorder {
 
     /// A barrier lets threads go.
     fn meet(&mut self, threads: &[u8]) -> Result<(), AllocError>
-        ensures { Takes self.old (meeting (depth_of self.old.depths) threads.now ∷ []) self.new result }
+        ensures { Takes self.old (meeting (said_of self.old) threads.now ∷ []) self.new result }
     {
-        let places = places_outside(self.alloc, &self.depths, threads)?;
+        let places = self.places_outside(threads)?;
         self.steps.order(&places, &places)
+    }
+
+    /// The actors of those of some threads that are in no library region.
+    fn places_outside(&self, threads: &[u8]) -> Result<Vec<ClockOwner>, AllocError>
+        ensures { IfOk result (λ places. places.items ≡ threads_outside (said_of self.now) threads.now) }
+    {
+        threads
+            .iter()
+            .filter(|thread| self.depths.is_outside(u32::from(**thread)))
+            .map(|thread| ClockOwner::Thread(self.actor(*thread)))
+            .collect(self.alloc)
     }
 }
 
-/// Those of some threads that are in no library region.
-fn places_outside(
-    alloc: Global,
-    depths: &Depths,
-    threads: &[u8],
-) -> Result<Vec<ClockOwner>, AllocError>
-    ensures { IfOk result (λ places. places.items ≡ threads_outside (depth_of depths.now) threads.now) }
+/// The races themselves, with the program's numbers of their actors.
+fn races_of(alloc: Global, actors: &Actors, told: &[OrderedRace]) -> Result<Vec<Race>, AllocError>
+    ensures { IfOk result (λ races. races.items ≡ map (λ one. named_race actors.now.numbers.items one.race) told.now) }
 {
-    threads
-        .iter()
-        .filter(|thread| depths.is_outside(**thread))
-        .map(|thread| ClockOwner::Thread(*thread))
+    told.iter()
+        .map(|one| actors.named_race(one.race))
         .collect(alloc)
-}
-
-/// The races themselves.
-fn races_of(alloc: Global, told: &[OrderedRace]) -> Result<Vec<Race>, AllocError>
-    ensures { IfOk result (λ races. races.items ≡ map (λ one. one.race) told.now) }
-{
-    told.iter().map(|one| one.race).collect(alloc)
 }

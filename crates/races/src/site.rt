@@ -14,8 +14,8 @@ pub struct Site {
     pub instruction: u64,
     /// The instruction's address.
     pub pc: u32,
-    /// The thread's number.
-    pub thread: u8,
+    /// The thread: in an event the machine's number of it, in a finding the program's.
+    pub thread: u32,
     /// Whether it stores. Else it loads.
     pub is_store: bool,
     /// Whether it is atomic. Two atomic accesses never race.

@@ -34,15 +34,15 @@ pub(crate) struct Steps {
 
 impl Steps {
     /// No step.
-    pub(crate) fn new(alloc: Global) -> Result<Self, AllocError>
-        ensures { IfOk result (λ steps. KnowsSteps steps []) }
+    pub(crate) fn new(alloc: Global) -> Self
+        ensures { KnowsSteps result [] }
     {
-        Ok(Steps {
+        Steps {
             count: 0,
-            clocks: Clocks::new(alloc)?,
+            clocks: Clocks::new(alloc),
             words: Words::new(alloc),
             recent: Recent::new(alloc),
-        })
+        }
     }
 
     /// Whether an access is known at one look to be one of the recent ones, made again. Then it is a step more, and nothing is kept of it.

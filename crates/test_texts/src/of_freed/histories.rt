@@ -102,7 +102,7 @@ macro_rules! hint {
 }
 
 /// The rows.
-pub static ROWS: [Row; 19] = [
+pub static ROWS: [Row; 21] = [
     // A thread reads the fifth word of a block that another has freed.
     Row {
         name: "a load of a freed block",
@@ -344,5 +344,33 @@ pub static ROWS: [Row; 19] = [
             store!(2, 31, 12, READER + 20, CELL),
         ],
         text: "freed address=00016038 bytes=4 store thread=2 turn=31+12 pc=00010114 freed-by thread=1 turn=28+3 object=cell+0 in=reader+20 in=main+64 block=00016038+4\n",
+    },
+    // Who frees and who loads are named by the program's numbers.
+    Row {
+        name: "actors with numbers of their own",
+        history: &[
+            hint!(Begin, 7, 1, 27, 0),
+            hint!(Begin, 9, 2, 27, 1),
+            Told::Caller(1, MAIN + 64),
+            Told::Length(1, 48),
+            hint!(Dead, BLOCK, 1, 28, 3),
+            load!(2, 31, 12, READER + 20, BLOCK + 16),
+        ],
+        text: "freed address=20000410 bytes=4 load thread=9 turn=31+12 pc=00010114 freed-by thread=7 turn=28+3 in=reader+20 in=main+64 block=20000400+48\n",
+    },
+    // One instruction of two actors that one thread serves: each has a line.
+    Row {
+        name: "two actors of one thread",
+        history: &[
+            hint!(Begin, 1, 1, 27, 0),
+            Told::Caller(1, MAIN + 64),
+            Told::Length(1, 48),
+            hint!(Dead, BLOCK, 1, 28, 3),
+            load!(1, 31, 12, READER + 20, BLOCK + 16),
+            load!(1, 32, 12, READER + 20, BLOCK + 16),
+            hint!(Begin, 2, 1, 33, 0),
+            load!(1, 34, 12, READER + 20, BLOCK + 16),
+        ],
+        text: "freed address=20000410 bytes=4 load thread=1 turn=31+12 pc=00010114 freed-by thread=1 turn=28+3 in=reader+20 in=main+64 block=20000400+48\nfreed address=20000410 bytes=4 load thread=2 turn=34+12 pc=00010114 freed-by thread=1 turn=28+3 in=reader+20 in=main+64 block=20000400+48\n",
     },
 ];

@@ -14,7 +14,7 @@ pub fn atomic_accesses(
         turn: hint.site.turn,
         instruction: hint.site.instruction,
         pc: caller_of(before, thread).unwrap_or(hint.site.pc),
-        thread,
+        thread: u32::from(thread),
         is_store: hint.kind == HintKind::AtomicStore,
         is_atomic: true,
     };

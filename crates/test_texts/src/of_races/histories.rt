@@ -73,7 +73,7 @@ macro_rules! hint {
 }
 
 /// The rows.
-pub static ROWS: [Row; 23] = [
+pub static ROWS: [Row; 32] = [
     // Two threads add to a counter without a mutex.
     Row {
         name: "lost update",
@@ -378,5 +378,142 @@ pub static ROWS: [Row; 23] = [
             hint!(2, 3, 0x1_0200, HintKind::AtomicStore, 0x2_0000),
         ],
         text: "race address=00020000 bytes=4 store thread=1 turn=2+0 pc=00010100 store thread=2 turn=3+0 pc=00010200\n",
+    },
+    // A thread of the program ends, and the machine's thread serves another one, which nothing orders after it.
+    Row {
+        name: "two actors of one thread",
+        history: &[
+            hint!(1, 2, 0x1_0080, HintKind::Begin, 1),
+            store!(1, 2, 0x1_0100, 0x2_0000),
+            hint!(1, 5, 0x1_0080, HintKind::Begin, 2),
+            load!(1, 5, 0x1_0200, 0x2_0000),
+        ],
+        text: "race address=00020000 bytes=4 store thread=1 turn=2+0 pc=00010100 load thread=2 turn=5+0 pc=00010200\n",
+    },
+    // What an actor did before its thread serves another one is ordered as executed.
+    Row {
+        name: "one actor",
+        history: &[
+            hint!(1, 2, 0x1_0080, HintKind::Begin, 1),
+            store!(1, 2, 0x1_0100, 0x2_0000),
+            load!(1, 5, 0x1_0200, 0x2_0000),
+            hint!(1, 6, 0x1_0080, HintKind::Begin, 2),
+        ],
+        text: "",
+    },
+    // The creator's past comes by the library's own release and acquire. The first actor's comes by its end and its join.
+    Row {
+        name: "an actor after a join",
+        history: &[
+            store!(0, 1, 0x1_0000, 0x2_0004),
+            Told::Release(0, 0x8000_0004),
+            hint!(1, 2, 0x1_0080, HintKind::Begin, 1),
+            Told::Acquire(1, 0x8000_0004),
+            load!(1, 2, 0x1_0100, 0x2_0004),
+            store!(1, 2, 0x1_0104, 0x2_0000),
+            Told::Release(1, 0x8000_0005),
+            Told::Acquire(0, 0x8000_0005),
+            Told::Release(0, 0x8000_0008),
+            hint!(1, 5, 0x1_0080, HintKind::Begin, 2),
+            Told::Acquire(1, 0x8000_0008),
+            store!(1, 5, 0x1_0200, 0x2_0000),
+            store!(1, 5, 0x1_0204, 0x2_0004),
+        ],
+        text: "",
+    },
+    // It doesn't come by the machine's create: that orders the thread that the machine made, and an actor begins without a past.
+    Row {
+        name: "an actor without its creator's past",
+        history: &[
+            store!(0, 1, 0x1_0000, 0x2_0000),
+            Told::Create(0, 1),
+            load!(1, 2, 0x1_0100, 0x2_0000),
+            hint!(1, 2, 0x1_0104, HintKind::Begin, 7),
+            load!(1, 2, 0x1_0200, 0x2_0000),
+        ],
+        text: "race address=00020000 bytes=4 store thread=0 turn=1+0 pc=00010000 load thread=7 turn=2+0 pc=00010200\n",
+    },
+    // A mutex orders two actors of one thread, like two threads.
+    Row {
+        name: "two actors of one thread under a mutex",
+        history: &[
+            hint!(1, 2, 0x1_0080, HintKind::Begin, 1),
+            Told::Lock(1, 7),
+            store!(1, 2, 0x1_0100, 0x2_0000),
+            Told::Unlock(1, 7),
+            hint!(1, 5, 0x1_0080, HintKind::Begin, 2),
+            Told::Lock(1, 7),
+            store!(1, 5, 0x1_0100, 0x2_0000),
+            Told::Unlock(1, 7),
+        ],
+        text: "",
+    },
+    // A join of the machine's thread is one of the actor that ended it.
+    Row {
+        name: "a join of the last actor",
+        history: &[
+            hint!(1, 2, 0x1_0080, HintKind::Begin, 1),
+            store!(1, 2, 0x1_0100, 0x2_0000),
+            hint!(1, 5, 0x1_0080, HintKind::Begin, 2),
+            store!(1, 5, 0x1_0200, 0x2_0004),
+            Told::End(1),
+            Told::Join(0, 1),
+            load!(0, 9, 0x1_0300, 0x2_0000),
+            load!(0, 9, 0x1_0304, 0x2_0004),
+        ],
+        text: "race address=00020000 bytes=4 store thread=1 turn=2+0 pc=00010100 load thread=0 turn=9+0 pc=00010300\n",
+    },
+    // An actor begins in the library region in which the one before it ended.
+    Row {
+        name: "an actor that begins in a library region",
+        history: &[
+            store!(0, 1, 0x1_0000, 0x2_0000),
+            hint!(1, 2, 0x1_0080, HintKind::Begin, 1),
+            Told::Enter(1),
+            hint!(1, 5, 0x1_0080, HintKind::Begin, 2),
+            store!(1, 5, 0x1_0200, 0x2_0000),
+            Told::Leave(1),
+            load!(1, 5, 0x1_0204, 0x2_0000),
+        ],
+        text: "race address=00020000 bytes=4 store thread=0 turn=1+0 pc=00010000 load thread=2 turn=5+1 pc=00010204\n",
+    },
+    // A release fence of the actor before says nothing of what its thread serves next, and what the next one's relaxed load sees is
+    // taken over by no fence of another.
+    Row {
+        name: "fences of another actor",
+        history: &[
+            store!(1, 2, 0x1_0100, 0x2_0000),
+            hint!(1, 2, 0x1_0104, HintKind::FenceRelease, 0),
+            hint!(1, 3, 0x1_0080, HintKind::Begin, 5),
+            hint!(1, 3, 0x1_0108, HintKind::RelaxedRelease, 0x2_0010),
+            Told::Acquire(2, 0x2_0010),
+            load!(2, 4, 0x1_0200, 0x2_0000),
+            Told::Release(1, 0x2_0014),
+            hint!(2, 5, 0x1_0204, HintKind::SeenAcquire, 0x2_0014),
+            store!(1, 5, 0x1_0110, 0x2_0020),
+            Told::Release(1, 0x2_0018),
+            hint!(2, 5, 0x1_0208, HintKind::SeenAcquire, 0x2_0018),
+            hint!(2, 6, 0x1_0080, HintKind::Begin, 6),
+            hint!(2, 6, 0x1_020c, HintKind::FenceAcquire, 0),
+            load!(2, 6, 0x1_0210, 0x2_0020),
+        ],
+        text: "race address=00020000 bytes=4 store thread=1 turn=2+0 pc=00010100 load thread=2 turn=4+0 pc=00010200\nrace address=00020020 bytes=4 store thread=5 turn=5+4 pc=00010110 load thread=6 turn=6+4 pc=00010210\n",
+    },
+    // A round of a barrier and a signal are the actors' that are in it then.
+    Row {
+        name: "a barrier and a signal between actors",
+        history: &[
+            hint!(1, 2, 0x1_0080, HintKind::Begin, 1),
+            hint!(2, 2, 0x1_0080, HintKind::Begin, 2),
+            store!(1, 2, 0x1_0100, 0x2_0000),
+            Told::Round(1, 2),
+            load!(2, 3, 0x1_0200, 0x2_0000),
+            store!(2, 3, 0x1_0204, 0x2_0004),
+            Told::LetGo(2, 1),
+            load!(1, 4, 0x1_0104, 0x2_0004),
+            hint!(1, 5, 0x1_0080, HintKind::Begin, 3),
+            load!(1, 5, 0x1_0108, 0x2_0004),
+        ],
+        text: "race address=00020004 bytes=4 store thread=2 turn=3+1 pc=00010204 load thread=3 turn=5+2 pc=00010108\n",
     },
 ];

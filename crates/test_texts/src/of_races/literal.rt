@@ -1,5 +1,5 @@
 //! A plain detector of races: it looks at each two events, and asks whether one happens before the other.
-use crate::of_races::step::{Step, Way};
+use crate::of_races::step::{Acted, Step, Way};
 use races::{Access, ByteSet, Race, Site};
 use std::alloc::{AllocError, Global};
 
@@ -20,8 +20,8 @@ pub fn races_of(alloc: Global, steps: &[Step]) -> Result<Vec<Race>, AllocError> 
 pub fn is_race(alloc: Global, steps: &[Step], race: &Race) -> Result<bool, AllocError> {
     for (later, step) in steps.iter().enumerate() {
         if let Some(access) = step.access
-            && access.word == race.word
-            && access.site == race.second
+            && access.access.word == race.word
+            && access.access.site == race.second
         {
             let (before, _) = steps.split_at(later);
             let past = past_of(alloc, before, step)?;
@@ -34,13 +34,16 @@ pub fn is_race(alloc: Global, steps: &[Step], race: &Race) -> Result<bool, Alloc
 }
 
 /// Whether an access races with one of before that has the site of a race's first access.
-fn ends_race(before: &[Step], past: &[bool], access: &Access, race: &Race) -> bool {
+fn ends_race(before: &[Step], past: &[bool], access: &Acted, race: &Race) -> bool {
     for (index, (step, is_before)) in before.iter().zip(past.iter().rev()).enumerate() {
         if let Some(first) = step.access
             && !*is_before
-            && first.site == race.first
+            && first.access.site == race.first
             && races_with(&first, access)
-            && shares_byte(race.bytes, racing_bytes(&first, access, before, index))
+            && shares_byte(
+                race.bytes,
+                racing_bytes(&first.access, &access.access, before, index),
+            )
         {
             return true;
         }
@@ -99,28 +102,29 @@ fn add_races(
     races: &mut Vec<Race>,
     before: &[Step],
     past: &[bool],
-    access: &Access,
+    access: &Acted,
 ) -> Result<(), AllocError> {
     for (index, (step, is_before)) in before.iter().zip(past.iter().rev()).enumerate() {
         if let Some(first) = step.access
             && !*is_before
             && races_with(&first, access)
         {
-            let bytes = racing_bytes(&first, access, before, index);
+            let bytes = racing_bytes(&first.access, &access.access, before, index);
             if !bytes.is_empty() {
-                note(races, first.site, access, bytes)?;
+                note(races, first.access.site, &access.access, bytes)?;
             }
         }
     }
     Ok(())
 }
 
-/// Whether two accesses are of different threads and of one word, one of them stores, and one of them is not atomic.
-fn races_with(first: &Access, second: &Access) -> bool {
-    first.site.thread != second.site.thread
-        && first.word == second.word
-        && (first.site.is_store || second.site.is_store)
-        && !(first.site.is_atomic && second.site.is_atomic)
+/// Whether two accesses are of different actors and of one word, one of them stores, and one of them is not atomic.
+fn races_with(first: &Acted, second: &Acted) -> bool {
+    let (one, other) = (&first.access, &second.access);
+    first.actor != second.actor
+        && one.word == other.word
+        && (one.site.is_store || other.site.is_store)
+        && !(one.site.is_atomic && other.site.is_atomic)
 }
 
 /// The common bytes of two accesses that began no new life since the first one, the step of this index.

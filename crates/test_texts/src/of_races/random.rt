@@ -11,23 +11,34 @@ use std::alloc::{AllocError, Global};
 /// How many events a history has at most.
 const EVENTS: u8 = 60;
 
-/// What random histories are like: how many turns they have, and what that is called.
+/// What random histories are like: how many turns they have, of which kinds their hints are, and what that is called.
 #[derive(Clone, Copy)]
 pub struct Kind {
     turns: u8,
+    /// The highest number of a kind, and one more.
+    kinds: u8,
     name: &'static str,
 }
 
 /// Of a hundred turns: hardly an access is made again in its turn.
 pub const MANY_TURNS: Kind = Kind {
     turns: 100,
+    kinds: 8,
     name: "many turns",
 };
 
 /// Of one turn: many accesses are made again.
 pub const ONE_TURN: Kind = Kind {
     turns: 1,
+    kinds: 8,
     name: "one turn",
+};
+
+/// Each thread serves several actors.
+pub const MANY_ACTORS: Kind = Kind {
+    turns: 100,
+    kinds: 10,
+    name: "many actors",
 };
 
 /// Looks at so many random histories, and prints how many there were and how many races they had.
@@ -38,15 +49,15 @@ where
     let mut dice = Dice::new(seed);
     let mut races: u64 = 0;
     for number in 0..count {
-        let found = look_at_random(rt.alloc(), &mut dice, kind.turns, number)?;
+        let found = look_at_random(rt.alloc(), &mut dice, kind, number)?;
         races = races.saturating_add(found);
     }
     Ok(println!(rt; "{count} random histories, {}: {races} races", kind.name)?)
 }
 
 /// How many races a random history has.
-fn look_at_random(alloc: Global, dice: &mut Dice, turns: u8, number: u32) -> Result<u64> {
-    let history = history(alloc, dice, turns)?;
+fn look_at_random(alloc: Global, dice: &mut Dice, kind: Kind, number: u32) -> Result<u64> {
+    let history = history(alloc, dice, kind)?;
     look_at(alloc, &history, number)
 }
 
@@ -101,16 +112,16 @@ fn is_same_race(one: &Race, other: &Race) -> bool {
 }
 
 /// A random history.
-fn history(alloc: Global, dice: &mut Dice, turns: u8) -> Result<Vec<Told>, AllocError> {
+fn history(alloc: Global, dice: &mut Dice, kind: Kind) -> Result<Vec<Told>, AllocError> {
     let mut history = Vec::new(alloc);
     for _ in 0..dice.below(EVENTS) {
-        history.push(event(dice, turns))?;
+        history.push(event(dice, kind))?;
     }
     Ok(history)
 }
 
 /// A random event of one of four threads.
-fn event(dice: &mut Dice, turns: u8) -> Told {
+fn event(dice: &mut Dice, kind: Kind) -> Told {
     let thread = dice.below(4);
     let object = u32::from(dice.below(2));
     let other = dice.below(4);
@@ -129,34 +140,35 @@ fn event(dice: &mut Dice, turns: u8) -> Told {
         11 => Told::Fresh(u32::from(dice.below(12)), u32::from(dice.below(9))),
         12 => Told::Caller(thread, u32::from(dice.below(4))),
         13 | 14 => Told::Length(thread, u32::from(dice.below(12))),
-        15..=19 => Told::Hint(hint(thread, dice, turns)),
-        _ => Told::Access(access(thread, dice, turns)),
+        15..=19 => Told::Hint(hint(thread, dice, kind)),
+        _ => Told::Access(access(thread, dice, kind.turns)),
     }
 }
 
 /// A random hint of one of two objects, which are addresses in the first word.
-fn hint(thread: u8, dice: &mut Dice, turns: u8) -> HintEvent {
+fn hint(thread: u8, dice: &mut Dice, kind: Kind) -> HintEvent {
     HintEvent {
         site: HintSite {
             thread,
-            turn: u64::from(dice.below(turns)),
+            turn: u64::from(dice.below(kind.turns)),
             instruction: u64::from(dice.below(3)),
             pc: u32::from(dice.below(4)),
         },
-        kind: random_kind(dice),
+        kind: random_kind(dice, kind.kinds),
         object: u32::from(dice.below(2)),
     }
 }
 
 /// A random kind of hint that the recorder of races looks at.
-fn random_kind(dice: &mut Dice) -> HintKind {
-    match dice.below(8) {
+fn random_kind(dice: &mut Dice, kinds: u8) -> HintKind {
+    match dice.below(kinds) {
         0 | 1 => HintKind::AtomicLoad,
         2 | 3 => HintKind::AtomicStore,
         4 => HintKind::SeenAcquire,
         5 => HintKind::RelaxedRelease,
         6 => HintKind::FenceRelease,
-        _ => HintKind::FenceAcquire,
+        7 => HintKind::FenceAcquire,
+        _ => HintKind::Begin,
     }
 }
 
@@ -165,7 +177,7 @@ fn access(thread: u8, dice: &mut Dice, turns: u8) -> Access {
     let pc = dice.below(4);
     Access {
         site: Site {
-            thread,
+            thread: u32::from(thread),
             turn: u64::from(dice.below(turns)),
             instruction: u64::from(dice.below(3)),
             pc: u32::from(pc),

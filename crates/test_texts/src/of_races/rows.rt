@@ -71,7 +71,7 @@ fn many(alloc: Global) -> Result<Vec<Told>, AllocError> {
 fn store(thread: u8, pc: u32, word: u32) -> Told {
     Told::Access(Access {
         site: Site {
-            thread,
+            thread: u32::from(thread),
             turn: 1,
             instruction: 0,
             pc,

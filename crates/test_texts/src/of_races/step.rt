@@ -1,4 +1,5 @@
 //! What is looked at of an event: what it takes over and what it passes on.
+use crate::of_races::actors::{actor_of, named};
 use crate::of_races::atomic::atomic_accesses;
 use crate::of_races::regions::is_inside;
 use crate::of_races::told::Told;
@@ -8,25 +9,34 @@ use std::alloc::{AllocError, Global};
 /// What order passes through.
 #[derive(Clone, Copy, PartialEq, Eq)]
 enum Through {
-    /// What a thread does later.
+    /// What an actor does later.
     Thread,
-    /// The joins of a thread.
+    /// The joins of an actor.
     Joins,
     /// The later acquisitions of a mutex.
     Mutex,
     /// The later acquisitions of an object.
     Object,
-    /// The later acquire fences of a thread.
+    /// The later acquire fences of an actor.
     Seen,
-    /// The later relaxed stores of a thread.
+    /// The later relaxed stores of an actor.
     Fenced,
 }
 
-/// A way of order: through what, and the number of the thread, the mutex or the object.
+/// A way of order: through what, and the number of the actor, the mutex or the object.
 #[derive(Clone, Copy, PartialEq, Eq)]
 pub struct Way {
     through: Through,
     number: u32,
+}
+
+/// An access, and who makes it.
+#[derive(Clone, Copy)]
+pub struct Acted {
+    /// The actor.
+    pub actor: u32,
+    /// The access, with the program's number of the actor.
+    pub access: Access,
 }
 
 /// What is looked at of an event.
@@ -37,7 +47,7 @@ pub struct Step {
     /// What it passes its past on to.
     pub to: [Option<Way>; 2],
     /// The access that it is, if it is one.
-    pub access: Option<Access>,
+    pub access: Option<Acted>,
     /// The bytes that begin a new life, by address and length.
     pub fresh: Option<(u32, u32)>,
 }
@@ -68,14 +78,15 @@ fn push_hint(
     before: &[Told],
     hint: &HintEvent,
 ) -> Result<(), AllocError> {
-    let own = Some(thread_way(hint.site.thread));
+    let actor = actor_of(before, hint.site.thread);
+    let own = way_through(Through::Thread, actor);
     let object = way_through(Through::Object, hint.object);
-    let seen = way_through(Through::Seen, u32::from(hint.site.thread));
-    let fenced = way_through(Through::Fenced, u32::from(hint.site.thread));
+    let seen = way_through(Through::Seen, actor);
+    let fenced = way_through(Through::Fenced, actor);
     match hint.kind {
         HintKind::AtomicLoad | HintKind::AtomicStore => {
             for access in &atomic_accesses(alloc, before, hint)? {
-                steps.push(accessing(*access))?;
+                steps.push(accessing(acted(before, hint.site.thread, *access)))?;
             }
         }
         HintKind::SeenAcquire => steps.push(passing([object, None], [seen, None]))?,
@@ -98,20 +109,33 @@ fn passing(from: [Option<Way>; 2], to: [Option<Way>; 2]) -> Step {
 }
 
 /// The step of an atomic access.
-fn accessing(access: Access) -> Step {
-    let own = Some(thread_way(access.site.thread));
+fn accessing(acted: Acted) -> Step {
+    let own = way_through(Through::Thread, acted.actor);
     Step {
         from: [own, None],
         to: [own, None],
-        access: Some(access),
+        access: Some(acted),
         fresh: None,
     }
+}
+
+/// An access of a thread after some events.
+fn acted(before: &[Told], thread: u8, access: Access) -> Acted {
+    Acted {
+        actor: actor_of(before, thread),
+        access: named(before, thread, access),
+    }
+}
+
+/// The machine's number of the thread of an access.
+fn thread_of(access: &Access) -> u8 {
+    (access.site.thread % 256) as u8
 }
 
 /// Whether a library region hides an event after others: its thread is in one, or it lets a thread go that waited in one.
 fn is_hidden(before: &[Told], told: Told) -> bool {
     match told {
-        Told::Access(access) => is_inside(before, access.site.thread),
+        Told::Access(access) => is_inside(before, thread_of(&access)),
         Told::End(thread)
         | Told::Join(thread, _)
         | Told::Unlock(thread, _)
@@ -129,12 +153,15 @@ fn step_of(before: &[Told], told: Told) -> Step {
             (passing, passing)
         }
         _ => {
-            let own = own_way(told);
-            ([own, taken_over(told)], [own, passed_on(told)])
+            let own = own_way(before, told);
+            (
+                [own, taken_over(before, told)],
+                [own, passed_on(before, told)],
+            )
         }
     };
     let access = match told {
-        Told::Access(access) => Some(access),
+        Told::Access(access) => Some(acted(before, thread_of(&access), access)),
         _ => None,
     };
     let fresh = match told {
@@ -154,14 +181,14 @@ fn outside(before: &[Told], thread: u8) -> Option<Way> {
     if is_inside(before, thread) {
         None
     } else {
-        Some(thread_way(thread))
+        thread_way(before, thread)
     }
 }
 
 /// The way of the thread of an event that has one.
-fn own_way(told: Told) -> Option<Way> {
+fn own_way(before: &[Told], told: Told) -> Option<Way> {
     match told {
-        Told::Access(access) => Some(thread_way(access.site.thread)),
+        Told::Access(access) => thread_way(before, thread_of(&access)),
         Told::Create(thread, _)
         | Told::End(thread)
         | Told::Join(thread, _)
@@ -171,7 +198,7 @@ fn own_way(told: Told) -> Option<Way> {
         | Told::Acquire(thread, _)
         | Told::Release(thread, _)
         | Told::Enter(thread)
-        | Told::Leave(thread) => Some(thread_way(thread)),
+        | Told::Leave(thread) => thread_way(before, thread),
         Told::Round(_, _)
         | Told::Fresh(_, _)
         | Told::Caller(_, _)
@@ -181,9 +208,9 @@ fn own_way(told: Told) -> Option<Way> {
 }
 
 /// What a call or a hint takes over, beside its own thread.
-fn taken_over(told: Told) -> Option<Way> {
+fn taken_over(before: &[Told], told: Told) -> Option<Way> {
     let (through, number) = match told {
-        Told::Join(_, ended) => (Through::Joins, u32::from(ended)),
+        Told::Join(_, ended) => (Through::Joins, actor_of(before, ended)),
         Told::Lock(_, mutex) => (Through::Mutex, mutex),
         Told::Acquire(_, object) => (Through::Object, object),
         _ => return None,
@@ -192,12 +219,12 @@ fn taken_over(told: Told) -> Option<Way> {
 }
 
 /// What a call or a hint passes on to, beside its own thread.
-fn passed_on(told: Told) -> Option<Way> {
+fn passed_on(before: &[Told], told: Told) -> Option<Way> {
     let (through, number) = match told {
-        Told::Create(_, created) => (Through::Thread, u32::from(created)),
-        Told::End(thread) => (Through::Joins, u32::from(thread)),
+        Told::Create(_, created) => (Through::Thread, actor_of(before, created)),
+        Told::End(thread) => (Through::Joins, actor_of(before, thread)),
         Told::Unlock(_, mutex) => (Through::Mutex, mutex),
-        Told::LetGo(_, waiter) => (Through::Thread, u32::from(waiter)),
+        Told::LetGo(_, waiter) => (Through::Thread, actor_of(before, waiter)),
         Told::Release(_, object) => (Through::Object, object),
         _ => return None,
     };
@@ -209,10 +236,7 @@ fn way_through(through: Through, number: u32) -> Option<Way> {
     Some(Way { through, number })
 }
 
-/// What a thread does later.
-fn thread_way(thread: u8) -> Way {
-    Way {
-        through: Through::Thread,
-        number: u32::from(thread),
-    }
+/// What the actor of a thread does later.
+fn thread_way(before: &[Told], thread: u8) -> Option<Way> {
+    way_through(Through::Thread, actor_of(before, thread))
 }

@@ -1,8 +1,7 @@
-use Rattle.std.proofs.Common.{ap, ◌∙◌, sym, subst}
+use Rattle.std.proofs.Common.{sym, subst}
 use Rattle.std.proofs.lemmas.Result.{on_ok_weaker}
 use Rattle.races.specs.Clocks.{time, time_at, time_in, IsJoined}
 use Rattle.races.specs.declared.clock_owner.ClockOwner.{ClockOwner}
-use Rattle.races.specs.declared.clock_owner.ClockOwner.TheVariants.{Ended, Seen, Fenced}
 use Rattle.races.proofs.Clocked.{other_added}
 use Rattle.races.proofs.clocks.Clocks.add.Goals as goal
 
@@ -15,8 +14,8 @@ returns-in-Thread c =
 pub returns-in-Ended : goal.returns-in-Ended
 returns-in-Ended c =
     on_ok_weaker c.add_in.result
-    (λ joined. subst (λ (place : ClockOwner). IsJoined (time c.args.past.now) (time c.add_in.new.past) (time_at c.args.self.now c.args.step place)) (ap Ended c.from.ensures ∙ sym c.in-Ended.is)
-    (other_added (time c.args.past.now) (time c.add_in.new.past) (time_in c.args.self.now.ended c.from.result) joined))
+    (λ joined. subst (λ (place : ClockOwner). IsJoined (time c.args.past.now) (time c.add_in.new.past) (time_at c.args.self.now c.args.step place)) (sym c.in-Ended.is)
+    (other_added (time c.args.past.now) (time c.add_in.new.past) (time_in c.args.self.now.ended c.in-Ended.thread) joined))
     c.add_in.ensures
 
 pub returns-in-Mutex : goal.returns-in-Mutex
@@ -36,13 +35,13 @@ returns-in-Object c =
 pub returns-in-Seen : goal.returns-in-Seen
 returns-in-Seen c =
     on_ok_weaker c.add_in-in-Seen.result
-    (λ joined. subst (λ (place : ClockOwner). IsJoined (time c.args.past.now) (time c.add_in-in-Seen.new.past) (time_at c.args.self.now c.args.step place)) (ap Seen c.from-in-Seen.ensures ∙ sym c.in-Seen.is)
-    (other_added (time c.args.past.now) (time c.add_in-in-Seen.new.past) (time_in c.args.self.now.seen c.from-in-Seen.result) joined))
+    (λ joined. subst (λ (place : ClockOwner). IsJoined (time c.args.past.now) (time c.add_in-in-Seen.new.past) (time_at c.args.self.now c.args.step place)) (sym c.in-Seen.is)
+    (other_added (time c.args.past.now) (time c.add_in-in-Seen.new.past) (time_in c.args.self.now.seen c.in-Seen.thread) joined))
     c.add_in-in-Seen.ensures
 
 pub returns-in-Fenced : goal.returns-in-Fenced
 returns-in-Fenced c =
     on_ok_weaker c.add_in-in-Fenced.result
-    (λ joined. subst (λ (place : ClockOwner). IsJoined (time c.args.past.now) (time c.add_in-in-Fenced.new.past) (time_at c.args.self.now c.args.step place)) (ap Fenced c.from-in-Fenced.ensures ∙ sym c.in-Fenced.is)
-    (other_added (time c.args.past.now) (time c.add_in-in-Fenced.new.past) (time_in c.args.self.now.fenced c.from-in-Fenced.result) joined))
+    (λ joined. subst (λ (place : ClockOwner). IsJoined (time c.args.past.now) (time c.add_in-in-Fenced.new.past) (time_at c.args.self.now c.args.step place)) (sym c.in-Fenced.is)
+    (other_added (time c.args.past.now) (time c.add_in-in-Fenced.new.past) (time_in c.args.self.now.fenced c.in-Fenced.thread) joined))
     c.add_in-in-Fenced.ensures

@@ -1,8 +1,7 @@
-use Rattle.std.proofs.Common.{ap, ◌∙◌, sym, subst}
+use Rattle.std.proofs.Common.{sym, subst}
 use Rattle.std.proofs.lemmas.Result.{on_ok_weaker}
 use Rattle.races.specs.Clocks.{time, time_kept, times_of}
 use Rattle.races.specs.declared.clock_owner.ClockOwner.{ClockOwner}
-use Rattle.races.specs.declared.clock_owner.ClockOwner.TheVariants.{Ended, Seen, Fenced}
 use Rattle.races.proofs.Clocked.{IsPlaceJoined, thread_joined, ended_joined, fenced_joined, mutex_joined, object_joined, seen_joined}
 use Rattle.races.proofs.clocks.Clocks.join.Goals as goal
 
@@ -18,8 +17,8 @@ pub returns-in-Ended : goal.returns-in-Ended
 returns-in-Ended c =
     let old = c.args.self.now in
     on_ok_weaker c.join_in.result
-    (λ joined. subst (λ (place : ClockOwner). IsPlaceJoined (time_kept old) (times_of old.threads.clocks.items c.join_in.new.clocks old.mutexes old.objects old.seen old.fenced) place (time c.args.past.now)) (ap Ended c.from.ensures ∙ sym c.in-Ended.is)
-    (ended_joined old.threads.clocks.items old.ended old.mutexes old.objects old.seen old.fenced c.join_in.new.clocks c.from.result (time c.args.past.now) joined))
+    (λ joined. subst (λ (place : ClockOwner). IsPlaceJoined (time_kept old) (times_of old.threads.clocks.items c.join_in.new.clocks old.mutexes old.objects old.seen old.fenced) place (time c.args.past.now)) (sym c.in-Ended.is)
+    (ended_joined old.threads.clocks.items old.ended old.mutexes old.objects old.seen old.fenced c.join_in.new.clocks c.in-Ended.thread (time c.args.past.now) joined))
     c.join_in.ensures
 
 pub returns-in-Mutex : goal.returns-in-Mutex
@@ -42,14 +41,14 @@ pub returns-in-Seen : goal.returns-in-Seen
 returns-in-Seen c =
     let old = c.args.self.now in
     on_ok_weaker c.join_in-in-Seen.result
-    (λ joined. subst (λ (place : ClockOwner). IsPlaceJoined (time_kept old) (times_of old.threads.clocks.items old.ended old.mutexes old.objects c.join_in-in-Seen.new.clocks old.fenced) place (time c.args.past.now)) (ap Seen c.from-in-Seen.ensures ∙ sym c.in-Seen.is)
-    (seen_joined old.threads.clocks.items old.ended old.mutexes old.objects old.seen old.fenced c.join_in-in-Seen.new.clocks c.from-in-Seen.result (time c.args.past.now) joined))
+    (λ joined. subst (λ (place : ClockOwner). IsPlaceJoined (time_kept old) (times_of old.threads.clocks.items old.ended old.mutexes old.objects c.join_in-in-Seen.new.clocks old.fenced) place (time c.args.past.now)) (sym c.in-Seen.is)
+    (seen_joined old.threads.clocks.items old.ended old.mutexes old.objects old.seen old.fenced c.join_in-in-Seen.new.clocks c.in-Seen.thread (time c.args.past.now) joined))
     c.join_in-in-Seen.ensures
 
 pub returns-in-Fenced : goal.returns-in-Fenced
 returns-in-Fenced c =
     let old = c.args.self.now in
     on_ok_weaker c.join_in-in-Fenced.result
-    (λ joined. subst (λ (place : ClockOwner). IsPlaceJoined (time_kept old) (times_of old.threads.clocks.items old.ended old.mutexes old.objects old.seen c.join_in-in-Fenced.new.clocks) place (time c.args.past.now)) (ap Fenced c.from-in-Fenced.ensures ∙ sym c.in-Fenced.is)
-    (fenced_joined old.threads.clocks.items old.ended old.mutexes old.objects old.seen old.fenced c.join_in-in-Fenced.new.clocks c.from-in-Fenced.result (time c.args.past.now) joined))
+    (λ joined. subst (λ (place : ClockOwner). IsPlaceJoined (time_kept old) (times_of old.threads.clocks.items old.ended old.mutexes old.objects old.seen c.join_in-in-Fenced.new.clocks) place (time c.args.past.now)) (sym c.in-Fenced.is)
+    (fenced_joined old.threads.clocks.items old.ended old.mutexes old.objects old.seen old.fenced c.join_in-in-Fenced.new.clocks c.in-Fenced.thread (time c.args.past.now) joined))
     c.join_in-in-Fenced.ensures

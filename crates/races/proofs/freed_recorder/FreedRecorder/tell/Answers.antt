@@ -14,7 +14,7 @@ returns-in-Fresh c =
     let new : FreedRecorder = record old { lives = c.revive.new.self } in
     on_ok_weaker c.revive.result
     (λ adds history records. subst (λ (one : ObservedEvent). RecordsFreed new (history ++ one ∷ [])) (sym c.in-Fresh.is)
-    (records_more old new history (Fresh c.in-Fresh.address c.in-Fresh.length) (λ said is. record { depth = is.depth; caller = is.caller; length = is.length }) (λ said is. adds) records))
+    (records_more old new history (Fresh c.in-Fresh.address c.in-Fresh.length) (λ said is. record { depth = is.depth; caller = is.caller; length = is.length; began = is.began; numbers = is.numbers }) (λ said is. adds) records))
     c.revive.ensures
 
 pub returns-in_default : goal.returns-in_default

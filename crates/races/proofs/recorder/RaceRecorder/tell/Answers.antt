@@ -1,7 +1,7 @@
 use Rattle.std.proofs.Common.{◌++◌, ◌∷◌, [], ℕ, List, refl, sym, subst}
 use Rattle.std.proofs.lemmas.List.{append-nil}
 use Rattle.std.proofs.lemmas.Result.{on_ok_weaker}
-use Rattle.races.specs.Recording.{Adds, KnowsSteps, Records, depth_of}
+use Rattle.races.specs.Recording.{Adds, KnowsSteps, Records, RecordsMore, said_of}
 use Rattle.races.specs.Steps.{meeting}
 use Rattle.races.specs.declared.observed_event.ObservedEvent.{ObservedEvent}
 use Rattle.races.specs.declared.observed_event.ObservedEvent.TheVariants.{Access, Create, End, Join, Unlock, Lock, LetGo, Round, Acquire, Release, Enter, Leave, Fresh, Caller, Length, Hint}
@@ -66,7 +66,7 @@ pub returns-in-Round : goal.returns-in-Round
 returns-in-Round c =
     on_ok_weaker c.meet.result
     (λ steps. told_still c.args.self.now c.meet.new.self c.args.event.now (Round c.in-Round.threads) c.in-Round.is refl c.meet.ensures.said
-    (subst (λ (threads : List ℕ). Adds c.args.self.now.steps (meeting (depth_of c.args.self.now.depths) threads ∷ []) c.meet.new.self.steps) c.deref.ensures.value steps))
+    (subst (λ (threads : List ℕ). Adds c.args.self.now.steps (meeting (said_of c.args.self.now) threads ∷ []) c.meet.new.self.steps) c.deref.ensures.value steps))
     c.meet.ensures.steps
 
 pub returns-in-Enter : goal.returns-in-Enter
@@ -74,14 +74,14 @@ returns-in-Enter c =
     on_ok_weaker c.enter.result
     (λ depths history records.
     subst (λ (one : ObservedEvent). Records (record c.args.self.now { depths = c.enter.new.self }) (history ++ one ∷ [])) (sym c.in-Enter.is)
-    (told_more c.args.self.now (record c.args.self.now { depths = c.enter.new.self }) history (Enter c.in-Enter.thread) (record { depth = depths; caller = λ thread. refl; length = λ thread. refl })
+    (told_more c.args.self.now (record c.args.self.now { depths = c.enter.new.self }) history (Enter c.in-Enter.thread) (record { depth = depths; caller = λ thread. refl; length = λ thread. refl; began = λ thread. refl; numbers = refl })
     (λ steps knows. subst (KnowsSteps c.args.self.now.steps) (sym (append-nil steps)) knows) records))
     c.enter.ensures
 
 pub returns-in-Leave : goal.returns-in-Leave
 returns-in-Leave c history records =
     subst (λ (one : ObservedEvent). Records (record c.args.self.now { depths = c.leave.new.self }) (history ++ one ∷ [])) (sym c.in-Leave.is)
-    (told_more c.args.self.now (record c.args.self.now { depths = c.leave.new.self }) history (Leave c.in-Leave.thread) (record { depth = c.leave.ensures; caller = λ thread. refl; length = λ thread. refl })
+    (told_more c.args.self.now (record c.args.self.now { depths = c.leave.new.self }) history (Leave c.in-Leave.thread) (record { depth = c.leave.ensures; caller = λ thread. refl; length = λ thread. refl; began = λ thread. refl; numbers = refl })
     (λ steps knows. subst (KnowsSteps c.args.self.now.steps) (sym (append-nil steps)) knows) records)
 
 pub returns-in-Fresh : goal.returns-in-Fresh
@@ -93,17 +93,14 @@ returns-in-Fresh c =
 pub returns-in-Caller : goal.returns-in-Caller
 returns-in-Caller c history records =
     subst (λ (one : ObservedEvent). Records (record c.args.self.now { callers = c.set.new.self }) (history ++ one ∷ [])) (sym c.in-Caller.is)
-    (told_more c.args.self.now (record c.args.self.now { callers = c.set.new.self }) history (Caller c.in-Caller.thread c.in-Caller.pc) (record { depth = λ thread. refl; caller = c.set.ensures; length = λ thread. refl })
+    (told_more c.args.self.now (record c.args.self.now { callers = c.set.new.self }) history (Caller c.in-Caller.thread c.in-Caller.pc) (record { depth = λ thread. refl; caller = c.set.ensures; length = λ thread. refl; began = λ thread. refl; numbers = refl })
     (λ steps knows. subst (KnowsSteps c.args.self.now.steps) (sym (append-nil steps)) knows) records)
 
 pub returns-in-Length : goal.returns-in-Length
 returns-in-Length c history records =
     subst (λ (one : ObservedEvent). Records (record c.args.self.now { lengths = c.set-in-Length.new.self }) (history ++ one ∷ [])) (sym c.in-Length.is)
-    (told_more c.args.self.now (record c.args.self.now { lengths = c.set-in-Length.new.self }) history (Length c.in-Length.thread c.in-Length.length) (record { depth = λ thread. refl; caller = λ thread. refl; length = c.set-in-Length.ensures })
+    (told_more c.args.self.now (record c.args.self.now { lengths = c.set-in-Length.new.self }) history (Length c.in-Length.thread c.in-Length.length) (record { depth = λ thread. refl; caller = λ thread. refl; length = c.set-in-Length.ensures; began = λ thread. refl; numbers = refl })
     (λ steps knows. subst (KnowsSteps c.args.self.now.steps) (sym (append-nil steps)) knows) records)
 
 pub returns-in-Hint : goal.returns-in-Hint
-returns-in-Hint c =
-    on_ok_weaker c.hint.result
-    (λ steps. told_still c.args.self.now c.hint.new.self c.args.event.now (Hint c.in-Hint.hint) c.in-Hint.is refl c.hint.ensures.said steps)
-    c.hint.ensures.steps
+returns-in-Hint c = on_ok_weaker c.hear.result (λ more. subst (λ (event : ObservedEvent). RecordsMore c.args.self.now event c.hear.new.self) (sym c.in-Hint.is) more) c.hear.ensures

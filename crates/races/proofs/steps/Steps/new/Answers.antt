@@ -5,11 +5,9 @@ use Rattle.races.proofs.Repeated.{recent_none}
 use Rattle.races.proofs.steps.Steps.new.Goals as goal
 
 pub returns : goal.returns
-returns c =
-    let clocks = c.in_ok-new.field-0 in
-    record {
-      count = refl;
-      times = follows_none (time_kept clocks) c.in_ok-new.ensures;
-      recent = recent_none c.new-3.result clocks c.new-3.ensures.since c.new-3.ensures.none c.in_ok-new.ensures;
-      words = c.new-2.ensures;
-    }
+returns c = record {
+  count = refl;
+  times = follows_none (time_kept c.new.result) c.new.ensures;
+  recent = recent_none c.new-3.result c.new.result c.new-3.ensures.since c.new-3.ensures.none c.new.ensures;
+  words = c.new-2.ensures;
+}
