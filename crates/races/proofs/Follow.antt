@@ -1,10 +1,10 @@
 -- The times of the places follow the steps.
 use Rattle.std.proofs.Common.{◌≡◌, ℕ, ◌+◌, ◌≤◌, ◌<◌, Bool, cond, List, [], ◌∷◌, ◌++◌, length, refl, sym, ◌∙◌, ap, subst, arith, ⊎_elim, inl, inr}
-use Rattle.std.specs.Prelude.{◌⊎◌, ◌↔◌}
+use Rattle.std.specs.Prelude.{◌⊎◌, ◌↔◌, ◌^◌, min}
 use Rattle.std.proofs.lemmas.Bool.{cases_lt, cases_eq, eq-eqb, ne_eqb}
 use Rattle.std.proofs.lemmas.List.{length_push}
-use Rattle.races.specs.Before.{at, Releases}
-use Rattle.races.specs.Clocks.{Follows, IsAfterOrder, Reaches, own_time, times_with}
+use Rattle.races.specs.Before.{at, Forgets, Releases}
+use Rattle.races.specs.Clocks.{Follows, IsAfterOrder, IsAfterRenew, Reaches, own_time, times_with}
 use Rattle.races.specs.Steps.{Step}
 use Rattle.races.specs.Steps.Step.{Touch, Order, Renew}
 use Rattle.races.specs.declared.clock_owner.ClockOwner.{ClockOwner}
@@ -12,9 +12,15 @@ use Rattle.races.specs.declared.clock_owner.ClockOwner.TheVariants.{Thread, Ende
 use Rattle.races.specs.declared.site.Access.{Access}
 use Rattle.races.proofs.Order.{at_before, at_last, reaches_cases, reaches_more, reaches_through, releases_inside, forward}
 
+-- no thread is forgotten
+pub thread_stays : (step : Step) (thread : ℕ) → Forgets step (Thread thread) → ⊥
+thread_stays (Touch access) thread has = has
+thread_stays (Order acquired released) thread has = has
+thread_stays (Renew address length_of) thread has = has
+
 -- an access is in the past of its thread
 pub reaches_thread : (steps : List Step) (index : ℕ) (access : Access) → at steps index ≡ Touch access → Reaches steps index (Thread access.site.thread)
-reaches_thread steps index access is = record { last = index; upto = inl refl; releases = subst (λ (step : Step). Releases step (Thread access.site.thread)) (sym is) refl }
+reaches_thread steps index access is = record { last = index; upto = inl refl; releases = subst (λ (step : Step). Releases step (Thread access.site.thread)) (sym is) refl; kept = λ between after has. thread_stays (at steps between) access.site.thread has }
 
 pub access_inside : (steps : List Step) (index : ℕ) (access : Access) → at steps index ≡ Touch access → index < length steps
 access_inside steps index access is = releases_inside steps index (Thread access.site.thread) (subst (λ (step : Step). Releases step (Thread access.site.thread)) (sym is) refl)
@@ -29,6 +35,18 @@ access_cases steps step index access is =
     (λ before. inl (before, sym (at_before steps step index before) ∙ is))
     (λ past. let last : index ≡ length steps = omega arith in inr (last, sym (at_last steps step) ∙ ap (at (steps ++ step ∷ [])) (sym last) ∙ is))
     (cases_lt index (length steps))
+
+-- a place is forgotten or it is not
+pub forgotten_or_not : (address length_of : ℕ) (place : ClockOwner) → Forgets (Renew address length_of) place ⊎ (Forgets (Renew address length_of) place → ⊥)
+forgotten_or_not address length_of (Object object) = ⊎_elim
+    (λ under. inr (λ has. let a = has.0 in absurd (omega arith)))
+    (λ from. ⊎_elim (λ inside. inl (from, inside)) (λ past. inr (λ has. let b = has.1 in absurd (omega arith))) (cases_lt object (min (address + length_of) (2 ^ 32))))
+    (cases_lt object address)
+forgotten_or_not address length_of (Thread one) = inr (λ has. has)
+forgotten_or_not address length_of (Ended one) = inr (λ has. has)
+forgotten_or_not address length_of (Mutex one) = inr (λ has. has)
+forgotten_or_not address length_of (Seen one) = inr (λ has. has)
+forgotten_or_not address length_of (Fenced one) = inr (λ has. has)
 
 -- ---- what a thread did is in its own past
 
@@ -135,7 +153,7 @@ module _ (steps : List Step) (old : ClockOwner → ℕ → ℕ) (follows : Follo
       to place index access apart is reaches =
           let was = before index access is in
           (after place access.site.thread index).1 (⊎_elim
-          (λ one. inl ((known_kept place index access apart was.1).0 one))
+          (λ one. inl ((known_kept place index access apart was.1).0 one.0))
           (λ has. inr (has.0, (has.1.0, has.1.1, (follows.known has.1.0 index access was.1).0 has.1.2)))
           (reaches_cases steps step index place was.0 reaches))
 
@@ -143,7 +161,7 @@ module _ (steps : List Step) (old : ClockOwner → ℕ → ℕ) (follows : Follo
       from place index access is small =
           let was = before index access is in
           ⊎_elim
-          (λ one. reaches_more steps step index place ((follows.known place index access was.1).1 (kept_with (length steps) old place access.site.thread index one)))
+          (λ one. reaches_more steps step index place (λ has. has) ((follows.known place index access was.1).1 (kept_with (length steps) old place access.site.thread index one)))
           (λ has. reaches_through steps step index has.1.0 place has.1.1 ((follows.known has.1.0 index access was.1).1 has.1.2) has.0)
           ((after place access.site.thread index).0 small)
 
@@ -161,12 +179,12 @@ module _ (steps : List Step) (old : ClockOwner → ℕ → ℕ) (follows : Follo
       to : (place : ClockOwner) (index : ℕ) (access : Access) → (place ≡ Thread access.site.thread → ⊥) → index < length steps → at steps index ≡ Touch access → Reaches (steps ++ step ∷ []) index place → index < old place access.site.thread
       to place index access apart inside is reaches =
           (known_kept place index access apart is).0 (⊎_elim
-          (λ one. one)
+          (λ one. one.0)
           (λ has. subst (Reaches steps index) (sym has.1.1 ∙ has.0) has.1.2)
           (reaches_cases steps step index place inside reaches))
 
       from : (place : ClockOwner) (index : ℕ) (access : Access) → (place ≡ Thread access.site.thread → ⊥) → at steps index ≡ Touch access → index < old place access.site.thread → Reaches (steps ++ step ∷ []) index place
-      from place index access apart is small = reaches_more steps step index place ((known_kept place index access apart is).1 small)
+      from place index access apart is small = reaches_more steps step index place (λ has. has) ((known_kept place index access apart is).1 small)
 
       same_thread : (access : Access) → step ≡ Touch access → touched.site.thread ≡ access.site.thread
       same_thread access is = let same : touched ≡ access = cc (is) in ap (λ (one : Access). one.site.thread) same
@@ -178,19 +196,36 @@ module _ (steps : List Step) (old : ClockOwner → ℕ → ℕ) (follows : Follo
       from_last : (place : ClockOwner) (index : ℕ) (access : Access) → index ≡ length steps → index < old place access.site.thread → Reaches (steps ++ step ∷ []) index place
       from_last place index access last small = let b = kept_bound place access.site.thread in absurd (omega arith)
 
-  pub after_renew : (address length_of : ℕ) → Follows (steps ++ Renew address length_of ∷ []) (times_with (length (steps ++ Renew address length_of ∷ [])) old)
-  after_renew address length_of = follows_by steps step old (λ place index access apart is. (to place index access apart is, from place index access apart is)) (λ place thread. let b = kept_bound place thread in omega arith)
+  pub after_renew : (new : ClockOwner → ℕ → ℕ) (address length_of : ℕ) → IsAfterRenew old new address length_of → Follows (steps ++ Renew address length_of ∷ []) (times_with (length (steps ++ Renew address length_of ∷ [])) new)
+  after_renew new address length_of after = follows_by steps step new (λ place index access apart is. (to place index access apart is, from place index access apart is)) bounds
     where
       step : Step
       step = Renew address length_of
 
+      bounds : (place : ClockOwner) (thread : ℕ) → new place thread ≤ length steps + 1
+      bounds place thread = ⊎_elim
+          (λ has. let z = after.gone place thread has in omega arith)
+          (λ stays. let same = after.rest place thread stays in let b = kept_bound place thread in omega arith)
+          (forgotten_or_not address length_of place)
+
       before : (index : ℕ) (access : Access) → at (steps ++ step ∷ []) index ≡ Touch access → (index < length steps) × (at steps index ≡ Touch access)
       before index access is = ⊎_elim (λ was. was) (λ last. cc (last.1)) (access_cases steps step index access is)
 
-      to : (place : ClockOwner) (index : ℕ) (access : Access) → (place ≡ Thread access.site.thread → ⊥) → at (steps ++ step ∷ []) index ≡ Touch access → Reaches (steps ++ step ∷ []) index place → index < old place access.site.thread
+      to : (place : ClockOwner) (index : ℕ) (access : Access) → (place ≡ Thread access.site.thread → ⊥) → at (steps ++ step ∷ []) index ≡ Touch access → Reaches (steps ++ step ∷ []) index place → index < new place access.site.thread
       to place index access apart is reaches =
           let was = before index access is in
-          (known_kept place index access apart was.1).0 (⊎_elim (λ one. one) (λ has. absurd has.0) (reaches_cases steps step index place was.0 reaches))
+          ⊎_elim
+          (λ one.
+          let same = after.rest place access.site.thread one.1 in
+          let small = (known_kept place index access apart was.1).0 one.0 in
+          omega arith)
+          (λ has. absurd has.0)
+          (reaches_cases steps step index place was.0 reaches)
 
-      from : (place : ClockOwner) (index : ℕ) (access : Access) → (place ≡ Thread access.site.thread → ⊥) → at (steps ++ step ∷ []) index ≡ Touch access → index < old place access.site.thread → Reaches (steps ++ step ∷ []) index place
-      from place index access apart is small = reaches_more steps step index place ((known_kept place index access apart (before index access is).1).1 small)
+      from : (place : ClockOwner) (index : ℕ) (access : Access) → (place ≡ Thread access.site.thread → ⊥) → at (steps ++ step ∷ []) index ≡ Touch access → index < new place access.site.thread → Reaches (steps ++ step ∷ []) index place
+      from place index access apart is small = ⊎_elim
+          (λ has. let z = after.gone place access.site.thread has in absurd (omega arith))
+          (λ stays.
+          let same = after.rest place access.site.thread stays in
+          reaches_more steps step index place stays ((known_kept place index access apart (before index access is).1).1 (omega arith)))
+          (forgotten_or_not address length_of place)

@@ -90,7 +90,7 @@ module _ (steps : List Step) (step : Step) (word : ℕ) where
   -- what has one step in its past still has another
   pub covered_more : (kept index : ℕ) → kept < length steps → IsCovered steps kept index → IsCovered (steps ++ step ∷ []) kept index
   covered_more kept index inside covers place reaches = ⊎_elim
-      (λ before. reaches_more steps step index place (covers place before))
+      (λ before. reaches_more steps step index place before.1 (covers place before.0))
       (λ has. reaches_through steps step index has.1.0 place has.1.1 (covers has.1.0 has.1.2) has.0)
       (reaches_cases steps step kept place inside reaches)
 
@@ -280,7 +280,7 @@ latest_repeated steps access latest made_before knows = record { sound = sound; 
           subst (λ (other : Access). IsSameAuthor was.0.site other.site) same (author_trans was.0.site before.first.site access.site was.2 before.author),
           was.3,
           λ at_place reaches.
-              let released : Thread access.site.thread ≡ at_place = ⊎_elim (λ had. before.only at_place (was.4 at_place had)) (λ has. has.0) (reaches_cases steps (Touch access) was.0.step at_place inside reaches) in
+              let released : Thread access.site.thread ≡ at_place = ⊎_elim (λ had. before.only at_place (was.4 at_place had.0)) (λ has. has.0) (reaches_cases steps (Touch access) was.0.step at_place inside reaches) in
               subst (λ (n : ℕ). Reaches more n at_place) (sym last.0) (reaches_own steps (Touch access) at_place released),
         ))
         (access_cases steps (Touch access) index one is)

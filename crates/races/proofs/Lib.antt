@@ -3,6 +3,7 @@ pub mod Clocked
 pub mod Crossed
 pub mod FirstOf
 pub mod Follow
+pub mod Forgotten
 pub mod Found
 pub mod FreedListed
 pub mod FreedTold

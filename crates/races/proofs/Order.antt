@@ -3,7 +3,7 @@ use Rattle.std.proofs.Common.{◌≡◌, ℕ, ◌≤◌, ◌<◌, List, [], ◌�
 use Rattle.std.specs.Prelude.{◌⊎◌, Contains}
 use Rattle.std.proofs.lemmas.Bool.{cases_lt}
 use Rattle.std.proofs.lemmas.List.{get_or_append_left, get_or_push, get_or_past, length_push}
-use Rattle.races.specs.Before.{at, Acquires, Releases, IsOrdered, HappensBefore}
+use Rattle.races.specs.Before.{at, Acquires, Forgets, Releases, IsOrdered, HappensBefore}
 use Rattle.races.specs.Before.HappensBefore.{directly, through}
 use Rattle.races.specs.Clocks.{IsUpTo, Reaches}
 use Rattle.races.specs.Steps.{Step}
@@ -30,6 +30,26 @@ pub acquires_inside : (steps : List Step) (index : ℕ) (place : ClockOwner) →
 acquires_inside steps index place has =
     ⊎_elim (λ inside. inside) (λ past. absurd (none_contained place (subst (λ (step : Step). Acquires step place) (get_or_past steps index (Order [] []) past) has))) (cases_lt index (length steps))
 
+pub forgets_inside : (steps : List Step) (index : ℕ) (place : ClockOwner) → Forgets (at steps index) place → index < length steps
+forgets_inside steps index place has =
+    ⊎_elim (λ inside. inside) (λ past. absurd (subst (λ (step : Step). Forgets step place) (get_or_past steps index (Order [] []) past) has)) (cases_lt index (length steps))
+
+-- what forgets a place, with a step more
+pub forgets_cases : (steps : List Step) (step : Step) (between : ℕ) (place : ClockOwner) → Forgets (at (steps ++ step ∷ []) between) place → ((between < length steps) × Forgets (at steps between) place) ⊎ ((between ≡ length steps) × Forgets step place)
+forgets_cases steps step between place has =
+    let small = forgets_inside (steps ++ step ∷ []) between place has in
+    let long = length_push steps step in
+    ⊎_elim
+    (λ before. inl (before, subst (λ (one : Step). Forgets one place) (at_before steps step between before) has))
+    (λ past.
+    let is : between ≡ length steps = omega arith in
+    inr (is, subst (λ (one : Step). Forgets one place) (at_last steps step) (subst (λ (n : ℕ). Forgets (at (steps ++ step ∷ []) n) place) is has)))
+    (cases_lt between (length steps))
+
+-- nothing forgets a place after the last step
+none_after : (steps : List Step) (step : Step) (place : ClockOwner) (between : ℕ) → length steps < between → Forgets (at (steps ++ step ∷ []) between) place → ⊥
+none_after steps step place between after has = let small = forgets_inside (steps ++ step ∷ []) between place has in let long = length_push steps step in absurd (omega arith)
+
 pub forward : (steps : List Step) {earlier later : ℕ} → HappensBefore steps earlier later → earlier < later
 forward steps (directly ordered) = ordered.0
 forward steps (through one other) = let a = forward steps one in let b = forward steps other in omega arith
@@ -47,6 +67,7 @@ ordered_more steps step earlier later ordered =
         ordered.1.0,
         subst (λ (one : Step). Releases one ordered.1.0) (sym (at_before steps step earlier before)) ordered.1.1,
         subst (λ (one : Step). Acquires one ordered.1.0) (sym (at_before steps step later inside)) ordered.1.2,
+        λ between after sooner has. let small : between < length steps = omega arith in ordered.1.3 between after sooner (subst (λ (one : Step). Forgets one ordered.1.0) (at_before steps step between small) has),
       ),
     )
 
@@ -58,6 +79,7 @@ ordered_less steps step earlier later inside ordered =
         ordered.1.0,
         subst (λ (one : Step). Releases one ordered.1.0) (at_before steps step earlier before) ordered.1.1,
         subst (λ (one : Step). Acquires one ordered.1.0) (at_before steps step later inside) ordered.1.2,
+        λ between after sooner has. let small : between < length steps = omega arith in ordered.1.3 between after sooner (subst (λ (one : Step). Forgets one ordered.1.0) (sym (at_before steps step between small)) has),
       ),
     )
 
@@ -103,6 +125,7 @@ before_last steps step index before =
         last = part.last;
         upto = upto_less steps step part.upto inside;
         releases = subst (λ (one : Step). Releases one part.ordered.1.0) (at_before steps step part.last inside) part.ordered.1.1;
+        kept = λ between after has. let small = forgets_inside steps between part.ordered.1.0 has in part.ordered.1.3 between after small (subst (λ (one : Step). Forgets one part.ordered.1.0) (sym (at_before steps step between small)) has);
       },
     )
 
@@ -115,18 +138,20 @@ last_after steps step index place acquires reaches =
         place,
         subst (λ (one : Step). Releases one place) (sym (at_before steps step reaches.last inside)) reaches.releases,
         subst (λ (one : Step). Acquires one place) (sym (at_last steps step)) acquires,
+        λ between after sooner has. reaches.kept between after (subst (λ (one : Step). Forgets one place) (at_before steps step between sooner) has),
       ),
     ) in
     ⊎_elim (λ same. subst (λ (n : ℕ). HappensBefore (steps ++ step ∷ []) n (length steps)) (sym same) ordered) (λ before. through (before_more steps step before) ordered) reaches.upto
 
 -- ---- the pasts of the places with one step more
 
-pub reaches_more : (steps : List Step) (step : Step) (index : ℕ) (place : ClockOwner) → Reaches steps index place → Reaches (steps ++ step ∷ []) index place
-reaches_more steps step index place reaches =
+pub reaches_more : (steps : List Step) (step : Step) (index : ℕ) (place : ClockOwner) → (Forgets step place → ⊥) → Reaches steps index place → Reaches (steps ++ step ∷ []) index place
+reaches_more steps step index place stays reaches =
     let inside = releases_inside steps reaches.last place reaches.releases in record {
       last = reaches.last;
       upto = upto_more steps step reaches.upto;
       releases = subst (λ (one : Step). Releases one place) (sym (at_before steps step reaches.last inside)) reaches.releases;
+      kept = λ between after has. ⊎_elim (λ before. reaches.kept between after before.1) (λ last. stays last.1) (forgets_cases steps step between place has);
     }
 
 pub reaches_own : (steps : List Step) (step : Step) (place : ClockOwner) → Releases step place → Reaches (steps ++ step ∷ []) (length steps) place
@@ -134,6 +159,7 @@ reaches_own steps step place releases = record {
   last = length steps;
   upto = inl refl;
   releases = subst (λ (one : Step). Releases one place) (sym (at_last steps step)) releases;
+  kept = none_after steps step place;
 }
 
 pub reaches_through : (steps : List Step) (step : Step) (index : ℕ) (taken place : ClockOwner) → Acquires step taken → Reaches steps index taken → Releases step place → Reaches (steps ++ step ∷ []) index place
@@ -141,24 +167,29 @@ reaches_through steps step index taken place acquires reaches releases = record 
   last = length steps;
   upto = inr (last_after steps step index taken acquires reaches);
   releases = subst (λ (one : Step). Releases one place) (sym (at_last steps step)) releases;
+  kept = none_after steps step place;
 }
 
 -- where a past of a place comes from
 pub reaches_cases : (steps : List Step) (step : Step) (index : ℕ) (place : ClockOwner) → index < length steps → Reaches (steps ++ step ∷ []) index place
-    → Reaches steps index place ⊎ (Releases step place × ((taken : ClockOwner) × Acquires step taken × Reaches steps index taken))
+    → (Reaches steps index place × (Forgets step place → ⊥)) ⊎ (Releases step place × ((taken : ClockOwner) × Acquires step taken × Reaches steps index taken))
 reaches_cases steps step index place inside reaches = ⊎_elim before here (cases_lt reaches.last (length steps))
   where
     more : List Step
     more = steps ++ step ∷ []
 
-    before : reaches.last < length steps → Reaches steps index place ⊎ (Releases step place × ((taken : ClockOwner) × Acquires step taken × Reaches steps index taken))
-    before earlier = inl (record {
-      last = reaches.last;
-      upto = upto_less steps step reaches.upto earlier;
-      releases = subst (λ (one : Step). Releases one place) (at_before steps step reaches.last earlier) reaches.releases;
-    })
+    before : reaches.last < length steps → (Reaches steps index place × (Forgets step place → ⊥)) ⊎ (Releases step place × ((taken : ClockOwner) × Acquires step taken × Reaches steps index taken))
+    before earlier = inl (
+      record {
+        last = reaches.last;
+        upto = upto_less steps step reaches.upto earlier;
+        releases = subst (λ (one : Step). Releases one place) (at_before steps step reaches.last earlier) reaches.releases;
+        kept = λ between after has. let small = forgets_inside steps between place has in reaches.kept between after (subst (λ (one : Step). Forgets one place) (sym (at_before steps step between small)) has);
+      },
+      λ has. reaches.kept (length steps) earlier (subst (λ (one : Step). Forgets one place) (sym (at_last steps step)) has),
+    )
 
-    here : length steps ≤ reaches.last → Reaches steps index place ⊎ (Releases step place × ((taken : ClockOwner) × Acquires step taken × Reaches steps index taken))
+    here : length steps ≤ reaches.last → (Reaches steps index place × (Forgets step place → ⊥)) ⊎ (Releases step place × ((taken : ClockOwner) × Acquires step taken × Reaches steps index taken))
     here past =
         let small = releases_inside more reaches.last place reaches.releases in
         let long = length_push steps step in

@@ -25,7 +25,7 @@ use Rattle.races.specs.declared.site.Site.{Site}
 use Rattle.races.specs.declared.recent_access.RecentAccess.{RecentAccess}
 use Rattle.races.specs.declared.steps.Steps.{Steps}
 use Rattle.races.specs.declared.word_races.WordRaces.{WordRaces}
-use Rattle.races.proofs.Follow.{access_inside, after_touch, apart_kept, own_cases}
+use Rattle.races.proofs.Follow.{access_inside, after_touch, apart_kept, own_cases, thread_stays}
 use Rattle.races.proofs.Kept.{WasMade, latest_repeated}
 use Rattle.races.proofs.Mapped.{words_touched}
 use Rattle.races.proofs.Noting.{same_trans}
@@ -72,6 +72,7 @@ module _ (steps : List Step) (access : Access) (place : ℕ) (before : WasMade s
       Thread access.site.thread,
       subst (λ (step : Step). Releases step (Thread access.site.thread)) (sym (at_before steps (Touch access) made made_inside ∙ made_is)) (ap Thread author.0),
       subst (λ (step : Step). Acquires step (Thread access.site.thread)) (sym (at_last steps (Touch access))) refl,
+      λ between after sooner has. thread_stays (at more between) access.site.thread has,
     ),
   )
 

@@ -1,8 +1,8 @@
 -- Which of the steps of a run comes before which.
-use Rattle.std.specs.Prelude.{◌≡◌, ℕ, ◌<◌, List, [], Contains, slice_index_or}
+use Rattle.std.specs.Prelude.{◌≡◌, ℕ, ◌+◌, ◌^◌, ◌<◌, ◌≤◌, min, List, [], Contains, slice_index_or}
 use Rattle.races.specs.Steps.{Step, Touch, Order, Renew}
 use Rattle.races.specs.declared.clock_owner.ClockOwner.{ClockOwner}
-use Rattle.races.specs.declared.clock_owner.ClockOwner.TheVariants.{Thread}
+use Rattle.races.specs.declared.clock_owner.ClockOwner.TheVariants.{Thread, Object}
 
 -- the step at an index; past the end nothing happens
 abbrev pub at : List Step → ℕ → Step
@@ -20,9 +20,15 @@ Releases (Touch access) place = Thread access.site.thread ≡ place
 Releases (Order acquired released) place = Contains released place
 Releases (Renew address length) place = ⊥
 
--- a step passes its past on to a place from which a later one takes it over
+-- A step forgets what was passed on to a place: bytes that begin a new life, of each object among them. (None is past the end of memory.)
+abbrev pub Forgets : Step → ClockOwner → Type 0
+Forgets (Renew address length) (Object object) = (address ≤ object) × (object < min (address + length) (2 ^ 32))
+Forgets step place = ⊥
+
+-- a step passes its past on to a place from which a later one takes it over, and none between them forgets it
 abbrev pub IsOrdered : List Step → (earlier later : ℕ) → Type 0
-IsOrdered steps earlier later = (earlier < later) × ((place : ClockOwner) × Releases (at steps earlier) place × Acquires (at steps later) place)
+IsOrdered steps earlier later =
+    (earlier < later) × ((place : ClockOwner) × Releases (at steps earlier) place × Acquires (at steps later) place × ((between : ℕ) → earlier < between → between < later → ¬ Forgets (at steps between) place))
 
 -- Happens before: the least transitive relation that holds of each two such steps.
 pub data HappensBefore (steps : List Step) : (earlier later : ℕ) → Type 0 where

@@ -1,10 +1,10 @@
 -- Clocks: by thread, how far into the steps of a run a past goes.
-use Rattle.std.specs.Prelude.{◌≡◌, ℕ, ◌<◌, ◌≤◌, ◌==◌, ◌⊎◌, ◌↔◌, if◌then◌else◌, max, Option, Some, None, List, Contains, length, slice_get, slice_index_or}
+use Rattle.std.specs.Prelude.{◌≡◌, ℕ, ◌<◌, ◌≤◌, ◌==◌, ◌⊎◌, ◌↔◌, if◌then◌else◌, max, Option, Some, None, IsSome, List, Contains, length, slice_get, slice_index_or}
 use Rattle.std.specs.Ordering.{nat_cmp}
 use Rattle.std.specs.BTreeMap.{BTreeMap, get}
-use Rattle.races.specs.Before.{at, Releases, HappensBefore}
+use Rattle.races.specs.Before.{at, Forgets, Releases, HappensBefore}
 use Rattle.races.specs.Steps.{Step}
-use Rattle.races.specs.Steps.Step.{Touch}
+use Rattle.races.specs.Steps.Step.{Touch, Renew}
 use Rattle.races.specs.declared.clock.Clock.{Clock}
 use Rattle.races.specs.declared.clocks.Clocks.{Clocks}
 use Rattle.races.specs.declared.clock_owner.ClockOwner.{ClockOwner}
@@ -72,6 +72,7 @@ pub record Reaches (steps : List Step) (index : ℕ) (place : ClockOwner) : Type
   pub last : ℕ
   pub upto : IsUpTo steps index last
   pub releases : Releases (at steps last) place
+  pub kept : (between : ℕ) → last < between → ¬ Forgets (at steps between) place
 
 -- The times of each place say which accesses its past has.
 pub record Follows (steps : List Step) (times : ClockOwner → ℕ → ℕ) : Type 0 where
@@ -82,3 +83,18 @@ pub record Follows (steps : List Step) (times : ClockOwner → ℕ → ℕ) : Ty
 abbrev pub IsAfterOrder : (old new taken : ClockOwner → ℕ → ℕ) (acquired released : List ClockOwner) → Type 0
 IsAfterOrder old new taken acquired released = (place : ClockOwner) (thread index : ℕ)
     → (index < new place thread) ↔ ((index < old place thread) ⊎ (Contains released place × ((from : ClockOwner) × Contains acquired from × (index < taken from thread))))
+
+-- The times that are kept once bytes begin a new life: the objects among them have none, and the others' stay.
+pub record IsAfterRenew (old new : ClockOwner → ℕ → ℕ) (address length_of : ℕ) : Type 0 where
+  pub gone : (place : ClockOwner) (thread : ℕ) → Forgets (Renew address length_of) place → new place thread ≡ 0
+  pub rest : (place : ClockOwner) (thread : ℕ) → ¬ Forgets (Renew address length_of) place → new place thread ≡ old place thread
+
+-- the clocks of the keys from one up to another, both included, are removed
+abbrev pub IsWithout : (old : BTreeMap ℕ Clock) → (first last : ℕ) → (new : BTreeMap ℕ Clock) → Type 0
+IsWithout old first last new = (key : ℕ)
+    → (((first ≤ key) × (key ≤ last)) × (get nat_cmp new key ≡ None)) ⊎ (¬ ((first ≤ key) × (key ≤ last)) × (get nat_cmp new key ≡ get nat_cmp old key))
+
+-- the last key up to another, that one included, none if there is none
+abbrev pub IsLastKey : BTreeMap ℕ Clock → (last : ℕ) → Option ℕ → Type 0
+IsLastKey clocks last None = (key : ℕ) → IsSome (get nat_cmp clocks key) → last < key
+IsLastKey clocks last (Some found) = IsSome (get nat_cmp clocks found) × (found ≤ last) × ((key : ℕ) → IsSome (get nat_cmp clocks key) → key ≤ last → key ≤ found)

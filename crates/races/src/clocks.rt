@@ -1,8 +1,8 @@
 //! The clocks of all places.
-ghost use Rattle.std.specs.Prelude.{◌≡◌, ℕ, ◌<◌, ◌↔◌, Contains, IfOk, OnOk, IsSome};
+ghost use Rattle.std.specs.Prelude.{◌≡◌, ℕ, ◌<◌, ◌↔◌, ◌≤◌, Contains, IfNone, IfOk, IfSome, OnOk, IsSome};
 ghost use Rattle.std.specs.Ordering.{nat_cmp};
 ghost use Rattle.std.specs.BTreeMap.{get};
-ghost use Rattle.races.specs.Clocks.{time, time_at, time_in, time_kept, time_of, IsJoined, IsAfterOrder, JoinsAt};
+ghost use Rattle.races.specs.Clocks.{time, time_at, time_in, time_kept, time_of, IsJoined, IsAfterOrder, IsAfterRenew, IsLastKey, IsWithout, JoinsAt};
 ghost use Rattle.races.specs.declared.clock_owner.ClockOwner.{ClockOwner as ClockPlace};
 ghost use Rattle.races.specs.declared.clock_owner.ClockOwner.TheVariants.{Thread};
 
@@ -103,6 +103,19 @@ impl Clocks {
         past.raise(thread as usize, step)
     }
 
+    /// The bytes from an address on, so many, begin a new life: the objects among them have no past any more.
+    pub(crate) fn forget(&mut self, address: u32, length: u32)
+        ensures { IsAfterRenew (time_kept self.old) (time_kept self.new) address length }
+    {
+        if length > 0 {
+            remove_within(
+                &mut self.objects,
+                address,
+                address.saturating_add(length - 1),
+            );
+        }
+    }
+
     /// Adds a past to a place's clock.
     fn join(&mut self, place: ClockOwner, past: &Clock) -> Result<(), AllocError>
         ensures { OnOk result (JoinsAt (time_kept self.old) place (time past.now) (time_kept self.new)) }
@@ -149,4 +162,34 @@ fn add_key(alloc: Global, clocks: &mut ClockMap, key: u32) -> Result<(), AllocEr
         clocks.insert(key, Clock::new(alloc))?;
     }
     Ok(())
+}
+
+/// Removes the clocks of the keys from one up to another, both included.
+fn remove_within(clocks: &mut ClockMap, first: u32, last: u32)
+    ensures { IsWithout clocks.old first last clocks.new }
+{
+    while let Some(key) = key_within(clocks, first, last) {
+        clocks.remove(&key);
+    }
+}
+
+/// One of the keys from one up to another, both included.
+fn key_within(clocks: &ClockMap, first: u32, last: u32) -> Option<u32>
+    ensures some { IfSome result (λ key. (first ≤ key) × (key ≤ last) × IsSome (get nat_cmp clocks.now key)) }
+    ensures none { IfNone result ((key : ℕ) → first ≤ key → key ≤ last → ¬ IsSome (get nat_cmp clocks.now key)) }
+{
+    match last_upto(clocks, last) {
+        Some(key) if first <= key => Some(key),
+        _ => None,
+    }
+}
+
+/// The last of the keys up to another, that one included.
+fn last_upto(clocks: &ClockMap, last: u32) -> Option<u32>
+    ensures { IsLastKey clocks.now last result }
+{
+    match clocks.range(..=last).next_back() {
+        Some((key, _)) => Some(*key),
+        None => None,
+    }
 }

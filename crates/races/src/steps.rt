@@ -113,12 +113,13 @@ impl Steps {
         Ok(())
     }
 
-    /// The bytes from an address on, so many, begin a new life.
+    /// The bytes from an address on, so many, begin a new life, and so do the objects among them.
     pub(crate) fn renew(&mut self, address: u32, length: u32) -> Result<(), AllocError>
         ensures { OnOk result (Adds self.old (Renew address length ∷ []) self.new) }
     {
         let more = self.more()?;
         self.words.renew(Fresh { address, length });
+        self.clocks.forget(address, length);
         self.recent.forget_before(more);
         self.count = more;
         Ok(())

@@ -73,7 +73,7 @@ macro_rules! hint {
 }
 
 /// The rows.
-pub static ROWS: [Row; 32] = [
+pub static ROWS: [Row; 37] = [
     // Two threads add to a counter without a mutex.
     Row {
         name: "lost update",
@@ -515,5 +515,81 @@ pub static ROWS: [Row; 32] = [
             load!(1, 5, 0x1_0108, 0x2_0004),
         ],
         text: "race address=00020004 bytes=4 store thread=2 turn=3+1 pc=00010204 load thread=3 turn=5+2 pc=00010108\n",
+    },
+    // A mutex is freed, and another one begins at its address: what was released to the first orders nothing.
+    Row {
+        name: "an object that begins anew",
+        history: &[
+            store!(1, 2, 0x1_0100, 0x2_0000),
+            Told::Release(1, 0x2_0010),
+            Told::Fresh(0x2_0010, 4),
+            Told::Acquire(2, 0x2_0010),
+            load!(2, 4, 0x1_0200, 0x2_0000),
+        ],
+        text: "race address=00020000 bytes=4 store thread=1 turn=2+0 pc=00010100 load thread=2 turn=4+0 pc=00010200\n",
+    },
+    // What is released to the second one orders.
+    Row {
+        name: "an object after it began anew",
+        history: &[
+            Told::Fresh(0x2_0010, 4),
+            store!(1, 2, 0x1_0100, 0x2_0000),
+            Told::Release(1, 0x2_0010),
+            Told::Acquire(2, 0x2_0010),
+            Told::Fresh(0x2_0010, 4),
+            load!(2, 4, 0x1_0200, 0x2_0000),
+        ],
+        text: "",
+    },
+    // An object is among the bytes that begin a new life if its address is: not the one before them, and not the one after.
+    Row {
+        name: "objects beside fresh bytes",
+        history: &[
+            store!(1, 2, 0x1_0100, 0x2_0000),
+            Told::Release(1, 0x2_000f),
+            Told::Release(1, 0x2_0010),
+            Told::Release(1, 0x2_0017),
+            Told::Release(1, 0x2_0018),
+            Told::Fresh(0x2_0010, 8),
+            Told::Fresh(0x2_0018, 0),
+            Told::Acquire(2, 0x2_000f),
+            load!(2, 4, 0x1_0200, 0x2_0000),
+            Told::Acquire(3, 0x2_0018),
+            load!(3, 4, 0x1_0300, 0x2_0000),
+            Told::Acquire(4, 0x2_0010),
+            load!(4, 4, 0x1_0400, 0x2_0000),
+            Told::Acquire(5, 0x2_0017),
+            load!(5, 4, 0x1_0500, 0x2_0000),
+        ],
+        text: "race address=00020000 bytes=4 store thread=1 turn=2+0 pc=00010100 load thread=4 turn=4+0 pc=00010400\nrace address=00020000 bytes=4 store thread=1 turn=2+0 pc=00010100 load thread=5 turn=4+0 pc=00010500\n",
+    },
+    // A relaxed load of a fresh object sees nothing. What was seen before stays seen.
+    Row {
+        name: "a relaxed load of a fresh object",
+        history: &[
+            store!(1, 2, 0x1_0100, 0x2_0000),
+            Told::Release(1, 0x2_0010),
+            hint!(2, 3, 0x1_0200, HintKind::SeenAcquire, 0x2_0010),
+            Told::Fresh(0x2_0010, 4),
+            hint!(3, 3, 0x1_0300, HintKind::SeenAcquire, 0x2_0010),
+            hint!(2, 4, 0x1_0204, HintKind::FenceAcquire, 0),
+            hint!(3, 4, 0x1_0304, HintKind::FenceAcquire, 0),
+            load!(2, 5, 0x1_0208, 0x2_0000),
+            load!(3, 5, 0x1_0308, 0x2_0000),
+        ],
+        text: "race address=00020000 bytes=4 store thread=1 turn=2+0 pc=00010100 load thread=3 turn=5+2 pc=00010308\n",
+    },
+    // A mutex of the machine has no address.
+    Row {
+        name: "a mutex of the machine is not forgotten",
+        history: &[
+            Told::Lock(1, 7),
+            store!(1, 2, 0x1_0100, 0x2_0000),
+            Told::Unlock(1, 7),
+            Told::Fresh(0, 100),
+            Told::Lock(2, 7),
+            load!(2, 4, 0x1_0200, 0x2_0000),
+        ],
+        text: "",
     },
 ];

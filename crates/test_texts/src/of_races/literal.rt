@@ -1,5 +1,5 @@
 //! A plain detector of races: it looks at each two events, and asks whether one happens before the other.
-use crate::of_races::step::{Acted, Step, Way};
+use crate::of_races::step::{Acted, Step, Way, forgets};
 use races::{Access, ByteSet, Race, Site};
 use std::alloc::{AllocError, Global};
 
@@ -76,25 +76,30 @@ fn comes_before(steps: &[Step], known: &[bool], step: &Step) -> bool {
     let Some((first, others)) = steps.split_first() else {
         return false;
     };
-    if passes_on(first, step) {
+    if passes_on(first, others, step) {
         return true;
     }
-    for (other, is_before) in others.iter().zip(known.iter().rev()) {
-        if *is_before && passes_on(first, other) {
+    for (index, (other, is_before)) in others.iter().zip(known.iter().rev()).enumerate() {
+        let (between, _) = others.split_at(index);
+        if *is_before && passes_on(first, between, other) {
             return true;
         }
     }
     false
 }
 
-/// Whether a step passes its past on to a later one.
-fn passes_on(earlier: &Step, later: &Step) -> bool {
-    takes_over(later, earlier.to[0]) || takes_over(later, earlier.to[1])
+/// Whether a step passes its past on to a later one, after those between them.
+fn passes_on(earlier: &Step, between: &[Step], later: &Step) -> bool {
+    takes_over(later, between, earlier.to[0]) || takes_over(later, between, earlier.to[1])
 }
 
-/// Whether a step takes over what comes by a way.
-fn takes_over(step: &Step, way: Option<Way>) -> bool {
-    way.is_some() && (step.from[0] == way || step.from[1] == way)
+/// Whether a step takes over what comes by a way that none of those before forgets.
+fn takes_over(step: &Step, before: &[Step], way: Option<Way>) -> bool {
+    let Some(through) = way else {
+        return false;
+    };
+    (step.from[0] == way || step.from[1] == way)
+        && !before.iter().any(|one| forgets(one, through))
 }
 
 /// Adds the races of an access with those before it.

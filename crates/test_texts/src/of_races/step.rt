@@ -52,6 +52,16 @@ pub struct Step {
     pub fresh: Option<(u32, u32)>,
 }
 
+/// Whether a step forgets what comes by a way: bytes that begin a new life, of an object among them.
+pub fn forgets(step: &Step, way: Way) -> bool {
+    let Some((address, length)) = step.fresh else {
+        return false;
+    };
+    way.through == Through::Object
+        && address <= way.number
+        && u64::from(way.number) < u64::from(address).saturating_add(u64::from(length))
+}
+
 /// The steps of a history.
 pub fn steps_of(alloc: Global, history: &[Told]) -> Result<Vec<Step>, AllocError> {
     let mut steps = Vec::new(alloc);

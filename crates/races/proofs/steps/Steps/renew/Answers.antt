@@ -12,10 +12,11 @@ returns c steps knows =
     let step : Step = Renew c.args.address c.args.length in
     let more = c.in_ok-more.ensures.more in
     let count = knows.count in
+    let times = after_renew steps (time_kept c.args.self.now.clocks) knows.times (time_kept c.forget.new.self) c.args.address c.args.length c.forget.ensures in
     record {
       count = omega (arith, length_push steps step);
-      times = after_renew steps (time_kept c.args.self.now.clocks) knows.times c.args.address c.args.length;
-      recent = recent_forgotten c.args.self.now.recent c.forget_before.new.self c.args.self.now.clocks c.args.self.now.clocks steps step (omega arith) c.forget_before.ensures.slots
-          (λ place thread. let bound = knows.times.bound place thread in omega arith) knows.recent;
+      times = times;
+      recent = recent_forgotten c.args.self.now.recent c.forget_before.new.self c.args.self.now.clocks c.forget.new.self steps step (omega arith) c.forget_before.ensures.slots
+          (λ place thread. let bound = times.bound place thread in let long = length_push steps step in omega arith) knows.recent;
       words = c.renew.ensures steps knows.words;
     }
