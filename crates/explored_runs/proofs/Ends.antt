@@ -1,6 +1,8 @@
 -- What was seen of a run, by the contract of runs.
 use Rattle.std.proofs.Common.{◌≡◌, ◌∙◌, ◌+◌, ℕ, Some, List, Err, ap, arith, refl, sym, subst}
 use Rattle.sha2.specs.Sha256.{sha256}
+use Rattle.observed_run.specs.Runs.{AreFindingsOf}
+use Rattle.races.specs.declared.finding.Finding.{Finding}
 use Rattle.runtime.proofs.OneReport.{answer_so}
 use Rattle.runtime.specs.Answer.{HasAnswer}
 use Rattle.runtime.specs.Recorded.{Ends, IsRecordedEnd, Recording}
@@ -20,6 +22,10 @@ end_of records setup wanted end recorder is ends =
     subst (λ (given : Setup). HasEnd given end) is
     (answer_so setup (IsRecordedEnd records setup end recorder) (IsRecordedEnd {R = Unit {0}} (λ _ turns changes. Unit {0}) setup end tt)
     (λ history it. record { ends = it.ends; output = it.output; memory = it.memory; threads = it.threads; few = it.few; recorded = tt }) ends)
+
+-- the findings of a run
+pub findings_of : (setup wanted : Setup) (findings : List Finding) → setup ≡ wanted → AreFindingsOf setup findings → AreFindingsOf wanted findings
+findings_of setup wanted findings is found = subst (λ (given : Setup). AreFindingsOf given findings) is found
 
 -- the run of a number ends as was seen
 pub ends_as : (setup : Setup) (end : RunEnd) (ending : Ending) (line : List ℕ) → HasEnd setup end → ending.outcome ≡ end.outcome

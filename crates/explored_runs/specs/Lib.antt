@@ -1,4 +1,5 @@
 pub mod Batch
+pub mod Checked
 pub mod Explored
 pub mod Failing
 pub mod LastLine

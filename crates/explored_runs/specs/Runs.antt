@@ -3,6 +3,8 @@ use Rattle.std.specs.Prelude.{◌≡◌, ℕ, ◌-◌, ◌^◌, ◌<◌, Some, L
 use Rattle.std.specs.declared.alloc.AllocError.{AllocError}
 use Rattle.std.specs.declared.alloc.Global.{Global}
 use Rattle.elf32_reader.specs.LoadImage.{LoadImage}
+use Rattle.observed_run.specs.Runs.{AreFindingsOf}
+use Rattle.races.specs.declared.finding.Finding.{Finding}
 use Rattle.runtime.specs.Answer.{HasAnswer}
 use Rattle.shuffled_phases.specs.declared.config.Config.{Config}
 use Rattle.runtime.specs.Recorded.{Ends}
@@ -41,9 +43,14 @@ abbrev pub IsRun : LoadImage → (input : List ℕ) → Config → Telling
 IsRun image input config number ending line =
     let setup : Setup = setup_by image input config (whole number) in HasAnswer setup (EndsAs setup ending line)
 
--- the run of its number was seen
-abbrev pub IsSeen : LoadImage → (input : List ℕ) → Config → SeenRun → Type 0
-IsSeen image input config seen = IsRun image input config seen.number seen.ending seen.line.items
+-- the findings are those of the run of a number
+abbrev pub HasFindings : LoadImage → (input : List ℕ) → Config → (number : ℕ) → List Finding → Type 0
+HasFindings image input config number findings = AreFindingsOf (setup_by image input config (whole number)) findings
+
+-- The run of its number was seen, and its findings, if they were looked for.
+pub record IsSeen (image : LoadImage) (input : List ℕ) (config : Config) (seen : SeenRun) : Type 0 where
+  pub run : IsRun image input config seen.number seen.ending seen.line.items
+  pub findings : IfSome seen.findings (λ findings. HasFindings image input config seen.number findings.items)
 
 -- the runs of their numbers were seen
 abbrev pub AllSeen : LoadImage → (input : List ℕ) → Config → List SeenRun → Type 0

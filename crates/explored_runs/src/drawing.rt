@@ -20,7 +20,7 @@ use std::sync::atomic::{AtomicU64, Ordering};
 use std::thread;
 use std::thread::Threads;
 
-/// What was seen of the runs of a batch, as far as it is known: in the slots of their numbers.
+/// What was seen of the runs of a batch, as far as it is known: in the slots of their numbers. It is said whether findings are looked for.
 pub(crate) fn run_batch<R: Threads + Wait + Sync, P: ProgressListener + Sync>(
     rt: &R,
     alloc: Global,
@@ -28,6 +28,7 @@ pub(crate) fn run_batch<R: Threads + Wait + Sync, P: ProgressListener + Sync>(
     input: &[u8],
     config: &Config,
     batch: Batch,
+    checks: bool,
     progress: &P,
 ) -> Result<Vec<Option<SeenRun>>, AllocError>
     requires valid { is_valid config.now ≡ true }
@@ -35,7 +36,7 @@ pub(crate) fn run_batch<R: Threads + Wait + Sync, P: ProgressListener + Sync>(
     ensures len { IfOk result (λ slots. vec_len slots ≡ batch.count) }
     ensures slots { IfOk result (λ slots. AreSlots image.now input.now config.now batch slots.items) }
 {
-    let mut parts = draw_all(rt, alloc, image, input, config, batch, progress)?;
+    let mut parts = draw_all(rt, alloc, image, input, config, batch, checks, progress)?;
     let mut slots = empty_slots(alloc, batch.count)?;
     while let Some(part) = parts.pop() {
         put_all(&mut slots, batch, part?);
@@ -62,6 +63,7 @@ fn draw_all<R: Threads + Wait + Sync, P: ProgressListener + Sync>(
     input: &[u8],
     config: &Config,
     batch: Batch,
+    checks: bool,
     progress: &P,
 ) -> Result<Vec<Result<Vec<SeenRun>, AllocError>>, AllocError>
     requires valid { is_valid config.now ≡ true }
@@ -72,7 +74,11 @@ fn draw_all<R: Threads + Wait + Sync, P: ProgressListener + Sync>(
     let part = |_: usize| -> Result<Vec<SeenRun>, AllocError>
         requires { IsSync R.row × IsSync P.row × (is_valid config.now ≡ true) × IsInRange batch }
         ensures { IsPart image.entry.now input.entry.now config.entry.now result }
-    { draw_runs(rt, alloc, image, input, config, batch, &next, progress) };
+    {
+        draw_runs(
+            rt, alloc, image, input, config, batch, checks, &next, progress,
+        )
+    };
     thread::map_indices(rt, alloc, config.workers as usize, &part)
 }
 
@@ -84,6 +90,7 @@ fn draw_runs<R: Threads + Wait + Sync, P: ProgressListener>(
     input: &[u8],
     config: &Config,
     batch: Batch,
+    checks: bool,
     next: &AtomicU64,
     progress: &P,
 ) -> Result<Vec<SeenRun>, AllocError>
@@ -97,7 +104,8 @@ fn draw_runs<R: Threads + Wait + Sync, P: ProgressListener>(
         if place >= u64::from(batch.count) {
             break;
         }
-        let run = run_number(rt, alloc, image, input, config, batch.number(place as u32))?;
+        let number = batch.number(place as u32);
+        let run = run_number(rt, alloc, image, input, config, number, checks)?;
         progress.ran(&run.ending);
         keep(&mut seen, run)?;
     }

@@ -48,7 +48,7 @@ pub fn explore<R: Threads + Wait + Sync, P: ProgressListener + Sync>(
             done,
             count: BATCH.min(runs - done),
         };
-        let slots = run_batch(rt, alloc, &image, input, config, batch, progress)?;
+        let slots = run_batch(rt, alloc, &image, input, config, batch, false, progress)?;
         count_all(rt, alloc, &image, input, config, batch, slots, &mut rows)?;
         done += batch.count;
     }
@@ -99,6 +99,6 @@ fn known_or_run<R: Threads + Wait + Sync>(
 {
     match known {
         Some(run) => Ok(run),
-        None => run_number(rt, alloc, image, input, config, number),
+        None => run_number(rt, alloc, image, input, config, number, false),
     }
 }

@@ -1,7 +1,12 @@
-//! Runs of one program by many schedules, each by its number, and what they came to: a row for each outcome and output.
+//! Runs of one program by many schedules, each by its number, and what they came to: a row for each outcome and output, and if
+//! they are looked for one for each finding.
 #![tactic(auto)]
 
 mod batch;
+mod checked_rows;
+mod checked_run;
+mod checking;
+mod checking_run;
 mod drawing;
 mod ending;
 mod exploring;
@@ -15,6 +20,8 @@ mod seen_run;
 mod shuffled;
 mod slots;
 
+pub use checked_rows::CheckedRows;
+pub use checking::explore_checked;
 pub use ending::Ending;
 pub use exploring::explore;
 pub use failing::fails;

@@ -1,5 +1,6 @@
 //! What was seen of the run of a number.
 use crate::ending::Ending;
+use races::Finding;
 
 /// What was seen of the run of a number.
 #[derive(Drop)]
@@ -10,4 +11,6 @@ pub(crate) struct SeenRun {
     pub(crate) ending: Ending,
     /// The last line of its output.
     pub(crate) line: Vec<u8>,
+    /// Its findings, if they were looked for.
+    pub(crate) findings: Option<Vec<Finding>>,
 }

@@ -50,7 +50,7 @@ pub fn run_shuffled<R: Threads + Wait + Sync>(
 }
 
 /// The fault of a run that writes nothing and was stopped so.
-fn fault_of(interruption: Interruption) -> AllocError
+pub(crate) fn fault_of(interruption: Interruption) -> AllocError
     requires { interruption ≡ Interruption.OutOfMemory }
 {
     match interruption {

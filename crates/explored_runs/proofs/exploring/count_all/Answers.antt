@@ -34,7 +34,7 @@ loop-place-preserved g c =
     let done : ℕ = c.args.batch.done + c.loop-place.place in
     let seen = c.in_ok-run.run' in
     let is : Is c.number-number.result seen.ending seen.line.items =
-    subst (λ (n : ℕ). Is n seen.ending seen.line.items) c.in_ok-run.ensures.number c.in_ok-run.ensures.seen in
+    subst (λ (n : ℕ). Is n seen.ending seen.line.items) c.in_ok-run.ensures.number c.in_ok-run.ensures.seen.run in
     let next : c.number-number.result ≡ c.args.batch.from + done = omega (arith, c.number-number.ensures) in
     let more : AreRowsOf Is c.args.batch.from (done + 1) c.count.new.rows.items =
     more_rows Is c.args.batch.from done c.number-number.result seen.ending seen.line.items c.loop-place.rows.items c.count.new.rows.items next is c.in_ok-count.ensures
