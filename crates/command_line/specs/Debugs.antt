@@ -6,7 +6,7 @@ use Rattle.command_requests.specs.declared.request.Request.TheVariants.{Run, Exp
 abbrev pub IsDebug : Request → Type 0
 IsDebug (Debug file input config turn) = Unit {0}
 IsDebug (Run file input config wanted explains) = ⊥
-IsDebug (Explore file input config range same) = ⊥
+IsDebug (Explore file input config range same check) = ⊥
 IsDebug (Disasm file) = ⊥
 IsDebug (Info file) = ⊥
 IsDebug (Replay file schedule input config) = ⊥

@@ -1,3 +1,4 @@
+pub mod Checks
 pub mod Debugging
 pub mod Debugs
 pub mod Explores

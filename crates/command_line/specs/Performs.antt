@@ -12,11 +12,13 @@ use Rattle.command_requests.specs.Names.{Sameness}
 use Rattle.command_requests.specs.Reading.{AreRead, IsUnreadAt}
 use Rattle.command_requests.specs.Status.{failure_status}
 use Rattle.command_requests.specs.Unasked.{IsUnasked, KeepsUnlessHelp}
+use Rattle.command_requests.specs.declared.destination.Destination.{Destination}
 use Rattle.command_requests.specs.declared.failure.Failure.{Failure}
 use Rattle.command_requests.specs.declared.number_range.NumberRange.{NumberRange}
 use Rattle.command_requests.specs.declared.request.Request.{Request}
 use Rattle.command_requests.specs.declared.request.Request.TheVariants.{Run, Explore, Debug, Disasm, Info, Replay}
 use Rattle.command_run.specs.Status.{answer_status}
+use Rattle.command_line.specs.Checks.{CheckRequest, Checks, check_of}
 use Rattle.command_line.specs.Explores.{ExploreRequest, Explores, exploration_of, explore_status}
 use Rattle.command_line.specs.Listings.{IsListed, IsUnlisted}
 use Rattle.command_line.specs.Status.{replay_status}
@@ -65,6 +67,13 @@ ExploresOn request output output' answer =
     (IsErrAnd answer (IsInputUnread request.exploration.input) × (output' ≡ output))
     ⊎ OnInput request.files request.input request.exploration.input (λ input. Explores (record request { input = input }) output output' answer)
 
+-- what an exploration answers whose findings are looked for, likewise
+abbrev pub ChecksOn : Type 0 → CheckRequest → (files' : Content) → (output' : Option (List ℕ)) → Result Bool Failure → Type 0
+ChecksOn tells request files' output' answer =
+    (IsErrAnd answer (IsInputUnread request.explores.exploration.input) × (output' ≡ request.output) × (files' ≡ request.explores.files))
+    ⊎ OnInput request.explores.files request.explores.input request.explores.exploration.input
+    (λ input. Checks tells (record request { explores = record request.explores { input = input } }) files' output' answer)
+
 -- what performing a request finds: what a command finds, which names are of one file, and what there is to read of standard input, as far as
 -- these are known
 pub record Found : Type 0 where
@@ -76,15 +85,21 @@ pub record Found : Type 0 where
 abbrev pub found_of : Host → Sameness → Option (List ℕ) → Found
 found_of host is_same input = record { host = host; is_same = is_same; input = input }
 
+-- an exploration answers so: its findings are looked for if a destination is named for them
+abbrev pub ExploresFor : Type 0 → Option Destination → Found → Exploration → Host → Result Bool Failure → Type 0
+ExploresFor tells None found exploration after answer =
+    ExploresOn (exploration_of exploration found.host.files found.input) found.host.output after.output answer × (after.files ≡ found.host.files)
+ExploresFor tells (Some destination) found exploration after answer =
+    ChecksOn tells (check_of exploration destination found.host.files found.is_same found.input found.host.output) after.files after.output answer
+
 -- Performing a request answers this status and leaves this. The first type says that outputs tell what they hold. Of a debugging it is
 -- said alone that it changes no file.
 abbrev pub PerformsOne : Type 0 → Found → Request → Host → ℕ → Type 0
 PerformsOne tells found (Run file named config wanted explains) after status =
     IsAnswered tells (run_of file found.is_same found.input config wanted.items) named found.host after status
-PerformsOne tells found (Explore file named config range same) after status =
-    ((answer : Result Bool Failure) × (status ≡ explore_status answer)
-    × ExploresOn (exploration_of (exploration_by file named config range same) found.host.files found.input) found.host.output after.output answer)
-    × (after.files ≡ found.host.files)
+PerformsOne tells found (Explore file named config range same check) after status =
+    (answer : Result Bool Failure) × (status ≡ explore_status answer)
+    × ExploresFor tells check found (exploration_by file named config range same) after answer
 PerformsOne tells found (Replay file schedule named config) after status =
     ((answer : Result (Option RunOutcome) ReplayFailure) × (status ≡ replay_status answer)
     × ReplaysOn (record { files = found.host.files; path = file.now; schedule = schedule.now; input = found.input; config = config })

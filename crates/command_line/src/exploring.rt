@@ -96,7 +96,7 @@ fn explored<H: Threads + Wait + Sync>(
 }
 
 /// Whether a run failed, or whether there is a second row if all are to be the same.
-fn failed(same: bool, rows: &[Row]) -> bool
+pub(crate) fn failed(same: bool, rows: &[Row]) -> bool
     ensures { result ≡ has_failed same rows.now }
 {
     any_fails(rows) || (same && rows.len() > 1)

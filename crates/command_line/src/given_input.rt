@@ -5,15 +5,17 @@ ghost use Rattle.output_files.specs.Taken.{TakesAtMost};
 ghost use Rattle.abi.specs.Limits as limit;
 ghost use Rattle.command_requests.specs.Reading.{AreRead, IsUnreadAt};
 ghost use Rattle.command_run.specs.Serves.{host_of, run_of};
+ghost use Rattle.command_line.specs.Checks.{check_of};
 ghost use Rattle.command_line.specs.Explores.{exploration_of};
-ghost use Rattle.command_line.specs.Performs.{ExploresOn, ReplaysOn, RunsOn};
+ghost use Rattle.command_line.specs.Performs.{ChecksOn, ExploresOn, ReplaysOn, RunsOn};
 ghost use Rattle.command_line.specs.Replays.{asked};
 
+use crate::checking::check_file;
 use crate::exploration::Exploration;
 use crate::exploring::explore_file;
 use crate::given_schedule::replay;
 use crate::replay_failure::ReplayFailure;
-use command_requests::{Failure, RequestedText, Target};
+use command_requests::{Destination, Failure, RequestedText, Target};
 use command_run::run_file;
 use output_files::Files;
 use runtime::{Config, MAX_INPUT, RunOutcome, WriteSink};
@@ -111,6 +113,31 @@ pub(crate) fn explore_given<'a, H: Threads + Wait + Sync, F: Files, R: Read, W: 
     let bytes = input_at(alloc, path, files)?;
     let mut reader = bytes.as_slice();
     explore_file(rt, alloc, exploration, files, &mut reader, stdout)
+}
+
+/// Explores the program of a file on the input of another one, if it is named, and else on the bytes of `stdin`, and looks for the runs'
+/// findings.
+pub(crate) fn check_given<'a, H: Threads + Wait + Sync, F: Files, R: Read, W: Write>(
+    rt: &H,
+    alloc: Global,
+    exploration: &Exploration<'a>,
+    destination: Destination<'a>,
+    files: &mut F,
+    stdin: &mut R,
+    stdout: &mut W,
+) -> Result<bool, Failure<'a>>
+    ensures taken { TakesAtMost (limit.input + 1) (R.remaining stdin.old) (R.remaining stdin.new) }
+    ensures unused { IsSome exploration.now.input → stdin.new ≡ stdin.old }
+    ensures answer { ChecksOn (Tells F.Output.contents)
+        (check_of exploration.now destination.entry (F.content files.old) (F.is_same files.old) (R.remaining stdin.old) (W.contents stdout.old))
+        (F.content files.new) (W.contents stdout.new) result }
+{
+    let Some(path) = exploration.input else {
+        return check_file(rt, alloc, exploration, destination, files, stdin, stdout);
+    };
+    let bytes = input_at(alloc, path, files)?;
+    let mut reader = bytes.as_slice();
+    check_file(rt, alloc, exploration, destination, files, &mut reader, stdout)
 }
 
 /// The bytes of an input's file, and one more than the limit if it has so many.

@@ -1,6 +1,8 @@
 //! The command line: parses the arguments, runs, explores, lists, tells, replays or debugs as they ask for, and answers the status.
 #![tactic(auto)]
 
+mod checked;
+mod checking;
 mod debugging;
 mod exploration;
 mod explored;

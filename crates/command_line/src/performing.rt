@@ -12,7 +12,7 @@ ghost use Rattle.command_line.specs.Performs.{Performs, PerformsOne, found_of};
 use crate::debugging::{Debugging, conclude_debugging, debug_file};
 use crate::exploration::Exploration;
 use crate::exploring::conclude_exploration;
-use crate::given_input::{explore_given, replay_given};
+use crate::given_input::{check_given, explore_given, replay_given};
 use crate::listings::{conclude_listing, disasm};
 use crate::noting::run_noted;
 use crate::replaying::conclude_replay;
@@ -103,23 +103,24 @@ pub fn perform_request<H: Threads + Wait + Sync, F: Files, R: Read + Send, W: Wr
             config,
             range,
             same,
-        } => conclude_exploration(
-            explore_given(
-                rt,
-                alloc,
-                &Exploration {
-                    file,
-                    input,
-                    config,
-                    range,
-                    same,
-                },
-                files,
-                stdin,
-                &mut stdout.writer,
-            ),
-            stderr,
-        ),
+            check,
+        } => {
+            let exploration = Exploration {
+                file,
+                input,
+                config,
+                range,
+                same,
+            };
+            let writer = &mut stdout.writer;
+            let answer = match check {
+                Some(destination) => {
+                    check_given(rt, alloc, &exploration, destination, files, stdin, writer)
+                }
+                None => explore_given(rt, alloc, &exploration, files, stdin, writer),
+            };
+            conclude_exploration(answer, stderr)
+        }
         Request::Replay {
             file,
             schedule,

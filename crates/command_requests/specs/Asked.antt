@@ -89,9 +89,9 @@ abbrev pub Asks : Text → List Row → Request → Type 0
 Asks name rows (Run file input config wanted explains) =
     (name ≡ codes "run") × AreFiles rows file input × IsConfig rows config × IsRead 32 (one_of (codes "workers") rows) (Some config.workers)
     × AreWanted rows texts wanted.items × IsFlag (one_of (codes "explain") rows) explains
-Asks name rows (Explore file input config range same) =
+Asks name rows (Explore file input config range same check) =
     (name ≡ codes "explore") × AreFiles rows file input × IsConfig rows config × IsRead 32 (one_of (codes "workers") rows) (Some config.workers)
-    × AreRange rows range × IsFlag (one_of (codes "same") rows) same
+    × AreRange rows range × IsFlag (one_of (codes "same") rows) same × IsNamed (first_of (codes "check") rows) check
 Asks name rows (Debug file input config turn) =
     (name ≡ codes "debug") × AreFiles rows file input × IsConfig rows config × (config.workers ≡ 1)
     × IsRead 64 (one_of (codes "turn") rows) (Some turn)

@@ -69,6 +69,9 @@ from = record (schedule_number (codes "from")) { defaults = codes "1" ∷ [] }
 abbrev pub same : Rule
 same = flag (codes "same")
 
+abbrev pub check : Rule
+check = option (codes "check")
+
 abbrev pub explain : Rule
 explain = flag (codes "explain")
 
@@ -90,7 +93,7 @@ abbrev pub run : Shape
 run = with_rules (new_shape (codes "run")) (file ∷ input ∷ (record workers { defaults = codes "4" ∷ [] }) ∷ setup ++ (options_of texts ++ explain ∷ []))
 
 abbrev pub explore : Shape
-explore = with_rules (new_shape (codes "explore")) (file ∷ runs ∷ from ∷ input ∷ (record workers { defaults = codes "4" ∷ [] }) ∷ bound ∷ quantum ∷ same ∷ [])
+explore = with_rules (new_shape (codes "explore")) (file ∷ runs ∷ from ∷ input ∷ (record workers { defaults = codes "4" ∷ [] }) ∷ bound ∷ quantum ∷ same ∷ check ∷ [])
 
 abbrev pub debug : Shape
 debug = with_rules (new_shape (codes "debug")) (file ∷ input ∷ turn ∷ setup)

@@ -107,6 +107,14 @@ pub(crate) const SAME: Parameter = Parameter {
     help: "Take a second outcome or output for a failure, too",
 };
 
+/// The findings of all runs of an exploration.
+pub(crate) const CHECKED: Parameter = Parameter {
+    name: "check",
+    form: Form::File,
+    need: Requirement::Optional,
+    help: "Write the data races and other faults of all runs to this file, or to standard output where it is -",
+};
+
 const TRACE: Parameter = Parameter {
     name: "trace",
     form: Form::Text(Text::Trace),
@@ -163,8 +171,8 @@ pub(crate) static RUN: [Parameter; 13] = [
 ];
 
 /// The parameters of the command explore.
-pub(crate) static EXPLORE: [Parameter; 8] = [
-    FILE, RUNS, FROM, INPUT, WORKERS, BOUND, QUANTUM, SAME,
+pub(crate) static EXPLORE: [Parameter; 9] = [
+    FILE, RUNS, FROM, INPUT, WORKERS, BOUND, QUANTUM, SAME, CHECKED,
 ];
 
 /// The parameters of the command debug.

@@ -18,7 +18,7 @@ use crate::form::Form;
 use crate::number_range::NumberRange;
 use crate::parameter::Parameter;
 use crate::parameters::{
-    BOUND, EXPLAIN, FILE, FROM, INPUT, QUANTUM, RUN, RUNS, SAME, SCHEDULE, SHUFFLE, TURN, WORKERS,
+    BOUND, CHECKED, EXPLAIN, FILE, FROM, INPUT, QUANTUM, RUN, RUNS, SAME, SCHEDULE, SHUFFLE, TURN, WORKERS,
 };
 use crate::request::Request;
 use crate::requested_text::RequestedText;
@@ -98,6 +98,7 @@ fn explore_request<'a>(matches: &ArgMatches<'a>) -> Result<Request<'a>, Failure<
         config: config_of(matches, workers_of(matches))?,
         range: NumberRange { from, count: runs },
         same: flag(matches, SAME.name),
+        check: destination(matches, CHECKED.name),
     })
 }
 

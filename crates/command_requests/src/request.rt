@@ -1,4 +1,5 @@
 //! What a command line asks for.
+use crate::destination::Destination;
 use crate::number_range::NumberRange;
 use crate::requested_text::RequestedText;
 use shuffled_phases::Config;
@@ -28,6 +29,8 @@ pub enum Request<'a> {
         range: NumberRange,
         /// Whether a second outcome or output is a failure, too.
         same: bool,
+        /// Where the findings of all runs go, if they are looked for.
+        check: Option<Destination<'a>>,
     },
     /// Print the instructions of a file.
     Disasm {

@@ -181,7 +181,7 @@ fn write_core_file<'a, O: Write>(
 }
 
 /// Writes a text into an output.
-fn write_whole<'a, O: Write>(
+pub fn write_whole<'a, O: Write>(
     destination: Destination<'a>,
     output: &mut O,
     text: &[u8],

@@ -20,7 +20,9 @@ mod running;
 mod trace_failure;
 mod unwritten;
 
+pub use completing::write_whole;
 pub use concluding::conclude;
 pub use performing::run_file;
+pub use placing::{abandon_output, begin_output, publish};
 pub use run_failure::failure_of_fault;
 pub use running::open_bytes;

@@ -10,7 +10,7 @@ use std::alloc::Global;
 use std::io::Write;
 
 /// Begins the output for a destination.
-pub(crate) fn begin_output<'a, F: Files>(
+pub fn begin_output<'a, F: Files>(
     alloc: Global,
     destination: Destination<'a>,
     files: &mut F,
@@ -32,7 +32,7 @@ pub(crate) fn begin_output<'a, F: Files>(
 }
 
 /// Takes away what was begun for a destination.
-pub(crate) fn abandon_output<F: Files>(
+pub fn abandon_output<F: Files>(
     destination: Destination<'_>,
     output: F::Output,
     files: &mut F,
@@ -46,7 +46,7 @@ pub(crate) fn abandon_output<F: Files>(
 }
 
 /// Puts an output, which is whole, where it is to be.
-pub(crate) fn publish<'a, F: Files, W: Write>(
+pub fn publish<'a, F: Files, W: Write>(
     destination: Destination<'a>,
     output: F::Output,
     files: &mut F,
