@@ -12,11 +12,13 @@ use Rattle.command_requests.specs.Names.{Sameness}
 use Rattle.command_requests.specs.Reading.{AreRead, IsUnreadAt}
 use Rattle.command_requests.specs.Status.{failure_status}
 use Rattle.command_requests.specs.Unasked.{IsUnasked, KeepsUnlessHelp}
+use Rattle.command_requests.specs.declared.checking.Checking.{Checking}
 use Rattle.command_requests.specs.declared.failure.Failure.{Failure}
 use Rattle.command_requests.specs.declared.number_range.NumberRange.{NumberRange}
 use Rattle.command_requests.specs.declared.request.Request.{Request}
 use Rattle.command_requests.specs.declared.request.Request.TheVariants.{Run, Explore, Debug, Disasm, Info, Replay}
-use Rattle.command_run.specs.Status.{answer_status}
+use Rattle.command_run.specs.Status.{checked_status}
+use Rattle.command_run.specs.declared.checked_outcome.CheckedOutcome.{CheckedOutcome}
 use Rattle.command_line.specs.Explores.{ExploreRequest, Explores, exploration_of, explore_status}
 use Rattle.command_line.specs.Listings.{IsListed, IsUnlisted}
 use Rattle.command_line.specs.Status.{replay_status}
@@ -39,15 +41,15 @@ IsInputUnread (Some path) failure = IsUnreadAt path.now failure
 
 -- What a run answers on the input that is named for it, or on standard input: the input's file couldn't be read, and all is as it was; or
 -- what it answers on its bytes.
-abbrev pub RunsOn : Type 0 → RunRequest → Option (Bor (List ℕ)) → (before after : Host) → Result RunOutcome Failure → Type 0
+abbrev pub RunsOn : Type 0 → RunRequest → Option (Bor (List ℕ)) → (before after : Host) → Result CheckedOutcome Failure → Type 0
 RunsOn tells request named before after answer =
     (IsErrAnd answer (IsInputUnread named) × (after ≡ before))
     ⊎ OnInput before.files request.input named (λ input. RunsInto tells (record request { input = input }) before after answer)
 
--- the status is that of what a run answers
-abbrev pub IsAnswered : Type 0 → RunRequest → Option (Bor (List ℕ)) → (before after : Host) → (status : ℕ) → Type 0
-IsAnswered tells request named before after status =
-    (answer : Result RunOutcome Failure) × (status ≡ answer_status answer) × RunsOn tells request named before after answer
+-- the status is that of what a run answers: its findings may change it
+abbrev pub IsAnswered : Type 0 → RunRequest → Option (Bor (List ℕ)) → Checking → (before after : Host) → (status : ℕ) → Type 0
+IsAnswered tells request named checking before after status =
+    (answer : Result CheckedOutcome Failure) × (status ≡ checked_status checking.status answer) × RunsOn tells request named before after answer
 
 -- what a replay answers, likewise
 abbrev pub ReplaysOn : ReplayRequest → Option (Bor (List ℕ)) → (output output' : Option (List ℕ)) → Result (Option RunOutcome) ReplayFailure → Type 0
@@ -79,8 +81,8 @@ found_of host is_same input = record { host = host; is_same = is_same; input = i
 -- Performing a request answers this status and leaves this. The first type says that outputs tell what they hold. Of a debugging it is
 -- said alone that it changes no file.
 abbrev pub PerformsOne : Type 0 → Found → Request → Host → ℕ → Type 0
-PerformsOne tells found (Run file named config wanted explains) after status =
-    IsAnswered tells (run_of file found.is_same found.input config wanted.items) named found.host after status
+PerformsOne tells found (Run file named config wanted explains checking) after status =
+    IsAnswered tells (run_of file found.is_same found.input config wanted.items) named checking found.host after status
 PerformsOne tells found (Explore file named config range same) after status =
     ((answer : Result Bool Failure) × (status ≡ explore_status answer)
     × ExploresOn (exploration_of (exploration_by file named config range same) found.host.files found.input) found.host.output after.output answer)

@@ -14,7 +14,7 @@ use crate::exploring::explore_file;
 use crate::given_schedule::replay;
 use crate::replay_failure::ReplayFailure;
 use command_requests::{Failure, RequestedText, Target};
-use command_run::run_file;
+use command_run::{CheckedOutcome, run_file};
 use output_files::Files;
 use runtime::{Config, MAX_INPUT, RunOutcome, WriteSink};
 use std::alloc::Global;
@@ -36,7 +36,7 @@ pub(crate) fn run_given<'a, H: Threads + Wait + Sync, F: Files, R: Read, W: Writ
     stdin: &mut R,
     stdout: &mut WriteSink<W>,
     note: &mut String,
-) -> Result<RunOutcome, Failure<'a>>
+) -> Result<CheckedOutcome, Failure<'a>>
     requires { stdout.old.failures < 2 ^ 64 - 1 }
     ensures taken { TakesAtMost (limit.input + 1) (R.remaining stdin.old) (R.remaining stdin.new) }
     ensures unused { IsSome input.entry → stdin.new ≡ stdin.old }

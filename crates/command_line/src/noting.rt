@@ -6,16 +6,16 @@ ghost use Rattle.file_facts.specs.Reasons.{reason_text};
 ghost use Rattle.output_files.specs.Content.{Tells};
 ghost use Rattle.output_files.specs.Taken.{TakesAtMost};
 ghost use Rattle.command_run.specs.Serves.{host_of, run_of};
-ghost use Rattle.command_run.specs.Status.{answer_status};
+ghost use Rattle.command_run.specs.Status.{checked_status};
 ghost use Rattle.command_line.specs.Performs.{IsAnswered};
 
 use crate::given_input::run_given;
-use command_requests::{Failure, RequestedText};
-use command_run::conclude;
+use command_requests::{Checking, Failure, RequestedText};
+use command_run::{CheckedOutcome, conclude_checked};
 use elf32_reader::{ElfFault, FILE_LIMIT};
 use file_facts::write_reason;
 use output_files::Files;
-use runtime::{Config, RunOutcome, WriteSink};
+use runtime::{Config, WriteSink};
 use std::alloc::{AllocError, Global};
 use std::io::{Read, Write};
 use std::sync::Wait;
@@ -31,6 +31,7 @@ pub(crate) fn run_noted<'a, H: Threads + Wait + Sync, F: Files, R: Read, W: Writ
     config: &Config,
     wanted: &[RequestedText<'a>],
     explains: bool,
+    checking: Checking,
     files: &mut F,
     stdin: &mut R,
     stdout: &mut WriteSink<W>,
@@ -40,7 +41,8 @@ pub(crate) fn run_noted<'a, H: Threads + Wait + Sync, F: Files, R: Read, W: Writ
     ensures taken { TakesAtMost (limit.input + 1) (R.remaining stdin.old) (R.remaining stdin.new) }
     ensures performed { IsAnswered (Tells F.Output.contents)
         (run_of file.entry (F.is_same files.old) (R.remaining stdin.old) config.now wanted.now)
-        input.entry (host_of F.content W.contents files.old stdout.old) (host_of F.content W.contents files.new stdout.new) result }
+        input.entry checking (host_of F.content W.contents files.old stdout.old)
+        (host_of F.content W.contents files.new stdout.new) result }
 {
     let mut note = String::new(alloc);
     let answer = run_given(
@@ -49,7 +51,7 @@ pub(crate) fn run_noted<'a, H: Threads + Wait + Sync, F: Files, R: Read, W: Writ
     if explains {
         note_refusal(alloc, file, answer, files, &mut note);
     }
-    conclude_noted(answer, note.as_str(), stderr)
+    conclude_noted(answer, checking.status, note.as_str(), stderr)
 }
 
 /// Appends to a note why the file of a run is refused, if it is. The file is read again. If it can't be, or if memory runs out for the
@@ -57,7 +59,7 @@ pub(crate) fn run_noted<'a, H: Threads + Wait + Sync, F: Files, R: Read, W: Writ
 fn note_refusal<F: Files>(
     alloc: Global,
     file: &str,
-    answer: Result<RunOutcome, Failure<'_>>,
+    answer: Result<CheckedOutcome, Failure<'_>>,
     files: &F,
     note: &mut String,
 ) {
@@ -78,15 +80,17 @@ fn write_refusal(note: &mut String, elf: &[u8], fault: ElfFault) -> Result<(), A
     note.push_str("\n")
 }
 
-/// Says how a run ended, where there is more to say than its status, and then the note; and answers the status.
+/// Says how a run ended, where there is more to say than its status, and then the note; and answers the status, which is this one if the
+/// run has a finding and would end with 0.
 fn conclude_noted<E: Write>(
-    answer: Result<RunOutcome, Failure<'_>>,
+    answer: Result<CheckedOutcome, Failure<'_>>,
+    check_status: u8,
     note: &str,
     stderr: &mut E,
 ) -> u8
-    ensures { result ≡ answer_status answer.entry }
+    ensures { result ≡ checked_status check_status answer.entry }
 {
-    let status = conclude(answer, stderr);
+    let status = conclude_checked(answer, check_status, stderr);
     let _ = stderr.write_all(note.as_bytes());
     status
 }

@@ -161,6 +161,7 @@ pub fn perform_request<H: Threads + Wait + Sync, F: Files, R: Read + Send, W: Wr
             config,
             wanted,
             explains,
+            checking,
         } => run_noted(
             rt,
             alloc,
@@ -169,6 +170,7 @@ pub fn perform_request<H: Threads + Wait + Sync, F: Files, R: Read + Send, W: Wr
             &config,
             wanted.as_slice(),
             explains,
+            checking,
             files,
             stdin,
             stdout,

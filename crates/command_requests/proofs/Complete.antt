@@ -14,7 +14,7 @@ use Rattle.clap.specs.Simple.{App, Shape, argument_words, built, built_leaf, ent
 use Rattle.clap.specs.ValueTests.{accepts}
 use Rattle.clap.specs.Values.{IsSignedIn, read_as}
 use Rattle.clap.specs.Walk.{Row, Rule, Text, answers_to, finished, nothing_held, reading_by, row_text, rows_after, settled, walk, walk_from}
-use Rattle.clap.specs.declared.builder.value_parser.ValueParser.TheVariants.{Signed}
+use Rattle.clap.specs.declared.builder.value_parser.ValueParser.TheVariants.{Signed, Unsigned}
 use Rattle.command_requests.proofs.Held.{IsPlain, IsRowOf, is_there, no_check_fails}
 use Rattle.command_requests.proofs.Kept.{first_none, holds_of_found, then_none}
 use Rattle.command_requests.specs.Asked.{IsNumber, IsScheduleNumber}
@@ -68,6 +68,11 @@ schedule_passed text e = few 4294967295 text (omega arith) (accepts-Accepts fals
 count_passed : (text : Text) → accepts false spec.count text ≡ true → IsNumber 64 text
 count_passed text e = let is = accepts-Accepts false spec.count text e in (is.0, is.1)
 
+status_passed : (text : Text) → accepts false (Unsigned 0 255) text ≡ true → IsNumber 8 text
+status_passed text e =
+    let is = accepts-Accepts false (Unsigned 0 255) text e in
+    (is.0, omega (arith, is.3))
+
 -- ---- the commands
 
 -- a command of the program as it is built
@@ -91,6 +96,9 @@ turn = filled spec.turn
 
 abbrev four_workers : Rule
 four_workers = filled (record spec.workers { defaults = codes "4" ∷ [] })
+
+abbrev check_status : Rule
+check_status = filled spec.check_status
 
 abbrev runs : Rule
 runs = filled spec.runs
@@ -128,6 +136,7 @@ run_completes words e =
         text_of file _ (there file refl (inl refl)),
         number_of (IsNumber 32) four_workers _ few_passed (there four_workers refl (inr refl)),
         number_of (IsNumber 64) bound _ count_passed (there bound refl (inr refl)),
+        number_of (IsNumber 8) check_status _ status_passed (there check_status refl (inr refl)),
       ),
     )
 

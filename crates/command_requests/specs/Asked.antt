@@ -6,6 +6,7 @@ use Rattle.clap.specs.Faults.{fault_of}
 use Rattle.clap.specs.Words.{Row, Text, first_of, one_of, subcommand_of}
 use Rattle.command_requests.specs.Commands.{program}
 use Rattle.command_requests.specs.Destination.{destination_of}
+use Rattle.command_requests.specs.declared.checking.Checking.{Checking}
 use Rattle.command_requests.specs.declared.destination.Destination.{Destination}
 use Rattle.command_requests.specs.declared.number_range.NumberRange.{NumberRange}
 use Rattle.command_requests.specs.declared.request.Request.{Request}
@@ -84,11 +85,16 @@ pub record AreRange (rows : List Row) (range : NumberRange) : Type 0 where
   pub from_is : IsRead 32 (one_of (codes "from") rows) (Some range.from)
   pub count_is : IsRead 32 (one_of (codes "runs") rows) (Some range.count)
 
+-- what becomes of a run with findings
+pub record IsChecking (rows : List Row) (checking : Checking) : Type 0 where
+  pub status_is : IsRead 8 (one_of (codes "check-status") rows) (Some checking.status)
+
 -- a command of this name that was given these values is this request
 abbrev pub Asks : Text → List Row → Request → Type 0
-Asks name rows (Run file input config wanted explains) =
+Asks name rows (Run file input config wanted explains checking) =
     (name ≡ codes "run") × AreFiles rows file input × IsConfig rows config × IsRead 32 (one_of (codes "workers") rows) (Some config.workers)
     × AreWanted rows texts wanted.items × IsFlag (one_of (codes "explain") rows) explains
+    × IsChecking rows checking
 Asks name rows (Explore file input config range same) =
     (name ≡ codes "explore") × AreFiles rows file input × IsConfig rows config × IsRead 32 (one_of (codes "workers") rows) (Some config.workers)
     × AreRange rows range × IsFlag (one_of (codes "same") rows) same

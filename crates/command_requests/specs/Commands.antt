@@ -66,6 +66,13 @@ runs = record (schedule_number (codes "runs")) { defaults = codes "100" ∷ [] }
 abbrev pub from : Rule
 from = record (schedule_number (codes "from")) { defaults = codes "1" ∷ [] }
 
+-- an option whose value is an exit status
+abbrev pub status : Text → Rule
+status id = number id (Unsigned 0 255)
+
+abbrev pub check_status : Rule
+check_status = record (status (codes "check-status")) { defaults = codes "66" ∷ [] }
+
 abbrev pub same : Rule
 same = flag (codes "same")
 
@@ -87,7 +94,7 @@ with_rules shape [] = shape
 with_rules shape (rule ∷ rest) = with_rules (record shape { rules = shape.rules ++ rule ∷ [] }) rest
 
 abbrev pub run : Shape
-run = with_rules (new_shape (codes "run")) (file ∷ input ∷ (record workers { defaults = codes "4" ∷ [] }) ∷ setup ++ (options_of texts ++ explain ∷ []))
+run = with_rules (new_shape (codes "run")) (file ∷ input ∷ (record workers { defaults = codes "4" ∷ [] }) ∷ setup ++ (options_of texts ++ check_status ∷ explain ∷ []))
 
 abbrev pub explore : Shape
 explore = with_rules (new_shape (codes "explore")) (file ∷ runs ∷ from ∷ input ∷ (record workers { defaults = codes "4" ∷ [] }) ∷ bound ∷ quantum ∷ same ∷ [])

@@ -17,7 +17,8 @@ HasScheduleNumber id rows = IsSomeAnd (one_of id rows) IsScheduleNumber
 
 -- what each command needs: an argument that must be there, or one that has a default
 abbrev pub HasRun : List Row → Type 0
-HasRun rows = HasText (codes "FILE") rows × HasNumber 32 (codes "workers") rows × HasNumber 64 (codes "bound") rows
+HasRun rows =
+    HasText (codes "FILE") rows × HasNumber 32 (codes "workers") rows × HasNumber 64 (codes "bound") rows × HasNumber 8 (codes "check-status") rows
 
 abbrev pub HasExplore : List Row → Type 0
 HasExplore rows =

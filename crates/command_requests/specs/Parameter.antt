@@ -3,7 +3,7 @@ use Rattle.std.specs.Prelude.{◌≡◌, List, [], ◌∷◌, ◌++◌, pos, tru
 use Rattle.clap.specs.Words.{Rule, Text, new_rule}
 use Rattle.clap.specs.declared.builder.value_parser.ValueParser.TheVariants.{Signed}
 use Rattle.abi.specs.Limits as limit
-use Rattle.command_requests.specs.Commands.{count, flag, number, option, schedule_number}
+use Rattle.command_requests.specs.Commands.{count, flag, number, option, schedule_number, status}
 use Rattle.command_requests.specs.Texts.{name_of}
 use Rattle.command_requests.specs.declared.form.Form.{Form}
 use Rattle.command_requests.specs.declared.form.Form.TheVariants as form
@@ -21,6 +21,7 @@ formed form.Workers name = number name (Signed (pos 1) (pos limit.workers))
 formed form.Count name = number name count
 formed form.Shuffle name = option name
 formed form.Number name = schedule_number name
+formed form.Status name = status name
 formed form.Flag name = flag name
 
 -- an argument that must be given so

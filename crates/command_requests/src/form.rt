@@ -18,6 +18,8 @@ pub(crate) enum Form {
     Shuffle,
     /// As an option with a schedule's number alone, or with how many of them, 1 to 2^32 - 1.
     Number,
+    /// As an option with an exit status, 0 to 255.
+    Status,
     /// As an option without a value.
     Flag,
 }

@@ -3,6 +3,7 @@
 
 mod arguments;
 mod asking;
+mod checking;
 mod commands;
 mod destination;
 mod failing;
@@ -25,6 +26,7 @@ mod text;
 
 pub use arguments::arguments_of;
 pub use asking::asked;
+pub use checking::Checking;
 pub use destination::Destination;
 pub use failing::fail;
 pub use failure::Failure;

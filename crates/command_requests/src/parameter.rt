@@ -51,6 +51,10 @@ fn of_form<'a>(alloc: Global, form: Form, name: &'a str) -> Arg<'a>
             let range = value_parser!(u32).range(1..=i64::from(u32::MAX));
             option(alloc, name, "N").value_parser(range)
         }
+        Form::Status => {
+            let range = value_parser!(u64).range(0..=255);
+            option(alloc, name, "N").value_parser(range)
+        }
         Form::Flag => Arg::new(alloc, name).long(name).action(ArgAction::SetTrue),
     }
 }

@@ -149,6 +149,13 @@ const DIGEST: Parameter = Parameter {
     help: "Write hashes of output, memory and trace to this file, or to standard output where it is -",
 };
 
+pub(crate) const STATUS: Parameter = Parameter {
+    name: "check-status",
+    form: Form::Status,
+    need: Requirement::Default("66"),
+    help: "The status of a run with a finding that would end with 0, 0 to 255",
+};
+
 pub(crate) const EXPLAIN: Parameter = Parameter {
     name: "explain",
     form: Form::Flag,
@@ -157,9 +164,9 @@ pub(crate) const EXPLAIN: Parameter = Parameter {
 };
 
 /// The parameters of the command run. The texts are in the order in which a run begins them and puts them where they are to be.
-pub(crate) static RUN: [Parameter; 13] = [
+pub(crate) static RUN: [Parameter; 14] = [
     FILE, INPUT, WORKERS, BOUND, QUANTUM, SHUFFLE, TRACE, TIMELINE, REPORT, FINDINGS, CORE, DIGEST,
-    EXPLAIN,
+    STATUS, EXPLAIN,
 ];
 
 /// The parameters of the command explore.

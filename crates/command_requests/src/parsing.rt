@@ -4,13 +4,14 @@ ghost use Rattle.std.specs.Option.{IsSomeAnd};
 ghost use Rattle.clap.specs.Faults.{fault_of};
 ghost use Rattle.clap.specs.Kinds.{HasKind};
 ghost use Rattle.clap.specs.Words.{first_of, found_of, one_of, rows_of, subcommand_of, subcommand_rows_of};
-ghost use Rattle.command_requests.specs.Asked.{AddsWanted, AreWanted, Asks, AsksFor, IsConfig, IsFlag, IsNamed, IsRead, IsShuffled, IsText};
+ghost use Rattle.command_requests.specs.Asked.{AddsWanted, AreWanted, Asks, AsksFor, IsChecking, IsConfig, IsFlag, IsNamed, IsRead, IsShuffled, IsText};
 ghost use Rattle.command_requests.specs.Commands as spec;
 ghost use Rattle.command_requests.specs.Needed.{HasDebug, HasExplore, HasNumber, HasReplay, HasRun, HasScheduleNumber, HasText, IsFound};
 ghost use Rattle.command_requests.specs.Parameter.{AreNamed, IsNamedFor, texts_in_form, texts_of};
 ghost use Rattle.command_requests.specs.Texts.{texts};
 ghost use Rattle.command_requests.specs.Unasked.{IsUnread};
 
+use crate::checking::Checking;
 use crate::commands::program;
 use crate::destination::Destination;
 use crate::failure::Failure;
@@ -18,7 +19,8 @@ use crate::form::Form;
 use crate::number_range::NumberRange;
 use crate::parameter::Parameter;
 use crate::parameters::{
-    BOUND, EXPLAIN, FILE, FROM, INPUT, QUANTUM, RUN, RUNS, SAME, SCHEDULE, SHUFFLE, TURN, WORKERS,
+    BOUND, EXPLAIN, FILE, FROM, INPUT, QUANTUM, RUN, RUNS, SAME, SCHEDULE, SHUFFLE, STATUS, TURN,
+    WORKERS,
 };
 use crate::request::Request;
 use crate::requested_text::RequestedText;
@@ -78,6 +80,7 @@ fn run_request<'a>(alloc: Global, matches: &ArgMatches<'a>) -> Result<Request<'a
         config: config_of(matches, workers_of(matches))?,
         wanted: wanted_of(alloc, matches)?,
         explains: flag(matches, EXPLAIN.name),
+        checking: checking_of(matches),
     })
 }
 
@@ -269,6 +272,31 @@ fn schedule_number(matches: &ArgMatches<'_>, id: &str) -> u32
 /// The number of 32 bits that an argument says, if it is given.
 fn short_number(matches: &ArgMatches<'_>, id: &str) -> Option<u32>
     ensures { IsRead 32 (one_of id.now (rows_of (found_of matches.now))) result }
+{
+    matches.get_one(id)
+}
+
+/// What becomes of a run with findings.
+fn checking_of(matches: &ArgMatches<'_>) -> Checking
+    requires { HasNumber 8 (codes "check-status") (rows_of (found_of matches.now)) }
+    ensures { IsChecking (rows_of (found_of matches.now)) result }
+{
+    Checking {
+        status: status_given(matches, STATUS.name),
+    }
+}
+
+/// The exit status that an argument says.
+fn status_given(matches: &ArgMatches<'_>, id: &str) -> u8
+    requires { HasNumber 8 id.now (rows_of (found_of matches.now)) }
+    ensures { IsRead 8 (one_of id.now (rows_of (found_of matches.now))) (Some result) }
+{
+    status(matches, id).unwrap()
+}
+
+/// The number of 8 bits that an argument says, if it is given.
+fn status(matches: &ArgMatches<'_>, id: &str) -> Option<u8>
+    ensures { IsRead 8 (one_of id.now (rows_of (found_of matches.now))) result }
 {
     matches.get_one(id)
 }

@@ -1,4 +1,5 @@
 //! What a command line asks for.
+use crate::checking::Checking;
 use crate::number_range::NumberRange;
 use crate::requested_text::RequestedText;
 use shuffled_phases::Config;
@@ -16,6 +17,8 @@ pub enum Request<'a> {
         wanted: Vec<RequestedText<'a>>,
         /// Whether it is to say in words why it ended.
         explains: bool,
+        /// What becomes of it if it has findings.
+        checking: Checking,
     },
     /// Run the program of a file by each of a range of schedules.
     Explore {

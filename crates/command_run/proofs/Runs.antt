@@ -1,6 +1,6 @@
 -- What a run answers, put together of its parts.
 use Rattle.std.proofs.Common.{Bool, false, true, ◌≡◌, ◌⊎◌, ◌∙◌, inl, inr, ℕ, Option, Some, None, Result, Ok, Err, List, [], ◌∷◌, IfOk, IfSome, IsOk, ap, arith, is_some, refl, subst, sym, ⊎_elim}
-use Rattle.std.specs.Prelude.{Contains, if◌then◌else◌}
+use Rattle.std.specs.Prelude.{Contains, IfNone, if◌then◌else◌}
 use Rattle.std.proofs.lemmas.List.Elements.{Contains-append_cases, Contains-append_left, Contains-append_right, Contains-push, Contains-push_cases}
 use Rattle.std.proofs.KnownBytes.{Appends-trans}
 use Rattle.std.specs.Io.KnownBytes.{Appends}
@@ -25,7 +25,6 @@ use Rattle.token.specs.Law.{Determinism, Progress}
 use Rattle.token.specs.Legal.{IsLegal}
 use Rattle.token.specs.RunInTurn.{point_of}
 use Rattle.token.specs.Setup.{Setup}
-use Rattle.token.specs.declared.outcome.RunOutcome.{RunOutcome}
 use Rattle.token.specs.declared.turn.Turn.{Turn}
 use Rattle.command_run.specs.Failure.{IsStoppedBy}
 use Rattle.command_requests.specs.Destination.{KeepsBut}
@@ -40,8 +39,10 @@ use Rattle.command_run.specs.declared.recording.Recording.TheVariants.{Trace, Ti
 use Rattle.command_requests.specs.Destination.{target_of}
 use Rattle.symbols.specs.Symbol.{SymbolLists}
 use Rattle.symbols.specs.Symbols.{symbols_of}
-use Rattle.command_run.specs.Observing.{AreFound}
+use Rattle.command_run.specs.Observing.{AreFound, has_any}
+use Rattle.command_run.specs.declared.checked_outcome.CheckedOutcome.{CheckedOutcome}
 use Rattle.races.specs.FindingTexts.{text_of}
+use Rattle.races.specs.Texts.{left_text}
 use Rattle.races.specs.declared.finding.Finding.{Finding}
 use Rattle.command_run.specs.declared.opened_run.OpenedRun.{OpenedRun}
 use Rattle.command_run.specs.Serves.{left_after, AreOneFile, AreOpenedFrom, AreRun, AreWantedFindings, Concludes, Host, IsBegun, IsStopped, IsUnrun, LeavesTexts, RunRequest, RunsInto}
@@ -161,8 +162,8 @@ abbrev left_with : List Turn → List Change → RunEnd → (findings : List ℕ
 left_with turns changes end findings =
     record { turns = turns; changes = changes; ends = end.outcome; output = end.output.items; memory = cells_of end.memory; threads = end.threads.items; findings = findings }
 
-module _ {R : Type 0} (told : Recording R) (tells : Type 0) (wanted : List RequestedText) (symbols : SymbolLists) (setup : Setup) (end : RunEnd) (findings : List ℕ) (recorders : R)
-    (before after : Host) (now : Content) (mid : Option (List ℕ)) (ends : Ends told setup end recorders) (are_findings : AreWantedFindings wanted symbols setup findings) where
+module _ {R : Type 0} (told : Recording R) (tells : Type 0) (wanted : List RequestedText) (symbols : SymbolLists) (setup : Setup) (end : RunEnd) (found : List Finding) (findings : List ℕ) (recorders : R)
+    (before after : Host) (now : Content) (mid : Option (List ℕ)) (ends : Ends told setup end recorders) (are_findings : AreWantedFindings wanted symbols setup found findings) where
   abbrev history : History
   history = ends.some.0
 
@@ -201,15 +202,18 @@ module _ {R : Type 0} (told : Recording R) (tells : Type 0) (wanted : List Reque
         (has (turns_of history) (changes_of history) ends.some.2.recorded (in_order setup history ends.some.1.legal)))
 
     -- the texts are where they are to be
-    pub concludes_well : Determinism → Progress → IsOk result → Concludes tells wanted symbols before after setup (Ok end.outcome)
-    concludes_well one goes good =
+    pub concludes_well : (some : Bool) → some ≡ has_any found → Determinism → Progress → IsOk result
+        → Concludes tells wanted symbols before after setup (Ok (record { outcome = end.outcome; has_findings = some }))
+    concludes_well some any one goes good =
         let out = all_out_of result good came_out in (
           end.output.items,
+          found,
           findings,
           out.texts,
           one_answer setup history end.outcome (LeavesTexts setup wanted end.outcome end.output.items findings out.texts) one goes ends.some.1.legal ends.some.2.ends
               (leaves_texts out.texts out.are_texts),
           are_findings,
+          any,
           out.out.filed,
           out.others,
           λ can. Appends-trans before.output mid after.output _ _ sent (printed_all tells out.texts mid after.output out.out.printed_after can),
@@ -232,6 +236,7 @@ module _ {R : Type 0} (told : Recording R) (tells : Type 0) (wanted : List Reque
       ends_so = ends.some.2.ends;
       between = mid;
       put_out = subst (λ (output : List ℕ). Appends before.output mid output) (sym ends.some.2.output) sent;
+      found = found;
       findings = findings;
       are_findings = are_findings;
       unwritten =
@@ -258,12 +263,12 @@ but_parts_twice texts wanted old now new same first second =
 
 -- the output of a text couldn't be begun, and nothing was put out
 pub concludes_unbegun : (tells : Type 0) (wanted : List RequestedText) (symbols : SymbolLists) (setup : Setup) (files now : Content) (out : Option (List ℕ)) (failures : ℕ)
-    (failure : Failure) (answer : Result RunOutcome Failure) → KeepsBut [] (destinations wanted) files now → IsUnbegun wanted failure
+    (failure : Failure) (answer : Result CheckedOutcome Failure) → KeepsBut [] (destinations wanted) files now → IsUnbegun wanted failure
     → IsErrAnd answer (λ given. given ≡ failure)
     → Concludes tells wanted symbols (record { files = files; output = out; failures = failures }) (record { files = now; output = out; failures = failures }) setup answer
 concludes_unbegun tells wanted symbols setup files now out failures failure answer kept unbegun given =
     handed_on
-    (λ (given : Result RunOutcome Failure).
+    (λ (given : Result CheckedOutcome Failure).
     Concludes tells wanted symbols (record { files = files; output = out; failures = failures }) (record { files = now; output = out; failures = failures }) setup given)
     failure answer
     (inl (inl (unbegun, refl), kept)) given
@@ -297,28 +302,38 @@ unwritten_some items has = go (failed_in items)
     go (Some destination) = refl
 
 -- a run that was begun answers what it concludes with
-pub runs_to : (tells : Type 0) (request : RunRequest) (before after : Host) (opened : OpenedRun) (answer : Result RunOutcome Failure)
+pub runs_to : (tells : Type 0) (request : RunRequest) (before after : Host) (opened : OpenedRun) (answer : Result CheckedOutcome Failure)
     → (are : AreRun (before.files request.path) request.input (AreOpenedFrom request.config opened))
     → Concludes tells request.wanted (symbols_of are.0) before after (point_of opened.start).setup answer → RunsInto tells request before after answer
 runs_to tells request before after opened answer are concluded =
     inl (begun (before.files request.path) request.input request.config opened (λ symbols setup. Concludes tells request.wanted symbols before after setup answer) are concluded)
 
+-- no findings have no text
+no_text : (symbols : SymbolLists) → text_of symbols [] ≡ []
+unfolding text_of left_text
+no_text symbols = refl
+
 -- the text that was made is that of the wanted findings
 pub wanted_findings : (wanted : List RequestedText) (symbols : SymbolLists) (own : Option SymbolLists) (setup : Setup) (findings : List Finding) (text : List ℕ)
     → is_some own ≡ wants_findings wanted → IfSome own (λ own. own ≡ symbols) → AreFound (is_some own) setup findings
-    → IfSome own (λ own. text ≡ text_of own findings) → AreWantedFindings wanted symbols setup text
-wanted_findings wanted symbols None setup findings text same names are is wants = absurd (unlike (same ∙ wants))
-wanted_findings wanted symbols (Some own) setup findings text same names are is wants =
-    (findings, are, is ∙ ap (λ (names : SymbolLists). text_of names findings) names)
+    → IfSome own (λ own. text ≡ text_of own findings) → IfNone own (text ≡ []) → AreWantedFindings wanted symbols setup findings text
+wanted_findings wanted symbols None setup findings text same names are is none = record {
+  are = subst (λ (observes : Bool). AreFound observes setup findings) same are;
+  text_is = none ∙ sym (ap (text_of symbols) are ∙ no_text symbols);
+}
+wanted_findings wanted symbols (Some own) setup findings text same names are is none = record {
+  are = subst (λ (observes : Bool). AreFound observes setup findings) same are;
+  text_is = is ∙ ap (λ (names : SymbolLists). text_of names findings) names;
+}
 
 -- no run of the file began
-pub runs_unbegun : (tells : Type 0) (request : RunRequest) (before after : Host) (failure : Failure) (answer : Result RunOutcome Failure)
+pub runs_unbegun : (tells : Type 0) (request : RunRequest) (before after : Host) (failure : Failure) (answer : Result CheckedOutcome Failure)
     → IsUnrun request.path (before.files request.path) request.input request.config failure → after.files ≡ before.files → after.output ≡ before.output
     → IsErrAnd answer (λ given. given ≡ failure) → RunsInto tells request before after answer
 runs_unbegun tells request before after failure answer unrun files output given = inr (record {
   why =
       handed_on
-      (λ (given : Result RunOutcome Failure). IsErrAnd given (λ failure. AreOneFile request failure ⊎ IsUnrun request.path (before.files request.path) request.input request.config failure))
+      (λ (given : Result CheckedOutcome Failure). IsErrAnd given (λ failure. AreOneFile request failure ⊎ IsUnrun request.path (before.files request.path) request.input request.config failure))
       failure answer (inr unrun) given;
   files_kept = files;
   output_kept = output;

@@ -36,7 +36,9 @@ use Rattle.command_requests.specs.declared.target.Target.TheVariants.{StandardOu
 use Rattle.command_requests.specs.declared.requested_text.RequestedText.{RequestedText}
 use Rattle.command_run.specs.declared.opened_run.OpenedRun.{OpenedRun}
 use Rattle.command_run.specs.Failure.{failure_of_refusal}
-use Rattle.command_run.specs.Observing.{IsFindingText}
+use Rattle.command_run.specs.Observing.{AreToldAs, has_any}
+use Rattle.command_run.specs.declared.checked_outcome.CheckedOutcome.{CheckedOutcome}
+use Rattle.races.specs.declared.finding.Finding.{Finding}
 use Rattle.symbols.specs.Symbol.{SymbolLists}
 use Rattle.symbols.specs.Symbols.{symbols_of}
 
@@ -140,9 +142,9 @@ abbrev pub IsHalted : List RequestedText → (before after : Host) → Failure �
 IsHalted wanted before after failure setup =
     (IsUnbegun wanted failure × (after.output ≡ before.output)) ⊎ IsStopped wanted setup before after failure
 
--- the text is that of the run's findings, if they are wanted
-abbrev pub AreWantedFindings : List RequestedText → SymbolLists → Setup → List ℕ → Type 0
-AreWantedFindings wanted symbols setup text = wants_findings wanted ≡ true → IsFindingText symbols setup text
+-- they are the run's findings with their text, if they are wanted, and else none
+abbrev pub AreWantedFindings : List RequestedText → SymbolLists → Setup → List Finding → List ℕ → Type 0
+AreWantedFindings wanted symbols setup found text = AreToldAs (wants_findings wanted) symbols setup found text
 
 -- There is a complete history, all of its output is put out, and then one of its texts didn't get to where it is to be.
 pub record IsLeftOut (tells : Type 0) (wanted : List RequestedText) (symbols : SymbolLists) (before after : Host) (failure : Failure) (setup : Setup) : Type 0 where
@@ -152,16 +154,20 @@ pub record IsLeftOut (tells : Type 0) (wanted : List RequestedText) (symbols : S
   pub ends_so : outcome setup history ≡ Some ends
   pub between : Option (List ℕ)
   pub put_out : Appends before.output between (present setup history).output
+  pub found : List Finding
   pub findings : List ℕ
-  pub are_findings : AreWantedFindings wanted symbols setup findings
+  pub are_findings : AreWantedFindings wanted symbols setup found findings
   pub unwritten : AreCutShort tells wanted (left_after setup history ends (present setup history).output findings) before.files after.files between after.output failure
 
--- What a run that nothing refuses answers: its outcome, with the output put out and each text where it is to be, and the other files as they
--- were. Or it has no answer, and the files are as they were but for the parts; or a text didn't get to where it is to be.
-abbrev pub Concludes : Type 0 → List RequestedText → SymbolLists → (before after : Host) → Setup → Result RunOutcome Failure → Type 0
-Concludes tells wanted symbols before after setup (Ok ends) =
-    (put : List ℕ) × (findings : List ℕ) × (texts : List Placed) × ComesTo setup wanted ends put findings texts
-    × AreWantedFindings wanted symbols setup findings
+-- What a run that nothing refuses answers: its outcome and whether it has wanted findings, with the output put out and each text where it
+-- is to be, and the other files as they were. Or it has no answer, and the files are as they were but for the parts; or a text didn't get to
+-- where it is to be.
+abbrev pub Concludes : Type 0 → List RequestedText → SymbolLists → (before after : Host) → Setup → Result CheckedOutcome Failure → Type 0
+Concludes tells wanted symbols before after setup (Ok checked) =
+    (put : List ℕ) × (found : List Finding) × (findings : List ℕ) × (texts : List Placed)
+    × ComesTo setup wanted checked.outcome put findings texts
+    × AreWantedFindings wanted symbols setup found findings
+    × (checked.has_findings ≡ has_any found)
     × AreFiled texts [] after.files
     × KeepsBut (destinations wanted) [] before.files after.files
     × (CanPrintAll tells texts → Appends before.output after.output (put ++ printed texts))
@@ -178,13 +184,13 @@ abbrev pub AreOneFile : RunRequest → Failure → Type 0
 AreOneFile request failure = (one : FileName) × (other : FileName) × (failure ≡ OneFile one other) × AreTwins request.is_same one other request.names
 
 -- No run begins, and files and standard output are as they were.
-pub record IsNotBegun (request : RunRequest) (before after : Host) (answer : Result RunOutcome Failure) : Type 0 where
+pub record IsNotBegun (request : RunRequest) (before after : Host) (answer : Result CheckedOutcome Failure) : Type 0 where
   pub why : IsErrAnd answer (λ failure. AreOneFile request failure ⊎ IsUnrun request.path (before.files request.path) request.input request.config failure)
   pub files_kept : after.files ≡ before.files
   pub output_kept : after.output ≡ before.output
 
 -- What a run answers: it concludes; or no run begins. The first type says that outputs tell what they hold.
-abbrev pub RunsInto : Type 0 → RunRequest → (before after : Host) → Result RunOutcome Failure → Type 0
+abbrev pub RunsInto : Type 0 → RunRequest → (before after : Host) → Result CheckedOutcome Failure → Type 0
 RunsInto tells request before after answer =
     IsBegun (before.files request.path) request.input request.config (λ symbols setup. Concludes tells request.wanted symbols before after setup answer)
     ⊎ IsNotBegun request before after answer

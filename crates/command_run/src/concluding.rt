@@ -1,8 +1,9 @@
 //! How an answer is told: a line on standard error, where there is one, and a status.
 ghost use Rattle.std.specs.Prelude.{◌≡◌, OnOk};
 ghost use Rattle.std.specs.Io.KnownBytes.{Appends};
-ghost use Rattle.command_run.specs.Status.{answer_status, outcome_line, outcome_status};
+ghost use Rattle.command_run.specs.Status.{answer_status, checked_status, outcome_line, outcome_status};
 
+use crate::checked_outcome::CheckedOutcome;
 use command_requests::{Failure, fail};
 use run_digest::OutcomeText;
 use std::io;
@@ -19,6 +20,26 @@ pub fn conclude<E: Write>(answer: Result<RunOutcome, Failure<'_>>, stderr: &mut 
             status_of(outcome)
         }
         Err(failure) => fail(failure, stderr),
+    }
+}
+
+/// Says how a run ended, as [`conclude`] does, and answers the status: this one if the run has a finding and would end with 0.
+pub fn conclude_checked<E: Write>(
+    answer: Result<CheckedOutcome, Failure<'_>>,
+    check_status: u8,
+    stderr: &mut E,
+) -> u8
+    ensures { result ≡ checked_status check_status answer.entry }
+{
+    let checked = match answer {
+        Ok(checked) => checked,
+        Err(failure) => return fail(failure, stderr),
+    };
+    let own = conclude(Ok(checked.outcome), stderr);
+    if checked.has_findings && own == 0 {
+        check_status
+    } else {
+        own
     }
 }
 

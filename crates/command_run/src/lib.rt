@@ -3,6 +3,7 @@
 
 mod abandoning;
 mod beginning;
+mod checked_outcome;
 mod completing;
 mod concluding;
 mod ended_run;
@@ -17,10 +18,12 @@ mod placing;
 mod recording;
 mod run_failure;
 mod running;
+mod told_findings;
 mod trace_failure;
 mod unwritten;
 
-pub use concluding::conclude;
+pub use checked_outcome::CheckedOutcome;
+pub use concluding::{conclude, conclude_checked};
 pub use performing::run_file;
 pub use run_failure::failure_of_fault;
 pub use running::open_bytes;

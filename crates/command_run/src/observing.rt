@@ -6,8 +6,9 @@ ghost use Rattle.races.specs.FindingTexts.{text_of};
 ghost use Rattle.runtime.specs.Recorded.{ComesTo};
 ghost use Rattle.symbols.specs.Symbols.{symbols_of};
 ghost use Rattle.token.specs.RunInTurn.{point_of};
-ghost use Rattle.command_run.specs.Observing.{AreFound};
+ghost use Rattle.command_run.specs.Observing.{AreFound, has_any};
 
+use crate::told_findings::ToldFindings;
 use command_requests::Failure;
 use observed_run::{ObservedRun, run_observed};
 use races::{Finding, findings_text};
@@ -57,8 +58,27 @@ pub(crate) fn run_by<H: Threads + Wait + Sync, S: Sink, K: Recorder>(
     }
 }
 
+/// The text of a run's findings, if they are wanted, and whether there is one.
+pub(crate) fn tell_findings<'a>(
+    alloc: Global,
+    symbols: Option<Symbols>,
+    findings: Vec<Finding>,
+) -> Result<ToldFindings, Failure<'a>>
+    ensures findings { IfOk result (λ told. IfSome symbols (λ symbols. string_bytes told.findings ≡ text_of symbols findings.items)) }
+    ensures unwanted { IfOk result (λ told. IfNone symbols (string_bytes told.findings ≡ [])) }
+    ensures any { IfOk result (λ told. told.has_findings ≡ has_any findings.items) }
+    ensures failed { IfErr result (λ failure. failure ≡ Failure.OutOfMemory) }
+{
+    let has_findings = !findings.is_empty();
+    let findings = finding_text(alloc, symbols, findings)?;
+    Ok(ToldFindings {
+        findings,
+        has_findings,
+    })
+}
+
 /// The text of a run's findings, if they are wanted.
-pub(crate) fn finding_text<'a>(
+fn finding_text<'a>(
     alloc: Global,
     symbols: Option<Symbols>,
     findings: Vec<Finding>,

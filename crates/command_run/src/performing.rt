@@ -10,15 +10,17 @@ ghost use Rattle.command_run.specs.Serves.{Concludes, IsReady, RunsInto, host_of
 
 use crate::abandoning::abandon;
 use crate::beginning::begin;
+use crate::checked_outcome::CheckedOutcome;
 use crate::ended_run::EndedRun;
 use crate::explaining::explain;
 use crate::finishing::finish;
-use crate::observing::finding_text;
+use crate::observing::tell_findings;
 use crate::opened_run::OpenedRun;
 use crate::running::{RunAttempt, open_file, run_start};
+use crate::told_findings::ToldFindings;
 use command_requests::{Failure, RequestedText, named_twice, wants_findings};
 use output_files::Files;
-use runtime::{Config, RunOutcome, WriteSink};
+use runtime::{Config, WriteSink};
 use std::alloc::Global;
 use std::io::{Read, Write};
 use std::sync::Wait;
@@ -26,7 +28,8 @@ use std::thread::Threads;
 use token::one_history;
 
 /// Runs the program of a file, and puts its output and its texts where they are to be, unless two arguments name one
-/// file. If it is to be explained how the run ended, that is appended to `note`.
+/// file. Answers how it ended, and whether it has findings that are wanted. If it is to be explained how the run ended, that is
+/// appended to `note`.
 pub fn run_file<'a, H: Threads + Wait + Sync, F: Files, R: Read, W: Write>(
     rt: &H,
     alloc: Global,
@@ -38,7 +41,7 @@ pub fn run_file<'a, H: Threads + Wait + Sync, F: Files, R: Read, W: Write>(
     stdin: &mut R,
     stdout: &mut WriteSink<W>,
     note: &mut String,
-) -> Result<RunOutcome, Failure<'a>>
+) -> Result<CheckedOutcome, Failure<'a>>
     requires { stdout.old.failures < 2 ^ 64 - 1 }
     ensures input { TakesAtMost (limit.input + 1) (R.remaining stdin.old) (R.remaining stdin.new) }
     ensures answer { RunsInto (Tells F.Output.contents)
@@ -82,7 +85,7 @@ fn run_opened_file<'a, H: Threads + Wait + Sync, F: Files, W: Write>(
     files: &mut F,
     stdout: &mut WriteSink<W>,
     note: &mut String,
-) -> Result<RunOutcome, Failure<'a>>
+) -> Result<CheckedOutcome, Failure<'a>>
     requires ready { IsReady (wants_findings wanted.now) opened }
     requires failures { stdout.old.failures < 2 ^ 64 - 1 }
     ensures answer { (symbols : SymbolLists) → IfSome opened.symbols (λ own. own ≡ symbols)
@@ -105,13 +108,20 @@ fn run_opened_file<'a, H: Threads + Wait + Sync, F: Files, W: Write>(
         rt, alloc, start, workers, observes, items, stdout,
     );
     match result {
-        Ok((end, findings)) => match finding_text(alloc, symbols, findings) {
-            Ok(findings) => {
+        Ok((end, findings)) => match tell_findings(alloc, symbols, findings) {
+            Ok(told) => {
+                let ToldFindings {
+                    findings,
+                    has_findings,
+                } = told;
                 let ended = EndedRun { end, findings };
                 match finish(alloc, items, &ended, files, &mut stdout.writer) {
                     Ok(()) => {
                         explain(alloc, &ended.end, &explaining, note);
-                        Ok(ended.end.outcome)
+                        Ok(CheckedOutcome {
+                            outcome: ended.end.outcome,
+                            has_findings,
+                        })
                     }
                     Err(failure) => Err(failure),
                 }

@@ -18,28 +18,28 @@ pub returns-in-Ok-finish-clause-answer : goal.returns-in-Ok-finish-clause-answer
 returns-in-Ok-finish-clause-answer g c =
     λ symbols names.
     concludes_well (AreToldOf g.F.Output.Write.contents) (Tells g.F.Output.Write.contents) c.args.wanted.now symbols (point_of c.args.opened.start).setup c.in-Ok.end
-    (string_bytes c.in-Ok-finding_text.findings) c.run_start-result.result.items
+    c.in-Ok.findings.items (string_bytes c.in-Ok-tell_findings.told.findings) c.run_start-result.result.items
     (record { files = g.F.Files.content c.args.files.now; output = g.W.Write.contents c.args.stdout.now.writer; failures = c.args.stdout.now.failures })
     (record { files = g.F.Files.content c.finish.new.files; output = g.W.Write.contents c.finish.new.writer; failures = c.run_start-result.new.stdout.failures })
     (g.F.Files.content c.begin.new.files) (g.W.Write.contents c.run_start-result.new.stdout.writer)
     (rw c.in-Ok.is at c.run_start-result.ensures.ended)
-    (wanted_findings c.args.wanted.now symbols c.args.opened.symbols (point_of c.args.opened.start).setup c.in-Ok.findings.items (string_bytes c.in-Ok-finding_text.findings) c.requires.ready.wanted names
-    (rw c.is_some-observes.ensures at (rw c.in-Ok.is at c.run_start-result.ensures.findings)) c.in-Ok-finding_text.ensures.findings)
+    (wanted_findings c.args.wanted.now symbols c.args.opened.symbols (point_of c.args.opened.start).setup c.in-Ok.findings.items (string_bytes c.in-Ok-tell_findings.told.findings) c.requires.ready.wanted names
+    (rw c.is_some-observes.ensures at (rw c.in-Ok.is at c.run_start-result.ensures.findings)) c.in-Ok-tell_findings.ensures.findings c.in-Ok-tell_findings.ensures.unwanted)
     (wanted_by c.run_start-result.result.items.items) c.finish.result (c.run_start-result.ensures.same ∙ c.in_ok-items.ensures.wanted) c.in_ok-items.ensures.kept
     (rw c.in-Ok.is at c.run_start-result.ensures.sent) c.finish.ensures.out
-    c.one_history.ensures.determinism c.one_history.ensures.progress (rw c.in-Ok-finish.is refl)
+    c.in-Ok-tell_findings.told.has_findings c.in-Ok-tell_findings.ensures.any c.one_history.ensures.determinism c.one_history.ensures.progress (rw c.in-Ok-finish.is refl)
 
-pub returns-in-Ok-finding_text-clause-answer : goal.returns-in-Ok-finding_text-clause-answer
-returns-in-Ok-finding_text-clause-answer g c =
+pub returns-in-Ok-tell_findings-clause-answer : goal.returns-in-Ok-tell_findings-clause-answer
+returns-in-Ok-tell_findings-clause-answer g c =
     λ symbols names.
     concludes_left_out (AreToldOf g.F.Output.Write.contents) (Tells g.F.Output.Write.contents) c.args.wanted.now symbols (point_of c.args.opened.start).setup c.in-Ok.end
-    (string_bytes c.in-Ok-finding_text.findings) c.run_start-result.result.items
+    c.in-Ok.findings.items (string_bytes c.in-Ok-tell_findings.told.findings) c.run_start-result.result.items
     (record { files = g.F.Files.content c.args.files.now; output = g.W.Write.contents c.args.stdout.now.writer; failures = c.args.stdout.now.failures })
     (record { files = g.F.Files.content c.finish.new.files; output = g.W.Write.contents c.finish.new.writer; failures = c.run_start-result.new.stdout.failures })
     (g.F.Files.content c.begin.new.files) (g.W.Write.contents c.run_start-result.new.stdout.writer)
     (rw c.in-Ok.is at c.run_start-result.ensures.ended)
-    (wanted_findings c.args.wanted.now symbols c.args.opened.symbols (point_of c.args.opened.start).setup c.in-Ok.findings.items (string_bytes c.in-Ok-finding_text.findings) c.requires.ready.wanted names
-    (rw c.is_some-observes.ensures at (rw c.in-Ok.is at c.run_start-result.ensures.findings)) c.in-Ok-finding_text.ensures.findings)
+    (wanted_findings c.args.wanted.now symbols c.args.opened.symbols (point_of c.args.opened.start).setup c.in-Ok.findings.items (string_bytes c.in-Ok-tell_findings.told.findings) c.requires.ready.wanted names
+    (rw c.is_some-observes.ensures at (rw c.in-Ok.is at c.run_start-result.ensures.findings)) c.in-Ok-tell_findings.ensures.findings c.in-Ok-tell_findings.ensures.unwanted)
     (wanted_by c.run_start-result.result.items.items) c.finish.result (c.run_start-result.ensures.same ∙ c.in_ok-items.ensures.wanted) c.in_ok-items.ensures.kept
     (rw c.in-Ok.is at c.run_start-result.ensures.sent) c.finish.ensures.out
     c.in-Err-finish.failure c.in-Err-finish.is
@@ -52,7 +52,7 @@ returns-in-Ok-clause-answer g c =
     c.run_start-result.result.items
     (record { files = g.F.Files.content c.args.files.now; output = g.W.Write.contents c.args.stdout.now.writer; failures = c.args.stdout.now.failures })
     (record { files = g.F.Files.content c.abandon.new.files; output = g.W.Write.contents c.run_start-result.new.stdout.writer; failures = c.run_start-result.new.stdout.failures })
-    c.in-Err-finding_text.failure (rw c.in-Ok.is at c.run_start-result.ensures.ended) c.in-Err-finding_text.ensures.failed (rw c.in-Ok.is at c.run_start-result.ensures.sent)
+    c.in-Err-tell_findings.failure (rw c.in-Ok.is at c.run_start-result.ensures.ended) c.in-Err-tell_findings.ensures.failed (rw c.in-Ok.is at c.run_start-result.ensures.sent)
     (but_parts_twice (wanted_by c.run_start-result.result.items.items) c.args.wanted.now (g.F.Files.content c.args.files.now) (g.F.Files.content c.begin.new.files)
     (g.F.Files.content c.abandon.new.files) (c.run_start-result.ensures.same ∙ c.in_ok-items.ensures.wanted) c.in_ok-items.ensures.kept c.abandon.ensures.kept)
 
@@ -70,8 +70,8 @@ returns-in-Ok-finish-clause-unnamed g c = λ none.
     c.finish.ensures.unnamed (none_begun c.run_start-result.result.items.items c.args.wanted.now (c.run_start-result.ensures.same ∙ c.in_ok-items.ensures.wanted) none)
     ∙ c.in_ok-items.ensures.unnamed none
 
-pub returns-in-Ok-finding_text-clause-unnamed : goal.returns-in-Ok-finding_text-clause-unnamed
-returns-in-Ok-finding_text-clause-unnamed g c = λ none.
+pub returns-in-Ok-tell_findings-clause-unnamed : goal.returns-in-Ok-tell_findings-clause-unnamed
+returns-in-Ok-tell_findings-clause-unnamed g c = λ none.
     c.finish.ensures.unnamed (none_begun c.run_start-result.result.items.items c.args.wanted.now (c.run_start-result.ensures.same ∙ c.in_ok-items.ensures.wanted) none)
     ∙ c.in_ok-items.ensures.unnamed none
 
