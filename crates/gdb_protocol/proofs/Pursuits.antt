@@ -1,6 +1,7 @@
 -- What comes of motions that a session pursues.
 use Rattle.std.proofs.Common.{◌≡◌, ◌∙◌, ℕ, ◌+◌, ◌-◌, ◌<◌, ◌≤◌, ◌^◌, Bool, true, false, Option, Some, None, Result, Ok, Err, OnOk, refl, sym, ap, subst, arith, inl, inr}
 use Rattle.std.specs.Prelude.{IfOk}
+use Rattle.gdb_conditions.specs.declared.conditions.Conditions.{Conditions}
 use Rattle.gdb_orders.specs.declared.order.Stepper.{Stepper}
 use Rattle.gdb_orders.specs.declared.points.Points.{Points}
 use Rattle.timeline.specs.Backward.{GoesBack}
@@ -18,7 +19,7 @@ use Rattle.timeline.specs.declared.stops.Arrival.{Arrival}
 use Rattle.timeline.proofs.Ending.{earlier, leads_on}
 use Rattle.token.specs.Point.{Point}
 use Rattle.gdb_protocol.specs.Moves.{Stands, StandsAt, moment_in}
-use Rattle.gdb_protocol.specs.Pursuing.{Advances, AdvancesBy, Goes, GoesBefore, GoesForward, IsBefore, Pursues, Returns, after_again, after_back_step, after_first, after_next, after_turn, found_back, met, met_back, wanted_with}
+use Rattle.gdb_protocol.specs.Pursuing.{Advances, AdvancesBy, Goes, GoesBefore, GoesForward, IsBefore, Pursues, Returns, after_again, after_back_step, after_first, after_next, after_pass, after_stop, after_turn, found_back, met, met_back, wanted_with}
 use Rattle.gdb_protocol.specs.declared.pursuit.Pursuit.{Pursuit}
 use Rattle.gdb_protocol.specs.declared.session.Session.{Session}
 
@@ -88,6 +89,27 @@ first_met stepper pursued line NewThread goes = refl
 first_met stepper pursued line End goes = refl
 first_met stepper pursued line Start goes = refl
 first_met stepper pursued line GoesOn goes = absurd (goes refl)
+
+pub stop_met : (alone : Option ℕ) (conditions : Conditions) (pursued : Option Pursuit) (line : Line) (halt : Halt) → (halt ≡ Breakpoint → ⊥)
+    → met pursued halt ≡ after_stop alone conditions pursued line halt
+stop_met alone conditions pursued line Breakpoint hit = absurd (hit refl)
+stop_met alone conditions pursued line (Watched place) hit = refl
+stop_met alone conditions pursued line Arrived hit = refl
+stop_met alone conditions pursued line OtherThread hit = refl
+stop_met alone conditions pursued line NewThread hit = refl
+stop_met alone conditions pursued line End hit = refl
+stop_met alone conditions pursued line Start hit = refl
+stop_met alone conditions pursued line GoesOn hit = refl
+
+pub pass_met : (alone : Option ℕ) (pursued : Option Pursuit) (halt : Halt) → (halt ≡ GoesOn → ⊥) → met pursued halt ≡ after_pass alone pursued halt
+pass_met alone pursued Breakpoint goes = refl
+pass_met alone pursued (Watched place) goes = refl
+pass_met alone pursued Arrived goes = refl
+pass_met alone pursued OtherThread goes = refl
+pass_met alone pursued NewThread goes = refl
+pass_met alone pursued End goes = refl
+pass_met alone pursued Start goes = refl
+pass_met alone pursued GoesOn goes = absurd (goes refl)
 
 pub next_met : (stepper : Stepper) (pursued : Option Pursuit) (line : Line) (halt : Halt) → (halt ≡ OtherThread → ⊥) → met pursued halt ≡ after_next stepper pursued line halt
 next_met stepper pursued line Breakpoint other = refl

@@ -1,4 +1,5 @@
 pub mod Answers
+pub mod Conditions
 pub mod Hearing
 pub mod Interrupts
 pub mod Moves

@@ -33,11 +33,12 @@ pub record StandsAt (old new : Session) : Type 0 where
   pub step : step_of new.timeline.present ≡ step_of old.timeline.present
   pub moment : moment_in new ≡ moment_in old
 
--- The run is the same one. The points that are set, whether the program is there, the step that was chosen, and an interrupt that waits are
--- as they were.
+-- The run is the same one. The points that are set with their conditions, whether the program is there, the step that was chosen, and an
+-- interrupt that waits are as they were.
 pub record Keeps (old new : Session) : Type 0 where
   pub run : SameRun old.timeline new.timeline
   pub points : new.points ≡ old.points
+  pub conditions : new.conditions ≡ old.conditions
   pub life : new.life ≡ old.life
   pub chosen : new.chosen ≡ old.chosen
   pub interrupted : new.is_interrupted ≡ old.is_interrupted

@@ -1,5 +1,6 @@
 -- What a session asks of the run while it pursues something, and what it pursues next.
 use Rattle.std.specs.Prelude.{◌≡◌, ℕ, ◌+◌, ◌-◌, ◌==◌, ◌&&◌, ◌||◌, Bool, true, false, not, nat_le, nat_lt, if◌then◌else◌, Option, Some, None, option_map, [], length}
+use Rattle.gdb_conditions.specs.declared.conditions.Conditions.{Conditions}
 use Rattle.gdb_orders.specs.Orders.{alone_in, only_if}
 use Rattle.gdb_orders.specs.declared.order.Stepper.{Stepper}
 use Rattle.gdb_orders.specs.declared.points.Points.{Points}
@@ -19,6 +20,7 @@ use Rattle.timeline.specs.declared.halt.Halt.{Halt}
 use Rattle.timeline.specs.declared.halt.Halt.TheVariants.{Arrived, Breakpoint, GoesOn, OtherThread, Start}
 use Rattle.timeline.specs.declared.line.Line.{Line}
 use Rattle.timeline.specs.declared.stops.Arrival.{Arrival}
+use Rattle.gdb_protocol.specs.Conditions.{is_unmet}
 use Rattle.gdb_protocol.specs.Moves.{moment_in}
 use Rattle.gdb_protocol.specs.declared.pursuit.Pursuit.{Pursuit}
 use Rattle.gdb_protocol.specs.declared.pursuit.Pursuit.TheVariants as pursuit
@@ -46,6 +48,10 @@ wanted_with points arrival alone known =
 -- the watches that are set
 abbrev pub watched_with : Points → Wanted
 watched_with points = record { breakpoints = []; watches = points.watches.items; arrival = None; alone = None; known = None }
+
+-- the watches that are set, and other threads than one that moves alone
+abbrev pub passed_with : Points → (alone : Option ℕ) → Wanted
+passed_with points alone = record { breakpoints = []; watches = points.watches.items; arrival = None; alone = alone; known = None }
 
 -- more threads than so many
 abbrev pub more_than : ℕ → Wanted
@@ -89,6 +95,16 @@ abbrev pub met : Option Pursuit → Halt → Option Pursuit
 met pursued GoesOn = pursued
 met pursued Start = pursued
 met pursued _ = None
+
+-- after the way to the next stop: over a breakpoint whose conditions aren't met
+abbrev pub after_stop : (alone : Option ℕ) → Conditions → Option Pursuit → Line → Halt → Option Pursuit
+after_stop alone conditions pursued line Breakpoint = if is_unmet conditions line then Some (pursuit.Pass alone) else None
+after_stop alone conditions pursued line halt = met pursued halt
+
+-- after the instruction at such a breakpoint: to the next stop
+abbrev pub after_pass : (alone : Option ℕ) → Option Pursuit → Halt → Option Pursuit
+after_pass alone pursued GoesOn = Some (pursuit.Continue alone)
+after_pass alone pursued halt = met pursued halt
 
 abbrev pub met_back : Option Pursuit → Halt → Option Pursuit
 met_back pursued GoesOn = pursued
@@ -153,7 +169,9 @@ GoesToChosen old step new =
 abbrev pub Pursues : Session → Pursuit → Session → Type 0
 Pursues old (pursuit.Chosen step) new = GoesToChosen old step new
 Pursues old (pursuit.Continue alone) new =
-    Goes old (wanted_with old.points None alone (known_unless old alone)) slice (met old.pursuit) new
+    Goes old (wanted_with old.points None alone (known_unless old alone)) slice
+    (after_stop alone old.conditions old.pursuit new.timeline) new
+Pursues old (pursuit.Pass alone) new = Goes old (passed_with old.points alone) 1 (after_pass alone old.pursuit) new
 Pursues old (pursuit.Turn stepper) new =
     Goes old (wanted_with old.points (anywhere stepper.thread) (alone_in stepper) (known_unless old (alone_in stepper))) slice
     (after_turn stepper old.pursuit new.timeline) new

@@ -51,7 +51,7 @@ impl Session {
     fn go_back(&mut self, pursuit: Pursuit, alone: Option<u32>) -> Result<(), AllocError> {
         self.start_motion();
         if alone.is_none() {
-            if self.takes_chosen() {
+            if self.takes_chosen()? {
                 return Ok(());
             }
             if let Some(other) = self.watching.tell_other() {

@@ -2,14 +2,16 @@
 use crate::moving::SLICE;
 use crate::pursuit::Pursuit;
 use crate::session::Session;
-use gdb_shown::{NONE, TRAP};
+use crate::view::ThreadView;
+use gdb_shown::{NONE, PC, TRAP, register};
 use std::alloc::AllocError;
 use timeline::Halt;
 
 impl Session {
-    ghost use Rattle.std.specs.Prelude.{◌≡◌, None, OnOk};
+    ghost use Rattle.std.specs.Prelude.{◌≡◌, None, IfOk, OnOk};
+    ghost use Rattle.gdb_protocol.specs.Conditions.{is_unmet};
     ghost use Rattle.gdb_protocol.specs.Moves.{Keeps, Stands};
-    ghost use Rattle.gdb_protocol.specs.Pursuing.{Advances, Goes, GoesToChosen, known_unless, met, slice, wanted_with};
+    ghost use Rattle.gdb_protocol.specs.Pursuing.{Advances, Goes, GoesToChosen, after_pass, after_stop, known_unless, met, passed_with, slice, wanted_with};
 
     /// Goes on with the run for a while, if it goes on. It comes to a stop and answers, or goes on at the next call.
     pub fn advance(&mut self) -> Result<(), AllocError>
@@ -21,6 +23,7 @@ impl Session {
             None => Ok(()),
             Some(Pursuit::Chosen(step)) => self.pursue_chosen(step),
             Some(Pursuit::Continue { alone }) => self.pursue_stop(alone),
+            Some(Pursuit::Pass { alone }) => self.pursue_pass(alone),
             Some(Pursuit::Turn(stepper)) => self.pursue_turn(stepper),
             Some(Pursuit::First(stepper)) => self.pursue_first(stepper),
             Some(Pursuit::Next(stepper)) => self.pursue_next(stepper),
@@ -61,13 +64,77 @@ impl Session {
 
     /// Goes on to the next stop.
     fn pursue_stop(&mut self, alone: Option<u32>) -> Result<(), AllocError>
-        ensures goes { OnOk result
-            (Goes self.old (wanted_with self.old.points None alone (known_unless self.old alone)) slice (met self.old.pursuit) self.new) }
+        ensures goes { OnOk result (Goes self.old (wanted_with self.old.points None alone (known_unless self.old alone)) slice
+            (after_stop alone self.old.conditions self.old.pursuit self.new.timeline) self.new) }
         ensures keeps { Keeps self.old self.new }
     {
         let known_threads = self.known_unless(alone);
         let halt = self.go_to(None, alone, known_threads)?;
-        self.meet(halt, alone)
+        self.meet_stop(halt, alone)
+    }
+
+    /// Tells a halt on the way to the next stop, or goes on over a breakpoint whose conditions aren't met.
+    fn meet_stop(&mut self, halt: Halt, alone: Option<u32>) -> Result<(), AllocError>
+        ensures stands { Stands self.old self.new }
+        ensures next { OnOk result
+            (self.new.pursuit ≡ after_stop alone self.old.conditions self.old.pursuit self.old.timeline halt) }
+        ensures keeps { Keeps self.old self.new }
+    {
+        match halt {
+            Halt::Breakpoint => self.meet_breakpoint_if_met(alone),
+            _ => self.meet(halt, alone),
+        }
+    }
+
+    /// Tells a breakpoint, or goes on over it if its conditions aren't met.
+    fn meet_breakpoint_if_met(&mut self, alone: Option<u32>) -> Result<(), AllocError>
+        ensures stands { Stands self.old self.new }
+        ensures next { OnOk result (self.new.pursuit
+            ≡ after_stop alone self.old.conditions self.old.pursuit self.old.timeline Halt.Breakpoint) }
+        ensures keeps { Keeps self.old self.new }
+    {
+        if !self.is_unmet()? {
+            return self.tell_breakpoint();
+        }
+        self.pursuit = Some(Pursuit::Pass { alone });
+        self.send_output()
+    }
+
+    /// Executes the instruction at a breakpoint whose conditions aren't met, and goes on to the next stop.
+    fn pursue_pass(&mut self, alone: Option<u32>) -> Result<(), AllocError>
+        ensures goes { OnOk result
+            (Goes self.old (passed_with self.old.points alone) 1 (after_pass alone self.old.pursuit) self.new) }
+        ensures keeps { Keeps self.old self.new }
+    {
+        let halt = self.go_past(alone)?;
+        self.meet_pass(halt, alone)
+    }
+
+    /// Tells a halt at a breakpoint whose conditions aren't met, or goes on to the next stop.
+    fn meet_pass(&mut self, halt: Halt, alone: Option<u32>) -> Result<(), AllocError>
+        ensures stands { Stands self.old self.new }
+        ensures next { OnOk result (self.new.pursuit ≡ after_pass alone self.old.pursuit halt) }
+        ensures keeps { Keeps self.old self.new }
+    {
+        match halt {
+            Halt::GoesOn => {
+                self.pursuit = Some(Pursuit::Continue { alone });
+                self.send_output()
+            }
+            _ => self.meet(halt, alone),
+        }
+    }
+
+    /// Whether the address at which the thread of the position stands has conditions, and none of them is met.
+    fn is_unmet(&self) -> Result<bool, AllocError>
+        ensures { IfOk result (λ unmet. unmet ≡ is_unmet self.now.conditions self.now.timeline) }
+    {
+        let view = ThreadView {
+            timeline: &self.timeline,
+            thread: self.timeline.thread(),
+        };
+        let pc = register(&self.timeline, view.thread, PC);
+        self.conditions.are_unmet(u64::from(pc), &view)
     }
 
     /// Tells a halt on the way forward that is no arrival.

@@ -1,14 +1,15 @@
 //! Answers what packets ask for.
 use crate::life::Life;
 use crate::session::Session;
+use gdb_conditions::ConditionalPoint;
 use gdb_monitor::{command_of, perform_command, step_named};
-use gdb_packets::{PacketRequest, Window, bytes_of_digits};
+use gdb_packets::{PacketRequest, Window, bytes_of_digits, unescaped};
 use gdb_shown::{memory_text, part_of, register_text, registers_text, target_description};
 use std::alloc::AllocError;
 
 /// The features of this side.
 const FEATURES: &[u8] =
-    b"PacketSize=4000;QStartNoAckMode+;ReverseStep+;ReverseContinue+;vContSupported+;swbreak+;hwbreak+;qXfer:features:read+;qXfer:threads:read+";
+    b"PacketSize=4000;QStartNoAckMode+;ReverseStep+;ReverseContinue+;vContSupported+;swbreak+;hwbreak+;qXfer:features:read+;qXfer:threads:read+;ConditionalBreakpoints+";
 
 impl Session {
     ghost use Rattle.std.specs.Prelude.{◌≡◌, ◌≢◌, OnOk, option_map};
@@ -44,7 +45,7 @@ impl Session {
                 self.life = Life::Over;
                 Ok(())
             }
-            PacketRequest::Malformed => self.answer(b"E01"),
+            PacketRequest::Malformed => self.handle_conditional(),
             PacketRequest::Unknown => self.answer(b""),
             PacketRequest::Command(digits) => self.command(digits),
             PacketRequest::Restart(arguments) => self.restart(arguments),
@@ -91,6 +92,15 @@ impl Session {
             PacketRequest::SelectGeneral(id) => self.select_general(id),
             PacketRequest::SelectMoving(id) => self.select_moving(id),
             _ => self.answer(b""),
+        }
+    }
+
+    /// Sets a breakpoint with conditions, if that is what the packet asks for whose parts couldn't be read.
+    fn handle_conditional(&mut self) -> Result<(), AllocError> {
+        let text = unescaped(self.alloc, self.deframer.body())?;
+        match ConditionalPoint::of_text(text.as_slice()) {
+            Some(point) if self.life == Life::Alive => self.set_conditional_point(&point),
+            _ => self.wire.answer(b"E01"),
         }
     }
 

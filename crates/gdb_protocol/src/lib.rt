@@ -15,6 +15,7 @@ mod selecting;
 mod session;
 mod steppers;
 mod telling;
+mod view;
 mod watches;
 
 pub use session::Session;

@@ -1,7 +1,7 @@
 //! Moves the run of a session as far as its points and threads let it go.
 ghost use Rattle.std.specs.Prelude.{◌≡◌, None};
 ghost use Rattle.timeline.specs.Halts.{wanted_by};
-ghost use Rattle.gdb_protocol.specs.Pursuing.{anywhere, known_unless, more_than, wanted_with, watched_with};
+ghost use Rattle.gdb_protocol.specs.Pursuing.{anywhere, known_unless, more_than, passed_with, wanted_with, watched_with};
 
 use crate::session::Session;
 use gdb_orders::Points;
@@ -39,6 +39,19 @@ fn watches_of(points: &Points) -> Stops<'_>
         watches: points.watches(),
         arrival: None,
         alone: None,
+        known_threads: None,
+    }
+}
+
+/// What a motion halts for that passes a breakpoint: watches, and other threads than one that moves alone.
+fn passing(points: &Points, alone: Option<u32>) -> Stops<'_>
+    ensures { wanted_by result ≡ passed_with points.now alone }
+{
+    Stops {
+        breakpoints: &[],
+        watches: points.watches(),
+        arrival: None,
+        alone,
         known_threads: None,
     }
 }
@@ -87,6 +100,16 @@ impl Session {
         ensures keeps { Keeps self.old self.new }
     {
         let stops = watches_of(&self.points);
+        self.timeline.forward(&stops, 1)
+    }
+
+    /// Makes a step over a breakpoint, unless it halts at a watch event, or another thread would have to move than one alone.
+    pub(crate) fn go_past(&mut self, alone: Option<u32>) -> Result<Halt, AllocError>
+        ensures goes { IfOk result (λ halt. GoesForward (passed_with self.old.points alone) 1 self.old.timeline halt self.new.timeline) }
+        ensures pursues { self.new.pursuit ≡ self.old.pursuit }
+        ensures keeps { Keeps self.old self.new }
+    {
+        let stops = passing(&self.points, alone);
         self.timeline.forward(&stops, 1)
     }
 

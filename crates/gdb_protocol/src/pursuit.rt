@@ -11,6 +11,8 @@ pub(crate) enum Pursuit {
     Chosen(u64),
     /// The next stop, forward.
     Continue { alone: Option<u32> },
+    /// The next instruction, over a breakpoint whose conditions aren't met, and then the next stop.
+    Pass { alone: Option<u32> },
     /// The turn of a stepped thread.
     Turn(Stepper),
     /// The stepped thread's first instruction.

@@ -44,7 +44,7 @@ impl Session {
 
     /// Goes forward by an order, if the run can.
     fn depart(&mut self, order: Order) -> Result<(), AllocError> {
-        if !order.is_step_alone() && self.takes_chosen() {
+        if !order.is_step_alone() && self.takes_chosen()? {
             return Ok(());
         }
         if let Some(thread) = order.alone()
@@ -95,8 +95,13 @@ impl Session {
         self.heading.is_some() || self.chosen.is_some()
     }
 
-    /// Begins to go to the step that was chosen for the next resume, if one was.
-    pub(crate) fn takes_chosen(&mut self) -> bool {
+    /// Begins to go to the step that was chosen for the next resume, if one was. What gdb sees of the watched ranges here is noted
+    /// as at any resume.
+    pub(crate) fn takes_chosen(&mut self) -> Result<bool, AllocError> {
+        if !self.has_chosen() {
+            return Ok(false);
+        }
+        self.arm()?;
         let step = match self.heading.take() {
             Some(step) => Some(step),
             None => self.chosen.take(),
@@ -104,6 +109,6 @@ impl Session {
         if let Some(step) = step {
             self.pursuit = Some(Pursuit::Chosen(step));
         }
-        step.is_some()
+        Ok(step.is_some())
     }
 }

@@ -1,5 +1,9 @@
 //! Answers about threads, and the choices of them; points.
+ghost use Rattle.std.specs.Prelude.{◌≡◌, ◌==◌, length, nat_lt};
+ghost use Rattle.std.specs.List.{filter};
+
 use crate::session::Session;
+use gdb_conditions::ConditionalPoint;
 use gdb_orders::thread_of;
 use gdb_packets::{PointKind, ThreadId, Window, write_bytes};
 use gdb_shown::{ids_text, part_of, threads_text, write_thread};
@@ -83,9 +87,26 @@ impl Session {
         self.wire.answer(b"OK")
     }
 
-    /// Sets a breakpoint or a watchpoint.
+    /// Sets a breakpoint or a watchpoint. A breakpoint stops always from now on.
     pub(crate) fn set_point(&mut self, kind: PointKind, window: Window) -> Result<(), AllocError> {
+        self.conditions.forget(window.start);
         let is_set = self.points.set(kind, window)?;
+        self.answer_whether(is_set)
+    }
+
+    /// Sets a breakpoint with conditions. If breakpoints of both kinds are at its address, they stop always.
+    pub(crate) fn set_conditional_point(
+        &mut self,
+        point: &ConditionalPoint<'_>,
+    ) -> Result<(), AllocError> {
+        let (kind, window) = (point.kind, point.window);
+        if !self.conditions.set(window.start, point.conditions)? {
+            return self.answer_whether(false);
+        }
+        let is_set = self.points.set(kind, window)?;
+        if is_twice(self.points.addresses(), window.start) {
+            self.conditions.forget(window.start);
+        }
         self.answer_whether(is_set)
     }
 
@@ -95,6 +116,7 @@ impl Session {
         kind: PointKind,
         window: Window,
     ) -> Result<(), AllocError> {
+        self.conditions.forget(window.start);
         let is_cleared = self.points.clear(kind, window)?;
         self.answer_whether(is_cleared)
     }
@@ -103,4 +125,14 @@ impl Session {
     fn answer_whether(&mut self, is_done: bool) -> Result<(), AllocError> {
         self.wire.answer(if is_done { b"OK" } else { b"E01" })
     }
+}
+
+/// Whether an address is there more than once.
+fn is_twice(addresses: &[u32], address: u64) -> bool
+    ensures { result ≡ nat_lt 1 (length (filter (λ other. other == address) addresses.now)) }
+{
+    1 < addresses
+        .iter()
+        .filter(|other| u64::from(**other) == address)
+        .count()
 }

@@ -1,6 +1,7 @@
 //! A session with gdb over a run.
 use crate::life::Life;
 use crate::pursuit::Pursuit;
+use gdb_conditions::Conditions;
 use gdb_monitor::step_of;
 use gdb_orders::{Points, Selection};
 use gdb_packets::{Deframer, Heard, Wire, parse, unescaped};
@@ -14,7 +15,7 @@ pub struct Session {
     pub(crate) alloc: Global,
     pub(crate) timeline: Timeline,
     pub(crate) wire: Wire,
-    deframer: Deframer,
+    pub(crate) deframer: Deframer,
     /// Whether gdb knows of breakpoints in memory as a reason to stop.
     pub(crate) knows_swbreak: bool,
     /// Whether gdb knows of breakpoints in hardware as a reason to stop.
@@ -22,6 +23,8 @@ pub struct Session {
     pub(crate) life: Life,
     pub(crate) selection: Selection,
     pub(crate) points: Points,
+    /// The conditions of breakpoints.
+    pub(crate) conditions: Conditions,
     pub(crate) watching: Watching,
     /// The text of the last stop.
     pub(crate) stop: Vec<u8>,
@@ -64,6 +67,7 @@ impl Session {
             life: Life::Alive,
             selection,
             points: Points::new(alloc),
+            conditions: Conditions::new(alloc),
             watching: Watching::new(alloc),
             stop: Vec::new(alloc),
             told_end: None,

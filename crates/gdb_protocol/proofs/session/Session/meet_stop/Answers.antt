@@ -1,0 +1,9 @@
+use Rattle.std.proofs.Common.{◌∙◌}
+use Rattle.gdb_protocol.proofs.Packets.{on_ok}
+use Rattle.gdb_protocol.proofs.Pursuits.{stop_met}
+use Rattle.gdb_protocol.proofs.session.Session.meet_stop.Goals as goal
+
+pub returns-in_default-clause-next : goal.returns-in_default-clause-next
+returns-in_default-clause-next c =
+    on_ok c.meet.result
+    (λ is. is ∙ stop_met c.args.alone c.args.self.now.conditions c.args.self.now.pursuit c.args.self.now.timeline c.args.halt c.in_default.not-Breakpoint) c.meet.ensures.next
