@@ -1,7 +1,7 @@
 //! The target description: the registers of a hart, in XML.
 ghost use Rattle.std.specs.Prelude.{◌≡◌, ◌++◌, IfOk, OnOk, length, map};
 ghost use Rattle.std.specs.String.{string_bytes};
-ghost use Rattle.gdb_shown.specs.Description.{entry_of, first_described, type_of};
+ghost use Rattle.gdb_shown.specs.Description.{entry_of, first_described, role_of, type_of};
 
 use std::alloc::{AllocError, Global};
 
@@ -47,10 +47,24 @@ fn write_entries(text: &mut String, names: &[&str]) -> Result<(), AllocError>
 fn write_entry(text: &mut String, number: usize, name: &str, kind: &str) -> Result<(), AllocError>
     ensures { OnOk result (string_bytes text.new ≡ string_bytes text.old ++ entry_of name.now kind.now number) }
 {
+    let role = role_of(number);
     write!(
         text,
-        "<reg name=\"{name}\" bitsize=\"32\" regnum=\"{number}\" type=\"{kind}\"/>"
+        "<reg name=\"{name}\" bitsize=\"32\" regnum=\"{number}\" type=\"{kind}\"{role}/>"
     )
+}
+
+/// What a register is for, by which LLDB finds it. gdb goes by the names.
+fn role_of(number: usize) -> &'static str
+    ensures { result.now ≡ role_of number }
+{
+    match number {
+        1 => " generic=\"ra\"",
+        2 => " generic=\"sp\"",
+        8 => " generic=\"fp\"",
+        32 => " generic=\"pc\"",
+        _ => "",
+    }
 }
 
 /// The type of a register.
